@@ -20,7 +20,7 @@ places-are n ids h =
     let rest : ℕ = n - length ids in
     let whole : length ids + rest ≡ n = omega arith in
     let split : replicate (length ids) zero ++ replicate rest zero ≡ replicate n zero =
-        rw whole at (replicate-append-replicate (length ids) rest zero) in
+    rw whole at (replicate-append-replicate (length ids) rest zero) in
     sets-eq ids (replicate n zero) 0 (omega (arith, length-replicate n zero))
     ∙ rw (zero-add (length ids), ← split)
     (ap (λ (l : List ℕ). ids ++ l) (drop-at (replicate (length ids) zero) (replicate rest zero) (length ids) (length-replicate (length ids) zero)))
@@ -58,7 +58,7 @@ module _ {sample : ℕ} {txids start : List ℕ} where
     unfolding minimum maximum
     scanned-hit {x} h q e l g =
         let m : active (drop i txids) ≡ x ∷ active (drop (i + 1) txids) =
-            rw q (active-hit txids i h (λ z. e (q ∙ z))) in
+        rw q (active-hit txids i h (λ z. e (q ∙ z))) in
         record {
           within = omega arith;
           fewer = omega arith;
