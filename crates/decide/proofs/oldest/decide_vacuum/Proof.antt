@@ -1,0 +1,50 @@
+use Rattle.decide.proofs.Judge.{vacuum-refused, vacuum-lined}
+use borrow.Author.Needs.{needs}
+use Rattle.decide.proofs.oldest.decide_vacuum.Statement.{statement}
+use Rattle.decide.proofs.oldest.decide_vacuum.Tie as tie
+use Rattle.decide.proofs.oldest.decide_vacuum.Reads as reads
+use Rattle.decide.proofs.oldest.decide_vacuum.Lts as lts
+use Rattle.decide.proofs.change.counters_only.Reads as counters-only-reads
+use Rattle.decide.proofs.oldest.decide_oldest.Reads as decide-oldest-reads
+use Rattle.kinds.proofs.greater.Reads as greater-reads
+
+decide-oldest-requires : tie.Need-decide-oldest-requires
+decide-oldest-requires c κs = search needs
+
+enum-known-answer : tie.Need-enum-known-answer
+enum-known-answer c = search needs
+
+counters-only-requires : tie.Need-counters-only-requires
+counters-only-requires c κs = search needs
+
+enum-known-answer-2 : tie.Need-enum-known-answer-2
+enum-known-answer-2 c = search needs
+
+greater-requires : tie.Need-greater-requires
+greater-requires c κs = search needs
+
+counters-only-requires-2 : tie.Need-counters-only-requires-2
+counters-only-requires-2 c κs = search needs
+
+returns : tie.Need-returns
+returns c =
+    let a = c .before .before .before .before .before .before .before .args in
+    rw (c .counters-only .ensures) (vacuum-refused _ (a .txids .now) (a .was) (a .clock) (a .sample) (a .xmins .now) (c .before .before .before .before .decide-oldest .ensures) (c .before .before .answer .given .1))
+
+returns-2 : tie.Need-returns-2
+returns-2 c =
+    let a = c .before .before .before .before .before .before .before .before .args in
+    rw (c .counters-only2 .ensures, c .before .greater .ensures) (vacuum-lined _ (a .txids .now) (a .was) (a .clock) (a .sample) (a .xmins .now) (c .before .before .before .before .before .decide-oldest .ensures) (c .before .before .before .answer2 .given .1))
+
+pub decide-vacuum-spec : {M : Type 1} → statement M
+decide-vacuum-spec =
+    tie.close
+    (tie.spec
+    decide-oldest-requires
+    enum-known-answer
+    counters-only-requires
+    enum-known-answer-2
+    greater-requires
+    counters-only-requires-2
+    returns
+    returns-2)

@@ -1,0 +1,21 @@
+use Rattle.decide.specs.Decisions.{snapshotRefused}
+use borrow.Author.Needs.{needs}
+use Rattle.decide.proofs.snapshot.snapshot_refused.Statement.{statement}
+use Rattle.decide.proofs.snapshot.snapshot_refused.Tie as tie
+use Rattle.decide.proofs.snapshot.snapshot_refused.Reads as reads
+use Rattle.decide.proofs.snapshot.snapshot_refused.Lts as lts
+use Rattle.decide.proofs.change.counters_only.Reads as counters-only-reads
+use Rattle.settled.proofs.no_snapshot.Reads as no-snapshot-reads
+
+no-snapshot-requires : tie.Need-no-snapshot-requires
+no-snapshot-requires c κs = search needs
+
+counters-only-requires : tie.Need-counters-only-requires
+counters-only-requires c κs = search needs
+
+returns : tie.Need-returns
+unfolding snapshotRefused
+returns c = cc
+
+pub snapshot-refused-spec : {M : Type 1} → statement M
+snapshot-refused-spec = tie.close (tie.spec no-snapshot-requires counters-only-requires returns)

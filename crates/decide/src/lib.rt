@@ -1,0 +1,30 @@
+// What each call decides: its answer, and the one change that it makes to the table. The columns are only lent here.
+mod begin;
+mod change;
+mod end;
+mod oldest;
+mod snapshot;
+mod stamp;
+
+pub use begin::BeginDecision;
+pub use begin::Begun;
+pub use begin::decide_begin;
+pub use change::Change;
+pub use change::Counters;
+pub use end::EndDecision;
+pub use end::Ended;
+pub use end::decide_end;
+pub use oldest::Oldest;
+pub use oldest::OldestDecision;
+pub use oldest::VacuumDecision;
+pub use oldest::Vacuumed;
+pub use oldest::decide_oldest;
+pub use oldest::decide_vacuum;
+pub use snapshot::SnapshotDecision;
+pub use snapshot::Taken;
+pub use snapshot::decide_own;
+pub use snapshot::decide_snap;
+pub use stamp::StampDecision;
+pub use stamp::Stamped;
+pub use stamp::decide_finish;
+pub use stamp::decide_stamp;
