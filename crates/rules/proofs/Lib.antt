@@ -1,0 +1,4 @@
+pub mod Bools
+pub mod Places
+pub mod Tallies
+pub mod Tests

@@ -4,3 +4,6 @@ pub mod Tests
 pub mod Calls
 pub mod Check
 pub mod Rows
+pub mod Facts
+pub mod History
+pub mod Promise

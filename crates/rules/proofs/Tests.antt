@@ -1,0 +1,235 @@
+-- What a passed test tells, and what an accepted and a refused call tell.
+use Prim.Native.Nat.{ℕ, _≤_, _<_}
+use mathlib.Core.Path.{_≡_, refl, sym, ap, _∙_}
+use mathlib.Core.Logic.{_≢_}
+use mathlib.Core.Bool.{Bool, true, false, _||_, true≢false, false≢true}
+use mathlib.Core.List.{List, []}
+use native.Mathlib.Omega.{arith}
+use lib.Dec.{ltb, leb, eqb}
+use lib.ListN.{getD}
+use borrow.Author.Tests.{ltb-false, leb-true, leb-false, eqb-true, eqb-false}
+use Rattle.kinds.specs.declared.Stamp.{Stamp}
+use Rattle.kinds.specs.declared.SlotNo.{SlotNo}
+use Rattle.kinds.specs.declared.Txid.{Txid}
+use Rattle.kinds.specs.declared.refusal.Refusal.{Refusal}
+use Rattle.kinds.specs.declared.refusal.Refusal.the-variants.{NoFreeSlot, InvalidSlot, SlotOwnershipMismatch, ZeroTxid, ClockExhausted, BadReservation, BadClock, BadSample, BadTrace, BadSnapshot}
+use Rattle.kinds.specs.Pick.{pick}
+use Rattle.kinds.specs.Kinds.{top, txidOf}
+use Rattle.rules.specs.declared.Table.{Table}
+use Rattle.rules.specs.Tally.{lowestEmpty}
+use Rattle.rules.specs.Tables.{txidAt}
+use Rattle.rules.specs.Tests.{Verdict, pass, refuse, then, slotTest, zeroTest, holderTest, ownerTest, reservationTest, fullTest, observationTest}
+use Rattle.rules.specs.Calls.{Call, begin, end, snap, own, oldest, vacuum, stamp, finish, refusal, afterRefused}
+use Rattle.rules.specs.History.{Accepts, reservesRefused}
+use Rattle.rules.proofs.Bools.{or-false}
+
+-- a registration that holds its slot
+pub record Owns (n : ℕ) (t : Table) (slot : SlotNo) (id : Txid) : Type 0 where
+  pub inside : slot .0 < n
+  pub named : id .0 ≢ 0
+  pub holds : txidAt t (slot .0) ≡ id .0
+
+-- a number that the clock allows to be reserved
+pub record Reserves (clock number : ℕ) : Type 0 where
+  pub positive : 1 ≤ number
+  pub from-clock : clock ≤ number
+  pub below-top : number < top
+
+-- a clock and a sample of it that may be observed
+pub record Observes (former clock sample : ℕ) : Type 0 where
+  pub onward : former ≤ clock
+  pub positive : 1 ≤ sample
+  pub within : sample ≤ clock
+
+is-refused : Verdict → Bool
+is-refused pass = false
+is-refused (refuse r) = true
+
+pub refuse-not-pass : (r : Refusal) → refuse r ≡ pass → ⊥
+unfolding is-refused
+refuse-not-pass r e = true≢false (ap is-refused e)
+
+refused-first : (b : Bool) (r : Refusal) (v : Verdict) → pick b (refuse r) v ≡ pass → (b ≡ false) × (v ≡ pass)
+refused-first true r v e = absurd (refuse-not-pass r e)
+refused-first false r v e = (refl, e)
+
+passed-first : (b : Bool) (r : Refusal) → pick b pass (refuse r) ≡ pass → b ≡ true
+passed-first true r e = refl
+passed-first false r e = absurd (refuse-not-pass r e)
+
+pub then-pass : (v w : Verdict) → then v w ≡ pass → (v ≡ pass) × (w ≡ pass)
+then-pass pass w e = (refl, e)
+then-pass (refuse r) w e = absurd (refuse-not-pass r e)
+
+pub owns : (n : ℕ) (t : Table) (slot : SlotNo) (id : Txid) → ownerTest n (t .txids) slot id ≡ pass → Owns n t slot id
+owns n t slot id e =
+    let (a, e₁) = then-pass (slotTest n slot) _ e in
+    let (b, c) = then-pass (zeroTest id) (holderTest (t .txids) slot id) e₁ in
+    record {
+      inside = leb-false n (slot .0) (refused-first (leb n (slot .0)) _ pass a .0);
+      named = eqb-false (id .0) 0 (refused-first (eqb (id .0) 0) _ pass b .0);
+      holds = eqb-true (txidAt t (slot .0)) (id .0) (passed-first (eqb (txidAt t (slot .0)) (id .0)) _ c);
+    }
+
+pub reserves : (clock : ℕ) (number : Stamp) → reservationTest clock number ≡ pass → Reserves clock (number .0)
+reserves clock number e =
+    let (a, e₁) = refused-first (leb top clock) _ _ e in
+    let (b, e₂) = refused-first (eqb (number .0) 0 || (ltb (number .0) clock || leb top (number .0))) _ pass e₁ in
+    let (b₀, b′) = or-false (eqb (number .0) 0) _ b in
+    let (b₁, b₂) = or-false (ltb (number .0) clock) (leb top (number .0)) b′ in
+    let nz : number .0 ≢ 0 = eqb-false (number .0) 0 b₀ in
+    record {
+      positive = omega arith;
+      from-clock = ltb-false (number .0) clock b₁;
+      below-top = leb-false top (number .0) b₂;
+    }
+
+pub observes : (former clock sample : ℕ) → observationTest former clock sample ≡ pass → Observes former clock sample
+observes former clock sample e =
+    let (a, e₁) = refused-first (ltb clock former) _ _ e in
+    let (b, e₂) = refused-first (eqb sample 0 || ltb clock sample) _ pass e₁ in
+    let (b₀, b₁) = or-false (eqb sample 0) (ltb clock sample) b in
+    let nz : sample ≢ 0 = eqb-false sample 0 b₀ in
+    record { onward = ltb-false clock former a; positive = omega arith; within = ltb-false clock sample b₁ }
+
+pub room : (n : ℕ) (t : Table) (number : Stamp) → fullTest n (t .txids) number ≡ pass → lowestEmpty (t .txids) < n
+room n t number e =
+    leb-false n (lowestEmpty (t .txids)) (refused-first (leb n (lowestEmpty (t .txids))) _ pass e .0)
+
+-- what holds of the arguments of an accepted call
+abbrev pub Passed : ℕ → Table → Call → Type 0
+Passed n t (begin number) = Reserves (t .clock) (number .0) × (lowestEmpty (t .txids) < n)
+Passed n t (end slot id) = Owns n t slot id
+Passed n t (snap clock sample) = Observes (t .clock) clock sample
+Passed n t (own slot id clock sample) = Owns n t slot id × Observes (t .clock) clock sample
+Passed n t (oldest clock sample) = Observes (t .clock) clock sample
+Passed n t (vacuum clock sample) = Observes (t .clock) clock sample
+Passed n t (stamp number) = Reserves (t .clock) (number .0)
+Passed n t (finish slot id number) = Owns n t slot id × Reserves (t .clock) (number .0)
+
+pub accepted-passed : (n : ℕ) (t : Table) (c : Call) → Accepts n t c → Passed n t c
+unfolding refusal
+accepted-passed n t (begin number) e =
+    let (a, b) = then-pass (reservationTest (t .clock) number) (fullTest n (t .txids) number) e in
+    (reserves (t .clock) number a, room n t number b)
+accepted-passed n t (end slot id) e = owns n t slot id e
+accepted-passed n t (snap clock sample) e = observes (t .clock) clock sample e
+accepted-passed n t (own slot id clock sample) e =
+    let (a, b) = then-pass (ownerTest n (t .txids) slot id) (observationTest (t .clock) clock sample) e in
+    (owns n t slot id a, observes (t .clock) clock sample b)
+accepted-passed n t (oldest clock sample) e = observes (t .clock) clock sample e
+accepted-passed n t (vacuum clock sample) e = observes (t .clock) clock sample e
+accepted-passed n t (stamp number) e = reserves (t .clock) number e
+accepted-passed n t (finish slot id number) e =
+    let (a, b) = then-pass (ownerTest n (t .txids) slot id) (reservationTest (t .clock) number) e in
+    (owns n t slot id a, reserves (t .clock) number b)
+
+-- refusal 1, and no other
+is-full : Verdict → Bool
+is-full pass = false
+is-full (refuse (NoFreeSlot txid)) = true
+is-full (refuse (InvalidSlot slot)) = false
+is-full (refuse (SlotOwnershipMismatch slot expected observed)) = false
+is-full (refuse ZeroTxid) = false
+is-full (refuse ClockExhausted) = false
+is-full (refuse BadReservation) = false
+is-full (refuse BadClock) = false
+is-full (refuse BadSample) = false
+is-full (refuse (BadTrace line)) = false
+is-full (refuse BadSnapshot) = false
+
+then-full : (v w : Verdict) → is-full v ≡ false → is-full w ≡ false → is-full (then v w) ≡ false
+then-full pass w p q = q
+then-full (refuse r) w p q = p
+
+pick-full : (b : Bool) (v w : Verdict) → is-full v ≡ false → is-full w ≡ false → is-full (pick b v w) ≡ false
+pick-full true v w p q = p
+pick-full false v w p q = q
+
+owner-full : (n : ℕ) (txids : List ℕ) (slot : SlotNo) (id : Txid) → is-full (ownerTest n txids slot id) ≡ false
+unfolding is-full
+owner-full n txids slot id =
+    then-full (slotTest n slot) _ (pick-full (leb n (slot .0)) _ _ refl refl)
+    (then-full (zeroTest id) (holderTest txids slot id) (pick-full (eqb (id .0) 0) _ _ refl refl)
+    (pick-full (eqb (getD txids (slot .0) 0) (id .0)) _ _ refl refl))
+
+reservation-full : (clock : ℕ) (number : Stamp) → is-full (reservationTest clock number) ≡ false
+unfolding is-full
+reservation-full clock number =
+    pick-full (leb top clock) _ _ refl
+    (pick-full (eqb (number .0) 0 || (ltb (number .0) clock || leb top (number .0))) _ _ refl refl)
+
+observation-full : (former clock sample : ℕ) → is-full (observationTest former clock sample) ≡ false
+unfolding is-full
+observation-full former clock sample =
+    pick-full (ltb clock former) _ _ refl (pick-full (eqb sample 0 || ltb clock sample) _ _ refl refl)
+
+-- a refused call leaves the table and reserves nothing; or it is a begin on a full table, which spends its number
+pub data Refused (n : ℕ) (t : Table) (c : Call) (r : Refusal) : Type 0 where
+  stays : afterRefused t r ≡ t → reservesRefused r ≡ [] → Refused n t c r
+  spends :
+      (number : Stamp) → c ≡ begin number → r ≡ NoFreeSlot (txidOf number) → Reserves (t .clock) (number .0) →
+      n ≤ lowestEmpty (t .txids) → Refused n t c r
+
+carried : Verdict → Txid → Txid
+carried pass x = x
+carried (refuse (NoFreeSlot txid)) x = txid
+carried (refuse (InvalidSlot slot)) x = x
+carried (refuse (SlotOwnershipMismatch slot expected observed)) x = x
+carried (refuse ZeroTxid) x = x
+carried (refuse ClockExhausted) x = x
+carried (refuse BadReservation) x = x
+carried (refuse BadClock) x = x
+carried (refuse BadSample) x = x
+carried (refuse (BadTrace line)) x = x
+carried (refuse BadSnapshot) x = x
+
+full-spends :
+    (n : ℕ) (t : Table) (number : Stamp) (x : Txid) →
+    then (reservationTest (t .clock) number) (fullTest n (t .txids) number) ≡ refuse (NoFreeSlot x) →
+    Refused n t (begin number) (NoFreeSlot x)
+unfolding is-full carried
+full-spends n t number x e =
+    first (reservationTest (t .clock) number) refl (reservation-full (t .clock) number) e
+  where
+    second : reservationTest (t .clock) number ≡ pass → (b : Bool) → leb n (lowestEmpty (t .txids)) ≡ b →
+        pick b (refuse (NoFreeSlot (txidOf number))) pass ≡ refuse (NoFreeSlot x) → Refused n t (begin number) (NoFreeSlot x)
+    second p true q h =
+        spends number refl (ap NoFreeSlot (sym (ap (λ (v : Verdict). carried v x) h))) (reserves (t .clock) number p)
+        (leb-true n (lowestEmpty (t .txids)) q)
+    second p false q h = absurd (false≢true (ap is-full h))
+
+    first : (v : Verdict) → reservationTest (t .clock) number ≡ v → is-full v ≡ false →
+        then v (fullTest n (t .txids) number) ≡ refuse (NoFreeSlot x) → Refused n t (begin number) (NoFreeSlot x)
+    first pass p f h = second p (leb n (lowestEmpty (t .txids))) refl h
+    first (refuse r) p f h = absurd (false≢true (sym f ∙ ap is-full h))
+
+only-begin : (v : Verdict) (x : Txid) → is-full v ≡ false → v ≡ refuse (NoFreeSlot x) → ⊥
+unfolding is-full
+only-begin v x f e = false≢true (sym f ∙ ap is-full e)
+
+full-refused : (n : ℕ) (t : Table) (c : Call) (x : Txid) → refusal n t c ≡ refuse (NoFreeSlot x) → Refused n t c (NoFreeSlot x)
+unfolding refusal
+full-refused n t (begin number) x e = full-spends n t number x e
+full-refused n t (end slot id) x e = absurd (only-begin _ x (owner-full n (t .txids) slot id) e)
+full-refused n t (snap clock sample) x e = absurd (only-begin _ x (observation-full (t .clock) clock sample) e)
+full-refused n t (own slot id clock sample) x e =
+    absurd (only-begin _ x (then-full _ _ (owner-full n (t .txids) slot id) (observation-full (t .clock) clock sample)) e)
+full-refused n t (oldest clock sample) x e = absurd (only-begin _ x (observation-full (t .clock) clock sample) e)
+full-refused n t (vacuum clock sample) x e = absurd (only-begin _ x (observation-full (t .clock) clock sample) e)
+full-refused n t (stamp number) x e = absurd (only-begin _ x (reservation-full (t .clock) number) e)
+full-refused n t (finish slot id number) x e =
+    absurd (only-begin _ x (then-full _ _ (owner-full n (t .txids) slot id) (reservation-full (t .clock) number)) e)
+
+pub refused : (n : ℕ) (t : Table) (c : Call) (r : Refusal) → refusal n t c ≡ refuse r → Refused n t c r
+unfolding afterRefused
+refused n t c (NoFreeSlot x) e = full-refused n t c x e
+refused n t c (InvalidSlot slot) e = stays refl refl
+refused n t c (SlotOwnershipMismatch slot expected observed) e = stays refl refl
+refused n t c ZeroTxid e = stays refl refl
+refused n t c ClockExhausted e = stays refl refl
+refused n t c BadReservation e = stays refl refl
+refused n t c BadClock e = stays refl refl
+refused n t c BadSample e = stays refl refl
+refused n t c (BadTrace line) e = stays refl refl
+refused n t c BadSnapshot e = stays refl refl

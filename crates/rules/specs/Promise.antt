@@ -1,0 +1,38 @@
+-- Demand 3 of the request: the promise to vacuum.
+use Prim.Native.Nat.{ℕ, _≤_, _<_}
+use mathlib.Core.Path.{_≡_}
+use mathlib.Core.List.{List, _++_}
+use mathlib.Core.Option.{some}
+use mathlib.Core.Bool.{true}
+use Rattle.kinds.specs.declared.SlotNo.{SlotNo}
+use Rattle.kinds.specs.declared.Txid.{Txid}
+use Rattle.settled.specs.declared.Snapshot.{Snapshot}
+use Rattle.settled.specs.Settled.{settledIn}
+use Rattle.rules.specs.declared.Table.{Table}
+use Rattle.rules.specs.Calls.{Call, own, shown}
+use Rattle.rules.specs.History.{reached, Accepts, Registered, lastOwn}
+
+-- each id from 1 up to but not including the line is below xmax and not listed in flight: the settled test's own definition
+abbrev pub SettledBelow : ℕ → Snapshot → Type 0
+SettledBelow line s = (x : ℕ) → 1 ≤ x → x < line → settledIn (s .xmax) (s .ids) (s .count) x ≡ true
+
+-- the line that a history has reached: what the last vacuum answered, and what every record prints
+abbrev pub lineAfter : ℕ → List Call → ℕ
+lineAfter n cs = reached n cs .line
+
+-- the snapshots that are covered at the end of a history: the last transaction snapshot of each transaction then registered
+pub data Covered (n : ℕ) (cs : List Call) (s : Snapshot) : Type 0 where
+  of-transaction :
+      (slot : SlotNo) (id : Txid) → Registered (reached n cs) slot id → lastOwn n slot id cs ≡ some s → Covered n cs s
+
+-- for every number of slots, every history and every call in it, whatever its arguments
+pub record Promise (n : ℕ) : Type 0 where
+  -- the line never falls
+  pub never-falls : (before after : List Call) → lineAfter n before ≤ lineAfter n (before ++ after)
+  -- for every line given out: in the last transaction snapshot of every transaction then registered ..
+  pub held : (cs : List Call) (s : Snapshot) → Covered n cs s → SettledBelow (lineAfter n cs) s
+  -- .. and in every transaction snapshot taken later
+  pub later :
+      (before after : List Call) (slot : SlotNo) (id : Txid) (clock sample : ℕ) →
+      Accepts n (reached n (before ++ after)) (own slot id clock sample) →
+      SettledBelow (lineAfter n before) (shown n (reached n (before ++ after)) (own slot id clock sample) sample)
