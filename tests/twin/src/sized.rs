@@ -1,0 +1,88 @@
+//! Texts at the length limit and beyond it.
+
+use crate::damage;
+use crate::history::{History, Stride, plain};
+use crate::random::Random;
+use crate::text;
+use crate::trace::{LIMIT, Op, Record};
+
+/// Length of the shortest record: own with every number 0.
+const SHORTEST: usize = 44;
+
+pub fn long_text(random: &mut Random) -> Vec<u8> {
+    let garbage = random.pick(b"\n0x=\0\xff");
+    match random.below(10) {
+        0 => padded(random, LIMIT),
+        1 => padded(random, LIMIT + 1),
+        2 => short_records(1_489 - random.below(2)),
+        3 => {
+            let near = random.between(LIMIT as u64 - 3, LIMIT as u64 + 3);
+            padded(random, near as usize)
+        }
+        4 => {
+            let length = random.between(LIMIT as u64 + 1, 300_000);
+            padded(random, length as usize)
+        }
+        5 => {
+            let fit = padded(random, LIMIT);
+            damage::damaged(fit, random)
+        }
+        6 => vec![garbage; LIMIT + random.place(2)],
+        7 => {
+            let mut late = padded(random, LIMIT);
+            late.truncate(LIMIT - 1);
+            late.push(garbage);
+            late
+        }
+        8 => {
+            let mut over = padded(random, LIMIT);
+            over.push(garbage);
+            over
+        }
+        _ => {
+            let mut headless = padded(random, LIMIT + 1);
+            headless[0] = b'T';
+            headless
+        }
+    }
+}
+
+fn short_records(count: u64) -> Vec<u8> {
+    text::of_records(&vec![plain(Op::Own); count as usize])
+}
+
+/// A text with good grammar of exactly `length` bytes.
+fn padded(random: &mut Random, length: usize) -> Vec<u8> {
+    let mut history = History::new(Random::new(random.next()), Stride::Wide);
+    for _ in 0..random.below(200) {
+        let op = history.random.pick(&Op::ALL);
+        let faults = history.faults(6);
+        let record = history.record(op, faults);
+        history.push(record);
+    }
+    let mut records = history.records;
+    let mut rest = length - text::of_records(&records).len();
+    while rest >= 2 * SHORTEST {
+        records.push(plain(Op::Own));
+        rest -= SHORTEST;
+    }
+    records.push(own_of_length(rest));
+    text::of_records(&records)
+}
+
+/// An own record of `length` bytes, from 44 to 87.
+fn own_of_length(length: usize) -> Record {
+    let mut digits = length - SHORTEST;
+    let mut widened = || {
+        let more = digits.min(18);
+        digits -= more;
+        if more == 0 {
+            0
+        } else {
+            10_u64.pow(more as u32)
+        }
+    };
+    plain(Op::Own)
+        .with_registration(0, widened())
+        .with_clock(widened(), widened())
+}
