@@ -140,7 +140,7 @@ fn number_ways(before: &Table, record: &Record, answer: &Answer, hit: &mut impl 
     let fit = answer.number == 0;
     hit(bad && stamp == 0, "6 for 0");
     hit(
-        bad && stamp != 0 && stamp + 1 == clock,
+        bad && stamp != 0 && stamp == clock - 1,
         "6 just below clock",
     );
     hit(bad && stamp == u64::MAX, "6 for 2^64 - 1");

@@ -5,8 +5,11 @@ use crate::trace::{self, LIMIT, Op};
 
 const KEYS: [&str; 6] = ["op", "slot", "id", "stamp", "clock", "sample"];
 
-/// How the line that is reported looks.
-const LOOKS: [(&str, fn(&[u8]) -> bool); 9] = [
+/// How a line looks, and the test for it.
+type Look = (&'static str, fn(&[u8]) -> bool);
+
+/// Looks that the line reported has to have somewhere.
+const LOOKS: [Look; 9] = [
     ("a sign", |line| {
         contains(line, b"=+") || contains(line, b"=-")
     }),

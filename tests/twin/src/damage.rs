@@ -65,7 +65,7 @@ const BYTES: &[u8] = b"\n\r \t\0=+-_.,0123456789abcopsx\x7f\x80\xb2\xff";
 fn change_byte(text: &mut Vec<u8>, random: &mut Random) {
     if !text.is_empty() {
         let place = random.place(text.len());
-        text[place] = random.pick(BYTES);
+        text.splice(place..=place, [random.pick(BYTES)]);
     }
 }
 
@@ -112,9 +112,13 @@ fn double_line(text: &mut Vec<u8>, random: &mut Random) {
 }
 
 fn swap_lines(text: &mut Vec<u8>, random: &mut Random) {
-    let other = random.next() as usize;
+    let other = random.draw() as usize;
     at_a_line(text, random, |list, place| {
-        let other = if other % 2 == 0 { place + 1 } else { other / 2 };
+        let other = if other.is_multiple_of(2) {
+            place + 1
+        } else {
+            other / 2
+        };
         let other = other % list.len();
         list.swap(place, other);
     });

@@ -149,7 +149,7 @@ fn start(history: &mut History, start: Start) {
 
 /// A few records of every kind, for a text that will be damaged.
 fn small_history(random: &mut Random) -> History {
-    let mut history = History::new(Random::new(random.next()), Stride::Wide);
+    let mut history = History::new(Random::new(random.draw()), Stride::Wide);
     let records = if random.once_in(20) {
         0
     } else {

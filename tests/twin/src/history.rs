@@ -158,7 +158,7 @@ impl History {
             0 => size,
             1 => u16::MAX,
             2 => size + slot,
-            3 => size * self.random.between(1, 65_535 / SLOTS as u64) as u16 | slot,
+            3 => (size * self.random.between(1, 65_535 / SLOTS as u64) as u16) | slot,
             _ => self.random.between(SLOTS as u64, 65_535) as u16,
         }
     }

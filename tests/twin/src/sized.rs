@@ -53,7 +53,7 @@ fn short_records(count: u64) -> Vec<u8> {
 
 /// A text with good grammar of exactly `length` bytes.
 fn padded(random: &mut Random, length: usize) -> Vec<u8> {
-    let mut history = History::new(Random::new(random.next()), Stride::Wide);
+    let mut history = History::new(Random::new(random.draw()), Stride::Wide);
     for _ in 0..random.below(200) {
         let op = history.random.pick(&Op::ALL);
         let faults = history.faults(6);

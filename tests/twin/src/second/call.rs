@@ -2,10 +2,12 @@
 
 use super::read::Line6;
 use super::{Fault, Printed};
+use crate::table;
 use crate::trace::Op;
 use std::collections::BTreeMap;
 
 const TOP: u128 = u64::MAX as u128;
+const SLOTS: u128 = table::SLOTS as u128;
 
 /// A taken slot: txid and snapshot_xmin.
 type Taken = (u128, u128);
@@ -32,7 +34,7 @@ impl Second {
     pub fn run(&mut self, record: &Line6) -> Printed {
         let mut numbers = record.numbers;
         if self.fault.is("slot-low-bits") {
-            numbers[0] %= 256;
+            numbers[0] %= SLOTS;
         }
         if self.fault.is("ids-32-bits") {
             numbers[1] &= 0xffff_ffff;
@@ -54,9 +56,9 @@ impl Second {
 
     fn limit(&self) -> u128 {
         match self.fault {
-            _ if self.fault.is("slot-256-inside") => 257,
-            _ if self.fault.is("slot-255-outside") => 255,
-            _ => 256,
+            _ if self.fault.is("slot-after-last-inside") => SLOTS + 1,
+            _ if self.fault.is("last-slot-outside") => SLOTS - 1,
+            _ => SLOTS,
         }
     }
 
@@ -64,7 +66,7 @@ impl Second {
         let [slot, id, number, clock, sample] = *numbers;
         let held = self.taken.get(&slot).map_or(0, |taken| taken.0);
         match check {
-            1 => self.taken.len() == 256,
+            1 => self.taken.len() == table::SLOTS,
             2 => slot >= self.limit(),
             3 => held != id,
             4 => id == 0,
@@ -166,8 +168,8 @@ impl Second {
     fn begin(&mut self, number: u128) -> Printed {
         let free = |slot: &u128| !self.taken.contains_key(slot);
         let slot = match self.fault {
-            _ if self.fault.is("highest-slot") => (0..256).rev().find(free),
-            _ => (0..256).find(free),
+            _ if self.fault.is("highest-slot") => (0..SLOTS).rev().find(free),
+            _ => (0..SLOTS).find(free),
         };
         let slot = slot.expect("refusal 1 was tested");
         let xmin = if self.fault.is("begin-keeps-xmin-0") {
@@ -222,8 +224,8 @@ impl Second {
         if fault.is("list-by-id") {
             list.sort();
         }
-        if fault.is("list-255") {
-            list.truncate(255);
+        if fault.is("list-one-short") {
+            list.truncate(table::SLOTS - 1);
         }
         let shows_id = owner.filter(|_| fault.is("own-shows-id"));
         let mut answer = shown([0, 0, shows_id.map_or(0, |owner| owner.1), 0, xmin, xmax]);

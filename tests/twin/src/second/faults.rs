@@ -43,14 +43,14 @@ const CALLS: &[&str] = &[
     "finish-keeps-clock",
     "finish-keeps-slot",
     "end-moves-clock",
-    "slot-256-inside",
-    "slot-255-outside",
+    "slot-after-last-inside",
+    "last-slot-outside",
     "slot-low-bits",
     "number-2-64-accepted",
     "number-clock-refused",
     "sample-against-table",
     "list-by-id",
-    "list-255",
+    "list-one-short",
     "ids-32-bits",
 ];
 
@@ -112,8 +112,7 @@ impl Fault {
                 faults.push(Fault::Order(op, pair[0], pair[1]));
             }
         }
-        // Nothing is left to do for a begin on a full table but to refuse it. And where
-        // clock is 2^64 - 1, every number is bad: 5 left out is 6, which Order shows.
+        // A begin on a full table has nothing else to do than to refuse.
         faults.retain(|fault| *fault != Fault::Skip(Op::Begin, 1));
         faults
     }
@@ -135,7 +134,10 @@ impl Fault {
     }
 
     pub fn is(self, name: &'static str) -> bool {
-        debug_assert!([CALLS, PRINT, TEXT].concat().contains(&name));
+        debug_assert!(
+            [CALLS, PRINT, TEXT].iter().any(|list| list.contains(&name)),
+            "no such fault: {name}"
+        );
         self == Fault::Named(name)
     }
 
