@@ -1,6 +1,7 @@
 //! Traces from seeds: a profile chosen by the seed says what kind.
 
 use crate::damage;
+use crate::damage_fields;
 use crate::history::{History, Stride};
 use crate::random::Random;
 use crate::sized;
@@ -108,7 +109,7 @@ pub fn generate(seed: u64) -> Trace {
         }
         16..=18 => {
             let text = small_history(&mut random).text();
-            ("unread", damage::unread_field(text, &mut random))
+            ("unread", damage_fields::unread_field(text, &mut random))
         }
         _ => ("long", sized::long_text(&mut random)),
     };

@@ -5,6 +5,8 @@ pub mod cells_of_texts;
 pub mod compare;
 pub mod coverage;
 pub mod damage;
+pub mod damage_fields;
+pub mod damage_lines;
 pub mod generate;
 pub mod grounds;
 pub mod history;

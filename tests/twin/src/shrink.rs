@@ -1,5 +1,7 @@
 //! Making a trace small while it still shows what it showed.
 
+use crate::text::lines;
+
 /// Shrinks `text` as long as `shows` stays true of it and tries are left.
 pub fn shrink(text: &[u8], tries: usize, shows: impl FnMut(&[u8]) -> bool) -> Vec<u8> {
     let mut shrinker = Shrinker {
@@ -93,11 +95,6 @@ impl<Shows: FnMut(&[u8]) -> bool> Shrinker<Shows> {
             }
         }
     }
-}
-
-fn lines(text: &[u8]) -> Vec<Vec<u8>> {
-    let pieces = text.split_inclusive(|&byte| byte == b'\n');
-    pieces.map(<[u8]>::to_vec).collect()
 }
 
 fn field(line: &[u8]) -> Option<(String, u64)> {

@@ -10,41 +10,34 @@ use crate::trace::{LIMIT, Op, Record};
 const SHORTEST: usize = 44;
 
 pub fn long_text(random: &mut Random) -> Vec<u8> {
-    let garbage = random.pick(b"\n0x=\0\xff");
-    match random.below(10) {
-        0 => padded(random, LIMIT),
-        1 => padded(random, LIMIT + 1),
-        2 => short_records(1_489 - random.below(2)),
-        3 => {
-            let near = random.between(LIMIT as u64 - 3, LIMIT as u64 + 3);
-            padded(random, near as usize)
-        }
-        4 => {
-            let length = random.between(LIMIT as u64 + 1, 300_000);
-            padded(random, length as usize)
-        }
-        5 => {
-            let fit = padded(random, LIMIT);
-            damage::damaged(fit, random)
-        }
-        6 => vec![garbage; LIMIT + random.place(2)],
-        7 => {
-            let mut late = padded(random, LIMIT);
-            late.truncate(LIMIT - 1);
-            late.push(garbage);
-            late
-        }
-        8 => {
-            let mut over = padded(random, LIMIT);
-            over.push(garbage);
-            over
-        }
+    let limit = LIMIT as u64;
+    let length = match random.below(10) {
+        0 => limit,
+        1 | 2 => limit + 1,
+        3 => random.between(limit - 3, limit + 3),
+        4 => random.between(limit + 1, 300_000),
+        5 => return short_records(1_489 - random.below(2)),
+        6 => return vec![random.pick(GARBAGE); LIMIT + random.place(2)],
+        _ => return spoilt(random),
+    };
+    padded(random, length as usize)
+}
+
+const GARBAGE: &[u8] = b"\n0x=\0\xff";
+
+/// A text as long as allowed, or a byte longer, with something wrong in it.
+fn spoilt(random: &mut Random) -> Vec<u8> {
+    let mut text = padded(random, LIMIT);
+    match random.below(4) {
+        0 => return damage::damaged(text, random),
+        1 => text[LIMIT - 1] = random.pick(GARBAGE),
+        2 => text.push(random.pick(GARBAGE)),
         _ => {
-            let mut headless = padded(random, LIMIT + 1);
-            headless[0] = b'T';
-            headless
+            text[0] = b'T';
+            text.push(b'\n');
         }
     }
+    text
 }
 
 fn short_records(count: u64) -> Vec<u8> {

@@ -1,4 +1,4 @@
-//! Writing records as trace text.
+//! Records as trace text, and a text as lines.
 
 use crate::trace::Record;
 
@@ -22,4 +22,10 @@ pub fn of_records(records: &[Record]) -> Vec<u8> {
         text.push_str(&of_record(record));
     }
     text.into_bytes()
+}
+
+/// The lines of a text, each with its newline.
+pub fn lines(text: &[u8]) -> Vec<Vec<u8>> {
+    let pieces = text.split_inclusive(|&byte| byte == b'\n');
+    pieces.map(<[u8]>::to_vec).collect()
 }

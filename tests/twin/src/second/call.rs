@@ -86,50 +86,31 @@ impl Second {
     }
 
     fn refuse(&mut self, refusal: u8, op: Op, numbers: &[u128; 5]) -> Printed {
-        let [slot, id, number, clock, _] = *numbers;
-        let held = self.taken.get(&slot).map_or(0, |taken| taken.0);
+        let [slot, _, number, clock, _] = *numbers;
         let fault = self.fault;
-        let mut shown = [0; 7];
-        shown[0] = refusal.into();
         match refusal {
-            1 => {
-                self.clock = if fault.is("txid-given-back") {
-                    self.clock
-                } else {
-                    number + 1
-                };
-                shown[2] = if fault.is("refusal-1-no-id") {
-                    0
-                } else {
-                    number
-                };
-            }
-            2 => {
-                shown[1] = if fault.is("refusal-2-no-slot") {
-                    0
-                } else {
-                    slot
-                }
-            }
-            3 => {
-                (shown[1], shown[2], shown[3]) = (slot, id, held);
-                if fault.is("refusal-3-swapped") {
-                    shown.swap(2, 3);
-                }
-                if fault.is("refusal-3-no-seen") {
-                    shown[3] = 0;
-                }
-            }
+            1 if !fault.is("txid-given-back") => self.clock = number + 1,
             5 | 6 if op == Op::Finish && fault.is("finish-ends-before-stamp") => {
                 self.taken.remove(&slot);
             }
             8 if fault.is("refused-observation-moves-clock") => self.clock = clock,
             _ => {}
         }
-        Printed {
-            numbers: shown,
-            list: Vec::new(),
-        }
+        self.refused(refusal, numbers)
+    }
+
+    fn refused(&self, refusal: u8, numbers: &[u128; 5]) -> Printed {
+        let [slot, id, number, _, _] = *numbers;
+        let held = self.taken.get(&slot).map_or(0, |taken| taken.0);
+        let unless = |name, value| if self.fault.is(name) { 0 } else { value };
+        let (slot, id, seen) = match refusal {
+            1 => (0, unless("refusal-1-no-id", number), 0),
+            2 => (unless("refusal-2-no-slot", slot), 0, 0),
+            3 if self.fault.is("refusal-3-swapped") => (slot, held, id),
+            3 => (slot, id, unless("refusal-3-no-seen", held)),
+            _ => (0, 0, 0),
+        };
+        shown([refusal.into(), slot, id, seen, 0, 0])
     }
 
     fn accept(&mut self, op: Op, numbers: &[u128; 5]) -> Printed {
@@ -273,7 +254,7 @@ impl Second {
     }
 }
 
-/// An accepted answer; the line is filled in later.
+/// An answer without a list; the line is filled in later.
 fn shown(numbers: [u128; 6]) -> Printed {
     let mut all = [0; 7];
     all[..6].copy_from_slice(&numbers);

@@ -20,44 +20,44 @@ pub fn records(input: &[u8], fault: Fault) -> (Vec<Line6>, Option<usize>) {
 }
 
 fn broken_line(input: &[u8], fault: Fault, records: &mut Vec<Line6>) -> Option<usize> {
+    if too_long(input, fault) {
+        return Some(0);
+    }
+    let (lines, rest) = split(input, fault);
+    let header = lines.first().map(Vec::as_slice);
+    if header.is_some_and(|line| line != b"trace=proc-1") && !fault.is("header-unread") {
+        return Some(1);
+    }
+    let mut op = Op::Begin;
+    let mut numbers = [0; 5];
+    for (place, line) in lines.iter().enumerate().skip(1) {
+        let field = (place - 1) % 6;
+        if field == 0 {
+            match op_of(line, fault) {
+                Some(known) => op = known,
+                None => return Some(place + 1 + usize::from(fault.is("unknown-op-at-next"))),
+            }
+            continue;
+        }
+        match number(line, field, op, fault) {
+            Ok(number) => numbers[field - 1] = number,
+            Err(back) => return Some(place + 1 - back),
+        }
+        if field == 5 {
+            records.push(Line6 { op, numbers });
+        }
+    }
+    ending(lines.len(), rest, records.len(), fault)
+}
+
+fn too_long(input: &[u8], fault: Fault) -> bool {
     let limit = match fault {
         _ if fault.is("limit-65535") => 65_535,
         _ if fault.is("limit-65537") => 65_537,
         _ => 65_536,
     };
     let header_first = fault.is("limit-after-header") && !input.starts_with(b"trace=proc-1\n");
-    if input.len() > limit && !header_first {
-        return Some(0);
-    }
-    let (lines, rest) = split(input, fault);
-    let mut op = None;
-    let mut numbers = Vec::new();
-    for (place, line) in lines.iter().enumerate() {
-        if place == 0 {
-            if line != b"trace=proc-1" && !fault.is("header-unread") {
-                return Some(1);
-            }
-        } else if place % 6 == 1 {
-            match op_of(line, fault) {
-                Some(known) => op = Some(known),
-                None => return Some(place + 1 + usize::from(fault.is("unknown-op-at-next"))),
-            }
-        } else {
-            let op = op.expect("its line came before");
-            match number(line, place % 6, op, fault) {
-                Ok(number) => numbers.push(number),
-                Err(back) => return Some(place + 1 - back),
-            }
-        }
-        if place > 0 && place % 6 == 0 {
-            let numbers = std::mem::take(&mut numbers).try_into().unwrap();
-            records.push(Line6 {
-                op: op.unwrap(),
-                numbers,
-            });
-        }
-    }
-    ending(lines.len(), rest, records.len(), fault)
+    input.len() > limit && !header_first
 }
 
 /// What the end of the text makes of `complete` good lines and an unterminated rest.
@@ -116,8 +116,6 @@ fn op_of(line: &[u8], fault: Fault) -> Option<Op> {
 
 /// The number of the line at `place` in its record; if broken, how far back to report it.
 fn number(line: &[u8], place: usize, op: Op, fault: Fault) -> Result<u128, usize> {
-    // The sample's line is the sixth, whose number is a multiple of six.
-    let place = (place + 5) % 6;
     let digits = line.strip_prefix(KEYS[place].as_bytes()).ok_or(0_usize)?;
     let number = decimal(digits, fault).ok_or(0_usize)?;
     let largest = if place == 1 {
