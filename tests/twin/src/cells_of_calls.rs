@@ -1,0 +1,194 @@
+//! Coverage of the calls: answers, orders of refusals, and the ways a value comes about.
+
+use crate::coverage::Coverage;
+use crate::grounds;
+use crate::replay::{self, Answer};
+use crate::table::{SLOTS, Table};
+use crate::trace::{self, Op, Record};
+
+pub fn required() -> Vec<String> {
+    let mut cells = Vec::new();
+    for op in Op::ALL {
+        let name = op.name();
+        let order = grounds::order(op);
+        cells.push(format!("{name} answers 0"));
+        for (place, first) in order.iter().enumerate() {
+            cells.push(format!("{name} answers {first}"));
+            for second in &order[place + 1..] {
+                cells.push(format!("{name} {first} before {second}"));
+            }
+        }
+        for way in ways(op) {
+            cells.push(format!("{name}: {way}"));
+        }
+    }
+    cells
+}
+
+fn ways(op: Op) -> Vec<&'static str> {
+    let mut ways = Vec::new();
+    if op.reads_registration() {
+        ways.extend(REGISTRATION_WAYS);
+    }
+    if op.reads_stamp() {
+        ways.extend(NUMBER_WAYS);
+    }
+    if op.reads_clock() {
+        ways.extend(["8 for sample 0", "8 for sample above clock"]);
+    }
+    match op {
+        Op::Begin => ways.push("below a taken slot"),
+        Op::Snap | Op::Own => ways.extend(SNAPSHOT_WAYS),
+        Op::Oldest => ways.extend(["sample is least", "kept xmin is least"]),
+        Op::Vacuum => ways.extend(["line raised", "line kept above the oldest"]),
+        _ => {}
+    }
+    if op == Op::Snap {
+        ways.push("lists none");
+    }
+    ways
+}
+
+const REGISTRATION_WAYS: [&str; 8] = [
+    "3 for an empty slot",
+    "3 for another id",
+    "4 at an empty slot",
+    "4 at a taken slot",
+    "2 with the low bits of the owned slot",
+    "slot just inside",
+    "slot just outside",
+    "slot 65535",
+];
+
+const NUMBER_WAYS: [&str; 6] = [
+    "6 for 0",
+    "6 just below clock",
+    "6 for 2^64 - 1",
+    "accepts the clock itself",
+    "accepts above 2^32",
+    "accepts 2^64 - 2",
+];
+
+const SNAPSHOT_WAYS: [&str; 7] = [
+    "xmin is a stale sample",
+    "xmin is the least id",
+    "xmax is the sample",
+    "xmax is the largest id + 1",
+    "xmax is 2^64 - 1",
+    "lists all slots",
+    "lists ids out of order",
+];
+
+pub fn count(text: &[u8], coverage: &mut Coverage) {
+    let Ok(records) = trace::read(text) else {
+        return;
+    };
+    coverage.records += records.len() as u64;
+    let mut table = Table::fresh();
+    for record in &records {
+        let before = table.clone();
+        let answer = replay::run(&mut table, record);
+        count_order(&before, record, &answer, coverage);
+        let mut hit = |condition: bool, way: &str| {
+            coverage.hit_if(condition, &format!("{}: {way}", record.op.name()));
+        };
+        registration_ways(&before, record, &answer, &mut hit);
+        number_ways(&before, record, &answer, &mut hit);
+        snapshot_ways(record, &answer, &mut hit);
+        other_ways(&before, record, &answer, &mut hit);
+    }
+}
+
+fn count_order(before: &Table, record: &Record, answer: &Answer, coverage: &mut Coverage) {
+    let name = record.op.name();
+    let holding = grounds::holding(before, record);
+    if holding.first().copied().unwrap_or(0) != answer.number {
+        coverage.out_of_order();
+    }
+    coverage.hit(&format!("{name} answers {}", answer.number));
+    for second in holding.iter().skip(1) {
+        coverage.hit(&format!("{name} {} before {second}", holding[0]));
+    }
+}
+
+fn registration_ways(
+    before: &Table,
+    record: &Record,
+    answer: &Answer,
+    hit: &mut impl FnMut(bool, &str),
+) {
+    let slot = usize::from(record.slot);
+    let same_bits = before.slots()[slot % SLOTS].txid;
+    let number = answer.number;
+    hit(number == 3 && answer.seen == 0, "3 for an empty slot");
+    hit(number == 3 && answer.seen != 0, "3 for another id");
+    hit(number == 4 && same_bits == 0, "4 at an empty slot");
+    hit(number == 4 && same_bits != 0, "4 at a taken slot");
+    hit(
+        number == 2 && record.id != 0 && same_bits == record.id,
+        "2 with the low bits of the owned slot",
+    );
+    hit(number == 0 && slot == SLOTS - 1, "slot just inside");
+    hit(number == 2 && slot == SLOTS, "slot just outside");
+    hit(number == 2 && slot == 65_535, "slot 65535");
+}
+
+fn number_ways(before: &Table, record: &Record, answer: &Answer, hit: &mut impl FnMut(bool, &str)) {
+    let stamp = record.stamp;
+    let clock = before.clock();
+    let bad = answer.number == 6;
+    let fit = answer.number == 0;
+    hit(bad && stamp == 0, "6 for 0");
+    hit(
+        bad && stamp != 0 && stamp == clock - 1,
+        "6 just below clock",
+    );
+    hit(bad && stamp == u64::MAX, "6 for 2^64 - 1");
+    hit(fit && stamp == clock, "accepts the clock itself");
+    hit(fit && stamp > 1 << 32, "accepts above 2^32");
+    hit(fit && stamp == u64::MAX - 1, "accepts 2^64 - 2");
+}
+
+fn snapshot_ways(record: &Record, answer: &Answer, hit: &mut impl FnMut(bool, &str)) {
+    if answer.number != 0 {
+        return;
+    }
+    let sample = record.sample;
+    let ids = &answer.in_flight;
+    hit(ids.is_empty(), "lists none");
+    let (Some(&least), Some(&largest)) = (ids.iter().min(), ids.iter().max()) else {
+        return;
+    };
+    hit(sample < least, "xmin is a stale sample");
+    hit(least < sample, "xmin is the least id");
+    hit(sample > largest + 1, "xmax is the sample");
+    hit(sample < largest + 1, "xmax is the largest id + 1");
+    hit(largest == u64::MAX - 1, "xmax is 2^64 - 1");
+    hit(ids.len() == SLOTS, "lists all slots");
+    hit(!ids.is_sorted(), "lists ids out of order");
+}
+
+fn other_ways(before: &Table, record: &Record, answer: &Answer, hit: &mut impl FnMut(bool, &str)) {
+    let sample = record.sample;
+    hit(answer.number == 8 && sample == 0, "8 for sample 0");
+    hit(
+        answer.number == 8 && sample != 0,
+        "8 for sample above clock",
+    );
+    if answer.number != 0 {
+        return;
+    }
+    let taken = before.slots().iter().filter(|slot| slot.txid != 0);
+    let kept = taken.map(|slot| slot.snapshot_xmin).min();
+    let least = kept.map_or(sample, |xmin| xmin.min(sample));
+    let slot = answer.slot as usize;
+    let above = &before.slots()[slot..];
+    hit(
+        above.iter().any(|slot| slot.txid != 0),
+        "below a taken slot",
+    );
+    hit(kept.is_some_and(|xmin| sample < xmin), "sample is least");
+    hit(kept.is_some_and(|xmin| xmin < sample), "kept xmin is least");
+    hit(answer.vacuum > before.vacuum_line(), "line raised");
+    hit(answer.vacuum > least, "line kept above the oldest");
+}

@@ -1,0 +1,166 @@
+//! Traces from seeds: a profile chosen by the seed says what kind.
+
+use crate::damage;
+use crate::damage_fields;
+use crate::history::{History, Stride};
+use crate::random::Random;
+use crate::sized;
+use crate::table::SLOTS;
+use crate::trace::Op;
+
+pub struct Trace {
+    pub profile: &'static str,
+    pub text: Vec<u8>,
+}
+
+/// What is done to the table before the mixed records.
+#[derive(Clone, Copy)]
+enum Start {
+    Fresh,
+    /// Some slots filled.
+    Some,
+    /// All slots filled, but for this many at most.
+    Full(u64),
+    /// All slots filled and all numbers used up, but for this many at most.
+    FullAndUsedUp(u64),
+}
+
+struct Profile {
+    name: &'static str,
+    start: Start,
+    stride: Stride,
+    /// Ops are drawn from this list; one named twice comes twice as often.
+    ops: &'static [Op],
+    /// Each ground for a refusal is added once in so many records.
+    faults: u64,
+    most_records: u64,
+}
+
+const REGISTERING: &[Op] = &[
+    Op::Begin,
+    Op::Begin,
+    Op::Begin,
+    Op::End,
+    Op::Finish,
+    Op::Snap,
+    Op::Own,
+    Op::Vacuum,
+];
+
+const OBSERVING: &[Op] = &[
+    Op::Begin,
+    Op::Begin,
+    Op::End,
+    Op::Snap,
+    Op::Own,
+    Op::Own,
+    Op::Oldest,
+    Op::Oldest,
+    Op::Vacuum,
+    Op::Vacuum,
+];
+
+const PROFILES: &[Profile] = &[
+    profile("mixed", Start::Fresh, Stride::Short, &Op::ALL, 12, 120),
+    profile("wide", Start::Some, Stride::Wide, &Op::ALL, 12, 60),
+    profile("last", Start::Some, Stride::Last, &Op::ALL, 12, 60),
+    profile("refused", Start::Some, Stride::Short, &Op::ALL, 2, 60),
+    profile("observing", Start::Some, Stride::Short, OBSERVING, 30, 120),
+    profile("full", Start::Full(2), Stride::Short, REGISTERING, 12, 60),
+    profile(
+        "used up",
+        Start::FullAndUsedUp(3),
+        Stride::Last,
+        REGISTERING,
+        3,
+        30,
+    ),
+];
+
+const fn profile(
+    name: &'static str,
+    start: Start,
+    stride: Stride,
+    ops: &'static [Op],
+    faults: u64,
+    most_records: u64,
+) -> Profile {
+    Profile {
+        name,
+        start,
+        stride,
+        ops,
+        faults,
+        most_records,
+    }
+}
+
+/// The trace of a seed.
+pub fn generate(seed: u64) -> Trace {
+    let mut random = Random::new(seed);
+    let (profile, text) = match random.below(20) {
+        0..=9 => {
+            let profile = &PROFILES[random.place(PROFILES.len())];
+            (profile.name, history(profile, random).text())
+        }
+        10..=15 => {
+            let text = small_history(&mut random).text();
+            ("damaged", damage::damaged(text, &mut random))
+        }
+        16..=18 => {
+            let text = small_history(&mut random).text();
+            ("unread", damage_fields::unread_field(text, &mut random))
+        }
+        _ => ("long", sized::long_text(&mut random)),
+    };
+    Trace { profile, text }
+}
+
+fn history(profile: &Profile, random: Random) -> History {
+    let mut history = History::new(random, profile.stride);
+    start(&mut history, profile.start);
+    let records = history.random.between(1, profile.most_records);
+    for _ in 0..records {
+        let op = history.random.pick(profile.ops);
+        let faults = history.faults(profile.faults);
+        let record = history.record(op, faults);
+        history.push(record);
+    }
+    history
+}
+
+fn start(history: &mut History, start: Start) {
+    match start {
+        Start::Fresh => {}
+        Start::Some => {
+            let count = history.random.place(6);
+            history.fill(count);
+        }
+        Start::Full(room) => {
+            let free = history.random.below(room + 1) as usize;
+            history.fill(SLOTS - free);
+        }
+        Start::FullAndUsedUp(left) => {
+            history.fill(SLOTS);
+            let left = history.random.below(left + 1);
+            history.use_up(left);
+        }
+    }
+}
+
+/// A few records of every kind, for a text that will be damaged.
+fn small_history(random: &mut Random) -> History {
+    let mut history = History::new(Random::new(random.draw()), Stride::Wide);
+    let records = if random.once_in(20) {
+        0
+    } else {
+        random.between(1, 4)
+    };
+    for _ in 0..records {
+        let op = history.random.pick(&Op::ALL);
+        let faults = history.faults(8);
+        let record = history.record(op, faults);
+        history.push(record);
+    }
+    history
+}

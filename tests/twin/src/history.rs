@@ -1,0 +1,264 @@
+//! A history in the making: records chosen with the table's state in view.
+
+use crate::random::Random;
+use crate::replay;
+use crate::table::{SLOTS, Table};
+use crate::text;
+use crate::trace::{LIMIT, Op, Record};
+
+/// How far reserved numbers and clocks run ahead.
+#[derive(Clone, Copy, Debug, PartialEq, Eq)]
+pub enum Stride {
+    /// A few at a time, so that ids stay dense.
+    Short,
+    /// Jumps to the neighbourhood of 2^32 and of other powers of two.
+    Wide,
+    /// Jumps to the last numbers below 2^64.
+    Last,
+}
+
+/// Which refusals a record should have a ground for; several may hold at once.
+#[derive(Clone, Copy, Debug, Default)]
+pub struct Faults {
+    pub slot: bool,
+    pub zero_id: bool,
+    pub other_id: bool,
+    pub number: bool,
+    pub clock: bool,
+    pub sample: bool,
+}
+
+pub struct History {
+    pub random: Random,
+    pub records: Vec<Record>,
+    table: Table,
+    stride: Stride,
+    length: usize,
+}
+
+impl History {
+    pub fn new(random: Random, stride: Stride) -> Self {
+        History {
+            random,
+            records: Vec::new(),
+            table: Table::fresh(),
+            stride,
+            length: text::HEADER_LINE.len(),
+        }
+    }
+
+    /// Adds a record and runs it; says no, and adds nothing, where the text is full.
+    pub fn push(&mut self, record: Record) -> bool {
+        let length = self.length + text::of_record(&record).len();
+        if length > LIMIT {
+            return false;
+        }
+        self.length = length;
+        replay::run(&mut self.table, &record);
+        self.records.push(record);
+        true
+    }
+
+    pub fn text(&self) -> Vec<u8> {
+        text::of_records(&self.records)
+    }
+
+    /// Begins until `count` slots have been filled, ids close together.
+    pub fn fill(&mut self, count: usize) {
+        for _ in 0..count {
+            let ahead = self.random.below(3);
+            let stamp = self.table.clock().saturating_add(ahead);
+            self.push(plain(Op::Begin).with_stamp(stamp));
+        }
+    }
+
+    /// Leaves `left` numbers (or none) to be reserved.
+    pub fn use_up(&mut self, left: u64) {
+        let last = (u64::MAX - 1 - left).max(self.table.clock());
+        self.push(plain(Op::Stamp).with_stamp(last));
+    }
+
+    pub fn faults(&mut self, once_in: u64) -> Faults {
+        let mut one = || self.random.once_in(once_in);
+        Faults {
+            slot: one(),
+            zero_id: one(),
+            other_id: one(),
+            number: one(),
+            clock: one(),
+            sample: one(),
+        }
+    }
+
+    /// A record of `op`, with grounds for the refusals that `faults` names.
+    pub fn record(&mut self, op: Op, faults: Faults) -> Record {
+        let mut record = plain(op);
+        if op.reads_registration() {
+            (record.slot, record.id) = self.registration(faults);
+        }
+        if op.reads_stamp() {
+            record.stamp = if faults.number {
+                self.bad_number()
+            } else {
+                self.next_number()
+            };
+        }
+        if op.reads_clock() {
+            record.clock = self.clock(faults.clock);
+            record.sample = self.sample(record.clock, faults.sample);
+        }
+        record
+    }
+
+    fn registration(&mut self, faults: Faults) -> (u16, u64) {
+        let (mut slot, mut id) = self.someone();
+        if faults.other_id {
+            (slot, id) = self.mismatch(slot, id);
+        }
+        if faults.zero_id {
+            id = 0;
+        }
+        if faults.slot {
+            slot = self.slot_outside(slot);
+        }
+        (slot, id)
+    }
+
+    /// A registered transaction where there is one.
+    fn someone(&mut self) -> (u16, u64) {
+        let slots = self.table.slots().iter().enumerate();
+        let taken: Vec<_> = slots.filter(|(_, slot)| slot.txid != 0).collect();
+        if taken.is_empty() {
+            return (self.random.below(4) as u16, self.random.between(1, 9));
+        }
+        let place = match self.random.below(8) {
+            0 => taken.len() - 1,
+            _ => self.random.place(taken.len()),
+        };
+        let (slot, held) = taken[place];
+        (slot as u16, held.txid)
+    }
+
+    fn mismatch(&mut self, slot: u16, id: u64) -> (u16, u64) {
+        let elsewhere = self.random.below(SLOTS as u64) as u16;
+        match self.random.below(6) {
+            0 => (slot, id.saturating_add(1)),
+            1 => (slot, (id - 1).max(1)),
+            2 => (slot, self.someone().1),
+            3 => (slot, self.random.pick(&[u64::MAX, 1 << 32, 1])),
+            4 => (SLOTS as u16 - 1, id),
+            _ => (elsewhere, id),
+        }
+    }
+
+    /// A slot number outside the table, often one that ends in the same bits.
+    fn slot_outside(&mut self, slot: u16) -> u16 {
+        let size = SLOTS as u16;
+        match self.random.below(5) {
+            0 => size,
+            1 => u16::MAX,
+            2 => size + slot,
+            3 => (size * self.random.between(1, 65_535 / SLOTS as u64) as u16) | slot,
+            _ => self.random.between(SLOTS as u64, 65_535) as u16,
+        }
+    }
+
+    fn next_number(&mut self) -> u64 {
+        self.ahead_of_clock().min(u64::MAX - 1)
+    }
+
+    fn ahead_of_clock(&mut self) -> u64 {
+        let clock = self.table.clock();
+        let few = self.random.pick(&[0, 0, 0, 1, 1, 2, 3, 9]);
+        let near = clock.saturating_add(few);
+        if !self.random.once_in(8) {
+            return near;
+        }
+        let far = match self.stride {
+            Stride::Short => near,
+            Stride::Wide => {
+                let power = 1 << self.random.pick(&[8, 16, 31, 32, 32, 33, 48, 63]);
+                self.random.between(power - 2, power + 2)
+            }
+            Stride::Last => u64::MAX - self.random.below(12),
+        };
+        far.max(near)
+    }
+
+    fn bad_number(&mut self) -> u64 {
+        let clock = self.table.clock();
+        match self.random.below(5) {
+            0 => 0,
+            1 => u64::MAX,
+            2 => self.random.below(clock),
+            _ => clock - 1,
+        }
+    }
+
+    fn clock(&mut self, bad: bool) -> u64 {
+        let clock = self.table.clock();
+        if !bad {
+            return self.ahead_of_clock();
+        }
+        match self.random.below(4) {
+            0 => 0,
+            1 => self.random.below(clock),
+            _ => clock - 1,
+        }
+    }
+
+    fn sample(&mut self, given: u64, bad: bool) -> u64 {
+        if bad {
+            let above = given.saturating_add(1);
+            let far = self.random.between(given, u64::MAX);
+            return self.random.pick(&[0, above, far, u64::MAX]);
+        }
+        let wanted = match self.random.below(8) {
+            0 => 1,
+            1 | 2 => given,
+            3 => self.random.below(given.saturating_add(1)),
+            4 => self.table.vacuum_line(),
+            5 => self.table.sampled_clock(),
+            6 => self.kept_xmin(),
+            _ => self.someone().1,
+        };
+        let step = self.random.below(3);
+        let near = (wanted.saturating_add(step)).saturating_sub(1);
+        near.clamp(1, given.max(1))
+    }
+
+    fn kept_xmin(&mut self) -> u64 {
+        let place = self.random.place(SLOTS);
+        self.table.slots()[place].snapshot_xmin
+    }
+}
+
+/// A record of `op` with all fields 0.
+pub fn plain(op: Op) -> Record {
+    Record {
+        op,
+        slot: 0,
+        id: 0,
+        stamp: 0,
+        clock: 0,
+        sample: 0,
+    }
+}
+
+impl Record {
+    pub fn with_stamp(self, stamp: u64) -> Record {
+        Record { stamp, ..self }
+    }
+
+    pub fn with_registration(self, slot: u16, id: u64) -> Record {
+        Record { slot, id, ..self }
+    }
+
+    pub fn with_clock(self, clock: u64, sample: u64) -> Record {
+        Record {
+            clock,
+            sample,
+            ..self
+        }
+    }
+}

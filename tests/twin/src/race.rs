@@ -1,0 +1,49 @@
+//! Timing two ways of replaying the same trace, taken in turn.
+
+use std::fs::File;
+use std::io::{self, Read};
+use std::path::Path;
+use std::process::{Command, Stdio};
+use std::time::{Duration, Instant};
+
+/// The times of several runs.
+#[derive(Clone, Default)]
+pub struct Times {
+    runs: Vec<Duration>,
+}
+
+impl Times {
+    pub fn add(&mut self, time: Duration) {
+        self.runs.push(time);
+        self.runs.sort();
+    }
+
+    pub fn median(&self) -> Duration {
+        self.runs[self.runs.len() / 2]
+    }
+
+    pub fn least(&self) -> Duration {
+        self.runs[0]
+    }
+}
+
+/// Runs a program with the file as its standard input, and reads all of its output into
+/// `out`, which keeps its room from run to run.
+pub fn whole_process(program: &str, input: &Path, out: &mut Vec<u8>) -> io::Result<Duration> {
+    let input = File::open(input)?;
+    out.clear();
+    let start = Instant::now();
+    let mut child = Command::new(program)
+        .stdin(Stdio::from(input))
+        .stdout(Stdio::piped())
+        .spawn()?;
+    let mut stdout = child.stdout.take().expect("stdout is piped");
+    stdout.read_to_end(out)?;
+    let status = child.wait()?;
+    let time = start.elapsed();
+    if status.success() {
+        Ok(time)
+    } else {
+        Err(io::Error::other(format!("{program} ends with {status}")))
+    }
+}

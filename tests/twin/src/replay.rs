@@ -1,0 +1,113 @@
+//! Replaying a trace: each record is run on one table and its answer printed.
+
+use crate::table::{Refusal, Snapshot, Table};
+use crate::trace::{self, Op, Record};
+use std::io::{self, Write};
+
+/// What a record prints; unused values are 0.
+#[derive(Clone, Debug, Default, PartialEq, Eq)]
+pub struct Answer {
+    pub number: u8,
+    pub slot: u64,
+    pub id: u64,
+    pub seen: u64,
+    pub xmin: u64,
+    pub xmax: u64,
+    pub vacuum: u64,
+    pub in_flight: Vec<u64>,
+}
+
+pub fn replay(input: &[u8], out: &mut impl Write) -> io::Result<()> {
+    let records = match trace::read(input) {
+        Ok(records) => records,
+        Err(broken) => {
+            writeln!(out, "answer=9")?;
+            return writeln!(out, "at={}", broken.line);
+        }
+    };
+    let mut table = Table::fresh();
+    for record in &records {
+        print(&run(&mut table, record), out)?;
+    }
+    writeln!(out, "records={}", records.len())
+}
+
+/// Runs one record on the table.
+pub fn run(table: &mut Table, record: &Record) -> Answer {
+    let mut answer = accepted(table, record).unwrap_or_else(refused);
+    answer.vacuum = table.vacuum_line();
+    answer
+}
+
+fn accepted(table: &mut Table, record: &Record) -> Result<Answer, Refusal> {
+    let Record {
+        op,
+        slot,
+        id,
+        stamp,
+        clock,
+        sample,
+    } = *record;
+    let mut answer = Answer::default();
+    match op {
+        Op::Begin => {
+            answer.slot = table.begin(stamp)? as u64;
+            answer.id = stamp;
+        }
+        Op::End => table.end(slot, id)?,
+        Op::Snap => answer.show(table.snapshot(clock, sample)?),
+        Op::Own => answer.show(table.transaction_snapshot(slot, id, clock, sample)?),
+        Op::Oldest => answer.xmin = table.oldest_snapshot_xmin(clock, sample)?,
+        Op::Vacuum => {
+            table.vacuum(clock, sample)?;
+        }
+        Op::Stamp => answer.id = table.stamp(stamp)?,
+        Op::Finish => answer.id = table.finish(slot, id, stamp)?,
+    }
+    Ok(answer)
+}
+
+fn refused(refusal: Refusal) -> Answer {
+    let mut answer = Answer {
+        number: refusal.number(),
+        ..Answer::default()
+    };
+    match refusal {
+        Refusal::NoFreeSlot { txid } => answer.id = txid,
+        Refusal::InvalidSlot { slot } => answer.slot = slot.into(),
+        Refusal::SlotOwnershipMismatch {
+            slot,
+            expected,
+            observed,
+        } => {
+            answer.slot = slot.into();
+            answer.id = expected;
+            answer.seen = observed;
+        }
+        _ => {}
+    }
+    answer
+}
+
+impl Answer {
+    fn show(&mut self, snapshot: Snapshot) {
+        self.xmin = snapshot.xmin;
+        self.xmax = snapshot.xmax;
+        self.in_flight = snapshot.in_flight;
+    }
+}
+
+fn print(answer: &Answer, out: &mut impl Write) -> io::Result<()> {
+    writeln!(out, "answer={}", answer.number)?;
+    writeln!(out, "slot={}", answer.slot)?;
+    writeln!(out, "id={}", answer.id)?;
+    writeln!(out, "seen={}", answer.seen)?;
+    writeln!(out, "xmin={}", answer.xmin)?;
+    writeln!(out, "xmax={}", answer.xmax)?;
+    writeln!(out, "vacuum={}", answer.vacuum)?;
+    writeln!(out, "count={}", answer.in_flight.len())?;
+    for id in &answer.in_flight {
+        writeln!(out, "in={id}")?;
+    }
+    Ok(())
+}

@@ -1,0 +1,159 @@
+//! The faults that can be put into the second reading.
+
+use crate::grounds;
+use crate::trace::Op;
+
+#[derive(Clone, Copy, Debug, PartialEq, Eq)]
+pub enum Fault {
+    None,
+    Named(&'static str),
+    /// The op makes the second check before the first.
+    Order(Op, u8, u8),
+    /// The op leaves a check out.
+    Skip(Op, u8),
+}
+
+/// Faults in what the calls do.
+const CALLS: &[&str] = &[
+    "highest-slot",
+    "txid-given-back",
+    "xmin-least-active",
+    "xmin-raised-with-xmax",
+    "xmin-1",
+    "xmax-least",
+    "xmax-clock",
+    "xmax-no-plus-1",
+    "snap-raises-line",
+    "snap-keeps-xmin",
+    "oldest-raises-line",
+    "oldest-takes-ids",
+    "oldest-is-sample",
+    "line-1",
+    "line-falls",
+    "clock-not-observed",
+    "clock-takes-sample",
+    "refused-observation-moves-clock",
+    "own-keeps-no-xmin",
+    "own-keeps-xmin-everywhere",
+    "own-keeps-first-xmin",
+    "begin-keeps-xmin-0",
+    "begin-clock-plus-2",
+    "finish-empties-all",
+    "finish-ends-before-stamp",
+    "finish-keeps-clock",
+    "finish-keeps-slot",
+    "end-moves-clock",
+    "slot-after-last-inside",
+    "last-slot-outside",
+    "slot-low-bits",
+    "number-2-64-accepted",
+    "number-clock-refused",
+    "sample-against-table",
+    "list-by-id",
+    "list-one-short",
+    "ids-32-bits",
+];
+
+/// Faults in what is printed.
+const PRINT: &[&str] = &[
+    "records-one-more",
+    "records-accepted-only",
+    "records-after-9",
+    "runs-before-reading",
+    "first-record-only",
+    "stops-at-refusal",
+    "vacuum-in-xmin",
+    "vacuum-before",
+    "finish-shows-slot",
+    "own-shows-id",
+    "refusal-1-no-id",
+    "refusal-2-no-slot",
+    "refusal-3-swapped",
+    "refusal-3-no-seen",
+];
+
+/// Faults in reading the text.
+const TEXT: &[&str] = &[
+    "leading-zero",
+    "plus-sign",
+    "empty-is-0",
+    "crlf",
+    "trailing-space",
+    "upper-case",
+    "unterminated",
+    "unterminated-next-line",
+    "missing-at-last-line",
+    "blank-line-skipped",
+    "number-wraps",
+    "slot-wraps",
+    "slot-unlimited",
+    "unread-ignored",
+    "unread-at-op",
+    "unknown-op-at-next",
+    "op-prefix",
+    "header-unread",
+    "header-alone-refused",
+    "empty-accepted",
+    "limit-65535",
+    "limit-65537",
+    "limit-after-header",
+    "lines-from-0",
+    "1488-records",
+];
+
+impl Fault {
+    pub fn all() -> Vec<Fault> {
+        let names = [CALLS, PRINT, TEXT].concat();
+        let mut faults: Vec<Fault> = names.into_iter().map(Fault::Named).collect();
+        for op in Op::ALL {
+            let order = grounds::order(op);
+            faults.extend(order.iter().map(|number| Fault::Skip(op, *number)));
+            for pair in order.windows(2) {
+                faults.push(Fault::Order(op, pair[0], pair[1]));
+            }
+        }
+        // A begin on a full table has nothing else to do than to refuse.
+        faults.retain(|fault| *fault != Fault::Skip(Op::Begin, 1));
+        faults
+    }
+
+    pub fn named(name: &str) -> Option<Fault> {
+        if name == "none" {
+            return Some(Fault::None);
+        }
+        Fault::all().into_iter().find(|fault| fault.name() == name)
+    }
+
+    pub fn name(self) -> String {
+        match self {
+            Fault::None => "none".to_string(),
+            Fault::Named(name) => name.to_string(),
+            Fault::Order(op, first, second) => format!("order-{}-{first}-{second}", op.name()),
+            Fault::Skip(op, number) => format!("skip-{}-{number}", op.name()),
+        }
+    }
+
+    pub fn is(self, name: &'static str) -> bool {
+        debug_assert!(
+            [CALLS, PRINT, TEXT].iter().any(|list| list.contains(&name)),
+            "no such fault: {name}"
+        );
+        self == Fault::Named(name)
+    }
+
+    /// The order of the op's checks, fault put in.
+    pub fn order(self, op: Op) -> Vec<u8> {
+        let mut order = grounds::order(op).to_vec();
+        match self {
+            Fault::Order(faulty, first, second) if faulty == op => {
+                let place = |number| order.iter().position(|each| *each == number);
+                if let (Some(first), Some(second)) = (place(first), place(second)) {
+                    order.swap(first, second);
+                }
+            }
+            Fault::Skip(faulty, number) if faulty == op => order.retain(|each| *each != number),
+            _ => {}
+        }
+        order
+    }
+}

@@ -1,0 +1,61 @@
+//! A second reading of document 01, slow and apart from the twin, that takes faults on demand.
+//!
+//! Without a fault it has to agree with the twin; with one, the comparison has to notice.
+
+mod call;
+mod faults;
+mod read;
+
+pub use faults::Fault;
+
+use call::Second;
+use std::fmt::Write;
+
+/// The output for a trace, with a fault.
+pub fn output(input: &[u8], fault: Fault) -> String {
+    let (records, broken) = read::records(input, fault);
+    let mut out = String::new();
+    let mut table = Second::fresh(fault);
+    let runs = broken.is_none() || fault.is("runs-before-reading");
+    let mut ran = 0;
+    for record in records.iter().filter(|_| runs) {
+        let answer = table.run(record);
+        print(&answer, &mut out);
+        ran += 1;
+        if fault.is("first-record-only") || fault.is("stops-at-refusal") && answer.numbers[0] != 0 {
+            break;
+        }
+    }
+    let count = match fault {
+        _ if fault.is("records-one-more") => ran + 1,
+        _ if fault.is("records-accepted-only") => table.accepted,
+        _ => ran,
+    };
+    match broken {
+        None => writeln!(out, "records={count}").unwrap(),
+        Some(line) => {
+            write!(out, "answer=9\nat={line}\n").unwrap();
+            if fault.is("records-after-9") {
+                writeln!(out, "records={count}").unwrap();
+            }
+        }
+    }
+    out
+}
+
+/// The values of the eight lines but the last, and the listed ids.
+struct Printed {
+    numbers: [u128; 7],
+    list: Vec<u128>,
+}
+
+fn print(answer: &Printed, out: &mut String) {
+    let keys = ["answer", "slot", "id", "seen", "xmin", "xmax", "vacuum"];
+    for (key, number) in keys.iter().zip(answer.numbers) {
+        writeln!(out, "{key}={number}").unwrap();
+    }
+    writeln!(out, "count={}", answer.list.len()).unwrap();
+    for id in &answer.list {
+        writeln!(out, "in={id}").unwrap();
+    }
+}

@@ -1,0 +1,81 @@
+//! Texts at the length limit and beyond it.
+
+use crate::damage;
+use crate::history::{History, Stride, plain};
+use crate::random::Random;
+use crate::text;
+use crate::trace::{LIMIT, Op, Record};
+
+/// Length of the shortest record: own with every number 0.
+const SHORTEST: usize = 44;
+
+pub fn long_text(random: &mut Random) -> Vec<u8> {
+    let limit = LIMIT as u64;
+    let length = match random.below(10) {
+        0 => limit,
+        1 | 2 => limit + 1,
+        3 => random.between(limit - 3, limit + 3),
+        4 => random.between(limit + 1, 300_000),
+        5 => return short_records(1_489 - random.below(2)),
+        6 => return vec![random.pick(GARBAGE); LIMIT + random.place(2)],
+        _ => return spoilt(random),
+    };
+    padded(random, length as usize)
+}
+
+const GARBAGE: &[u8] = b"\n0x=\0\xff";
+
+/// A text as long as allowed, or a byte longer, with something wrong in it.
+fn spoilt(random: &mut Random) -> Vec<u8> {
+    let mut text = padded(random, LIMIT);
+    match random.below(4) {
+        0 => return damage::damaged(text, random),
+        1 => text[LIMIT - 1] = random.pick(GARBAGE),
+        2 => text.push(random.pick(GARBAGE)),
+        _ => {
+            text[0] = b'T';
+            text.push(b'\n');
+        }
+    }
+    text
+}
+
+fn short_records(count: u64) -> Vec<u8> {
+    text::of_records(&vec![plain(Op::Own); count as usize])
+}
+
+/// A text with good grammar of exactly `length` bytes.
+fn padded(random: &mut Random, length: usize) -> Vec<u8> {
+    let mut history = History::new(Random::new(random.draw()), Stride::Wide);
+    for _ in 0..random.below(200) {
+        let op = history.random.pick(&Op::ALL);
+        let faults = history.faults(6);
+        let record = history.record(op, faults);
+        history.push(record);
+    }
+    let mut records = history.records;
+    let mut rest = length - text::of_records(&records).len();
+    while rest >= 2 * SHORTEST {
+        records.push(plain(Op::Own));
+        rest -= SHORTEST;
+    }
+    records.push(own_of_length(rest));
+    text::of_records(&records)
+}
+
+/// An own record of `length` bytes, from 44 to 87.
+fn own_of_length(length: usize) -> Record {
+    let mut digits = length - SHORTEST;
+    let mut widened = || {
+        let more = digits.min(18);
+        digits -= more;
+        if more == 0 {
+            0
+        } else {
+            10_u64.pow(more as u32)
+        }
+    };
+    plain(Op::Own)
+        .with_registration(0, widened())
+        .with_clock(widened(), widened())
+}

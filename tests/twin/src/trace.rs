@@ -1,0 +1,161 @@
+//! Reading a trace: the whole text becomes records, or the line that breaks a rule.
+
+/// The longest input that is read.
+pub const LIMIT: usize = 65_536;
+
+const HEADER: &[u8] = b"trace=proc-1";
+
+#[derive(Clone, Copy, Debug, PartialEq, Eq, PartialOrd, Ord)]
+pub enum Op {
+    Begin,
+    End,
+    Snap,
+    Own,
+    Oldest,
+    Vacuum,
+    Stamp,
+    Finish,
+}
+
+impl Op {
+    pub const ALL: [Op; 8] = [
+        Op::Begin,
+        Op::End,
+        Op::Snap,
+        Op::Own,
+        Op::Oldest,
+        Op::Vacuum,
+        Op::Stamp,
+        Op::Finish,
+    ];
+
+    pub fn name(self) -> &'static str {
+        match self {
+            Op::Begin => "begin",
+            Op::End => "end",
+            Op::Snap => "snap",
+            Op::Own => "own",
+            Op::Oldest => "oldest",
+            Op::Vacuum => "vacuum",
+            Op::Stamp => "stamp",
+            Op::Finish => "finish",
+        }
+    }
+
+    fn from_name(name: &[u8]) -> Option<Op> {
+        Op::ALL.into_iter().find(|op| op.name().as_bytes() == name)
+    }
+
+    /// Whether the op reads `slot` and `id`.
+    pub fn reads_registration(self) -> bool {
+        matches!(self, Op::End | Op::Own | Op::Finish)
+    }
+
+    /// Whether the op reads `stamp`.
+    pub fn reads_stamp(self) -> bool {
+        matches!(self, Op::Begin | Op::Stamp | Op::Finish)
+    }
+
+    /// Whether the op reads `clock` and `sample`.
+    pub fn reads_clock(self) -> bool {
+        matches!(self, Op::Snap | Op::Own | Op::Oldest | Op::Vacuum)
+    }
+}
+
+#[derive(Clone, Copy, Debug, PartialEq, Eq)]
+pub struct Record {
+    pub op: Op,
+    pub slot: u16,
+    pub id: u64,
+    pub stamp: u64,
+    pub clock: u64,
+    pub sample: u64,
+}
+
+/// Refusal 9: the first line that breaks a rule, or 0 for a long input.
+#[derive(Clone, Copy, Debug, PartialEq, Eq)]
+pub struct BadTrace {
+    pub line: usize,
+}
+
+pub fn read(input: &[u8]) -> Result<Vec<Record>, BadTrace> {
+    if input.len() > LIMIT {
+        return Err(BadTrace { line: 0 });
+    }
+    let mut lines = Lines {
+        rest: input,
+        number: 0,
+    };
+    if lines.next()? != HEADER {
+        return Err(lines.broken());
+    }
+    let mut records = Vec::new();
+    while !lines.rest.is_empty() {
+        records.push(read_record(&mut lines)?);
+    }
+    Ok(records)
+}
+
+fn read_record(lines: &mut Lines) -> Result<Record, BadTrace> {
+    let name = lines.value(b"op=")?;
+    let op = Op::from_name(name).ok_or(lines.broken())?;
+    let slot = lines.field(b"slot=", u16::MAX.into(), op.reads_registration())?;
+    Ok(Record {
+        op,
+        slot: slot as u16,
+        id: lines.field(b"id=", u64::MAX, op.reads_registration())?,
+        stamp: lines.field(b"stamp=", u64::MAX, op.reads_stamp())?,
+        clock: lines.field(b"clock=", u64::MAX, op.reads_clock())?,
+        sample: lines.field(b"sample=", u64::MAX, op.reads_clock())?,
+    })
+}
+
+/// The lines not yet read, and the number of the line last asked for.
+struct Lines<'a> {
+    rest: &'a [u8],
+    number: usize,
+}
+
+impl<'a> Lines<'a> {
+    fn broken(&self) -> BadTrace {
+        BadTrace { line: self.number }
+    }
+
+    /// The next line without its newline; a missing or unterminated one breaks a rule.
+    fn next(&mut self) -> Result<&'a [u8], BadTrace> {
+        self.number += 1;
+        let end = self.rest.iter().position(|&byte| byte == b'\n');
+        let end = end.ok_or(self.broken())?;
+        let line = &self.rest[..end];
+        self.rest = &self.rest[end + 1..];
+        Ok(line)
+    }
+
+    fn value(&mut self, key: &[u8]) -> Result<&'a [u8], BadTrace> {
+        self.next()?.strip_prefix(key).ok_or(self.broken())
+    }
+
+    fn field(&mut self, key: &[u8], largest: u64, is_read: bool) -> Result<u64, BadTrace> {
+        let number = decimal(self.value(key)?).ok_or(self.broken())?;
+        if number > largest || (number != 0 && !is_read) {
+            return Err(self.broken());
+        }
+        Ok(number)
+    }
+}
+
+/// A decimal number to 2^64 - 1, with no sign and no leading zero.
+fn decimal(text: &[u8]) -> Option<u64> {
+    if text.is_empty() || (text.len() > 1 && text[0] == b'0') {
+        return None;
+    }
+    let mut number: u64 = 0;
+    for &byte in text {
+        if !byte.is_ascii_digit() {
+            return None;
+        }
+        let digit = u64::from(byte - b'0');
+        number = number.checked_mul(10)?.checked_add(digit)?;
+    }
+    Some(number)
+}

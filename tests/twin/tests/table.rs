@@ -1,0 +1,93 @@
+//! The table's calls: what a trace's output doesn't show.
+
+use twin::table::{Refusal, SLOTS, Slot, Table};
+
+fn full() -> Table {
+    let mut table = Table::fresh();
+    for number in 1..=SLOTS as u64 {
+        table.begin(number).unwrap();
+    }
+    table
+}
+
+fn slot(txid: u64, snapshot_xmin: u64) -> Slot {
+    Slot {
+        txid,
+        snapshot_xmin,
+    }
+}
+
+/// Slots, clock, sampled clock and line.
+fn whole(table: &Table) -> (Vec<Slot>, u64, u64, u64) {
+    (
+        table.slots().to_vec(),
+        table.clock(),
+        table.sampled_clock(),
+        table.vacuum_line(),
+    )
+}
+
+#[test]
+fn fresh_is_empty() {
+    let empty = vec![slot(0, 0); SLOTS];
+    assert_eq!(whole(&Table::fresh()), (empty, 1, 1, 1));
+}
+
+#[test]
+fn begin_fills_the_lowest_slot_and_moves_the_clock_alone() {
+    let mut table = Table::fresh();
+    assert_eq!(table.begin(5), Ok(0));
+    assert_eq!(table.begin(9), Ok(1));
+    let mut slots = vec![slot(0, 0); SLOTS];
+    (slots[0], slots[1]) = (slot(5, 5), slot(9, 9));
+    assert_eq!(whole(&table), (slots, 10, 1, 1));
+}
+
+#[test]
+fn a_full_table_uses_up_the_number() {
+    let mut table = full();
+    let slots = table.slots().to_vec();
+    table.snapshot(5_000, 7).unwrap();
+    assert_eq!(table.begin(6_000), Err(Refusal::NoFreeSlot { txid: 6_000 }));
+    assert_eq!(whole(&table), (slots, 6_001, 7, 1));
+}
+
+#[test]
+fn an_observation_keeps_clock_and_sample() {
+    let mut table = Table::fresh();
+    table.begin(5).unwrap();
+    table.oldest_snapshot_xmin(20, 4).unwrap();
+    assert_eq!((table.clock(), table.sampled_clock()), (20, 4));
+    table.transaction_snapshot(0, 5, 20, 3).unwrap();
+    assert_eq!(table.slots()[0], slot(5, 3));
+    assert_eq!((table.clock(), table.sampled_clock()), (20, 3));
+}
+
+#[test]
+fn refusals_but_the_first_leave_the_table() {
+    let mut table = full();
+    table.vacuum(5_000, 200).unwrap();
+    let before = whole(&table);
+    assert_eq!(table.begin(4_999), Err(Refusal::BadReservation));
+    assert_eq!(table.end(SLOTS as u16, 1).unwrap_err().number(), 2);
+    assert_eq!(table.end(0, 0), Err(Refusal::ZeroTxid));
+    assert_eq!(table.end(0, 2).unwrap_err().number(), 3);
+    assert_eq!(table.snapshot(4_999, 1), Err(Refusal::BadClock));
+    assert_eq!(table.snapshot(5_001, 5_002), Err(Refusal::BadSample));
+    let own = table.transaction_snapshot(0, 1, 5_001, 0);
+    assert_eq!(own, Err(Refusal::BadSample));
+    assert_eq!(table.vacuum(6_000, 6_001), Err(Refusal::BadSample));
+    assert_eq!(table.oldest_snapshot_xmin(5, 5), Err(Refusal::BadClock));
+    assert_eq!(table.stamp(0), Err(Refusal::BadReservation));
+    assert_eq!(table.finish(0, 1, 4_999), Err(Refusal::BadReservation));
+    assert_eq!(whole(&table), before);
+}
+
+#[test]
+fn the_last_number_exhausts_the_clock() {
+    let mut table = Table::fresh();
+    assert_eq!(table.stamp(u64::MAX), Err(Refusal::BadReservation));
+    assert_eq!(table.stamp(u64::MAX - 1), Ok(u64::MAX - 1));
+    assert_eq!(table.begin(u64::MAX - 1), Err(Refusal::ClockExhausted));
+    assert_eq!(table.clock(), u64::MAX);
+}

@@ -1,0 +1,54 @@
+//! Reading: every cut of a good text, and the numbers at the edges.
+
+use twin::trace::{BadTrace, LIMIT, read};
+
+const GOOD: &str = "trace=proc-1\n\
+    op=begin\nslot=0\nid=0\nstamp=5\nclock=0\nsample=0\n\
+    op=own\nslot=0\nid=5\nstamp=0\nclock=9\nsample=3\n";
+
+fn line(text: &str) -> Option<usize> {
+    read(text.as_bytes()).err().map(|broken| broken.line)
+}
+
+#[test]
+fn every_cut_breaks_at_its_last_line_or_the_missing_one() {
+    for length in 0..=GOOD.len() {
+        let cut = &GOOD[..length];
+        let complete = cut.matches('\n').count();
+        let whole = cut.ends_with('\n') && complete % 6 == 1;
+        let expected = if whole { None } else { Some(complete + 1) };
+        assert_eq!(line(cut), expected, "cut at {length}");
+    }
+}
+
+#[test]
+fn every_spoilt_byte_breaks_its_own_line() {
+    for place in 0..GOOD.len() {
+        let mut text = GOOD.as_bytes().to_vec();
+        let at = GOOD[..place].matches('\n').count() + 1;
+        text[place] = b'~';
+        assert_eq!(read(&text), Err(BadTrace { line: at }), "byte {place}");
+    }
+}
+
+#[test]
+fn numbers_at_the_edges() {
+    let with = |slot: &str, id: &str| {
+        line(&format!(
+            "trace=proc-1\nop=end\nslot={slot}\nid={id}\nstamp=0\nclock=0\nsample=0\n"
+        ))
+    };
+    assert_eq!(with("65535", "18446744073709551615"), None);
+    assert_eq!(with("65536", "1"), Some(3));
+    assert_eq!(with("1", "18446744073709551616"), Some(4));
+    for bad in ["", "00", "01", "+1", "-0", " 1", "1 ", "1\r", "0x1", "1.0"] {
+        assert_eq!(with(bad, "1"), Some(3), "{bad:?}");
+        assert_eq!(with("1", bad), Some(4), "{bad:?}");
+    }
+}
+
+#[test]
+fn the_length_is_tested_first() {
+    assert_eq!(read(&vec![b'x'; LIMIT]), Err(BadTrace { line: 1 }));
+    assert_eq!(read(&vec![b'x'; LIMIT + 1]), Err(BadTrace { line: 0 }));
+}
