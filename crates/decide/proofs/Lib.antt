@@ -1,1 +1,3 @@
 pub mod Judge
+pub mod Rules
+pub mod Unique

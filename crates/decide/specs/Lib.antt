@@ -1,2 +1,3 @@
 pub mod Changes
+pub mod Papers
 pub mod Decisions

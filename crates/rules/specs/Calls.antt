@@ -79,6 +79,8 @@ pub record Answer : Type 0 where
   pub slot : ℕ
   pub id : ℕ
   pub seen : ℕ
+  -- the line of text that a refusal names
+  pub at : ℕ
   pub xmin : ℕ
   pub xmax : ℕ
   -- the line that a vacuum answers
@@ -89,11 +91,11 @@ pub record Answer : Type 0 where
 -- an accepted call's number is 0
 abbrev pub values : ℕ → ℕ → ℕ → ℕ → ℕ → List ℕ → Answer
 values slot id xmin xmax line ids =
-    record { number = 0; slot = slot; id = id; seen = 0; xmin = xmin; xmax = xmax; line = line; ids = ids }
+    record { number = 0; slot = slot; id = id; seen = 0; at = 0; xmin = xmin; xmax = xmax; line = line; ids = ids }
 
 abbrev pub answerTold : Told → Answer
 answerTold r =
-    record { number = r .number; slot = r .slot; id = r .id; seen = r .seen; xmin = 0; xmax = 0; line = 0; ids = [] }
+    record { number = r .number; slot = r .slot; id = r .id; seen = r .seen; at = r .at; xmin = 0; xmax = 0; line = 0; ids = [] }
 
 unfoldable pub answerAccepted : Table → Call → Answer
 answerAccepted t (begin number) = values (lowestEmpty (t .txids)) (number .0) 0 0 0 []

@@ -56,7 +56,7 @@ seen a clock line = record { answers = a; clock = clock; line = line }
 
 abbrev refused : ℕ → ℕ → ℕ → ℕ → Answer
 refused k slot id observed =
-    record { number = k; slot = slot; id = id; seen = observed; xmin = 0; xmax = 0; line = 0; ids = [] }
+    record { number = k; slot = slot; id = id; seen = observed; at = 0; xmin = 0; xmax = 0; line = 0; ids = [] }
 
 abbrev snapped : ℕ → ℕ → List ℕ → Answer
 snapped xmin xmax ids = values 0 0 xmin xmax 0 ids
