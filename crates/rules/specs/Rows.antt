@@ -132,3 +132,7 @@ rows n any =
           ∷ [];
     }
     ∷ []
+
+-- every row holds, P7 whatever its number
+abbrev pub AllRowsHold : ℕ → Type 0
+AllRowsHold n = (any : Stamp) → RowsHold n (rows n any)

@@ -1,0 +1,20 @@
+use Rattle.rules.specs.Tables.{freshTable}
+use borrow.Author.Needs.{needs}
+use Rattle.table.proofs.fresh.Statement.{statement}
+use Rattle.table.proofs.fresh.Tie as tie
+use Rattle.table.proofs.fresh.Reads as reads
+use Rattle.table.proofs.fresh.Lts as lts
+use Rattle.kinds.proofs.zeros.Reads as zeros-reads
+
+zeros-requires : tie.Need-zeros-requires
+zeros-requires c κs = search needs
+
+zeros-requires-2 : tie.Need-zeros-requires-2
+zeros-requires-2 c κs = search needs
+
+returns : tie.Need-returns
+unfolding freshTable
+returns c = cc
+
+pub fresh-spec : {M : Type 1} → statement M
+fresh-spec = tie.close (tie.spec zeros-requires zeros-requires-2 returns)
