@@ -7,7 +7,7 @@ use Rattle.kinds.specs.declared.Txid.{Txid}
 use Rattle.settled.specs.declared.Snapshot.{Snapshot}
 use Rattle.rules.specs.declared.Table.{Table}
 use Rattle.decide.specs.Papers.{paperTaken}
-use Rattle.decide.proofs.Unique.{begun-unique, ended-unique, taken-unique, oldest-unique, vacuumed-unique, stamped-unique}
+use Rattle.decide.proofs.Unique.{begun-unique, ended-unique, taken-unique, oldest-unique as oldest-answer-unique, vacuumed-unique, stamped-unique}
 use Rattle.table.specs.declared.begin.BeginAnswer.{BeginAnswer}
 use Rattle.table.specs.declared.end.EndAnswer.{EndAnswer}
 use Rattle.table.specs.declared.snapshot.SnapshotAnswer.{SnapshotAnswer}
@@ -48,7 +48,7 @@ module _ (n : ℕ) (t : Table) where
   pub oldest-unique : (clock : ℕ) (sample : ℕ) (r s : OldestAnswer) → OldestFits n t clock sample r → OldestFits n t clock sample s → r ≡ s
   oldest-unique clock sample r s f g =
       let a = f .table ∙ sym (g .table) in
-      let b = oldest-unique (r .answer) (s .answer) (f .says ∙ sym (g .says)) in
+      let b = oldest-answer-unique (r .answer) (s .answer) (f .says ∙ sym (g .says)) in
       λ i. record { table = a i; answer = b i }
 
   pub vacuum-unique : (clock : ℕ) (sample : ℕ) (r s : VacuumAnswer) → VacuumFits n t clock sample r → VacuumFits n t clock sample s → r ≡ s

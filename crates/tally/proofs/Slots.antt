@@ -3,15 +3,10 @@ use mathlib.Core.Path.{_≡_}
 use mathlib.Core.List.{List, []}
 use Prim.Native.Nat.{ℕ, _+_, _<_, _≤_, min}
 use mathlib.Core.List.{_∷_}
-use native.Mathlib.Numerals.{add-one}
 use lib.ListN.{length, drop, getD, drop-of-length-le}
-use lib.Seq.{drop-cons}
 use borrow.Author.Tests.{eq-eqb, ne-eqb}
+use Rattle.kinds.proofs.Lists.{from}
 use Rattle.rules.specs.Tally.{active, retained, lowestEmpty, minimum, oldestOf}
-
--- the slots from i on begin with slot i
-pub from : (l : List ℕ) (i : ℕ) → i < length l → drop i l ≡ getD l i 0 ∷ drop (i + 1) l
-from l i h = rw (add-one, drop-cons l i 0)
 
 module _ (txids : List ℕ) (i : ℕ) where
   pub empty-here : i < length txids → getD txids i 0 ≡ 0 → lowestEmpty (drop i txids) ≡ 0

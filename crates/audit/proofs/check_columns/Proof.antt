@@ -1,0 +1,41 @@
+use Rattle.rules.specs.Check.{passes}
+use borrow.Author.Needs.{needs}
+use Rattle.audit.proofs.check_columns.Statement.{statement}
+use Rattle.audit.proofs.check_columns.Tie as tie
+use Rattle.audit.proofs.check_columns.Reads as reads
+use Rattle.audit.proofs.check_columns.Lts as lts
+use Rattle.audit.proofs.differ.txids_differ.Reads as txids-differ-reads
+use Rattle.audit.proofs.numbers.numbers_pass.Reads as numbers-pass-reads
+use Rattle.audit.proofs.slots.slots_pass.Reads as slots-pass-reads
+
+numbers-pass-requires : tie.Need-numbers-pass-requires
+numbers-pass-requires c κs = search needs
+
+slots-pass-requires : tie.Need-slots-pass-requires
+slots-pass-requires c κs = search needs
+
+txids-differ-requires : tie.Need-txids-differ-requires
+txids-differ-requires c κs = search needs
+
+returns : tie.Need-returns
+unfolding passes
+returns c = rw (← c .before .before .before .before .numbers-pass .ensures, c .before .before .before .if1 .taken, ← c .before .before .slots-pass .ensures, c .before .if2 .taken, c .txids-differ .ensures)
+
+returns-2 : tie.Need-returns-2
+unfolding passes
+returns-2 c = rw (← c .before .before .before .numbers-pass .ensures, c .before .before .if1 .taken, ← c .before .slots-pass .ensures, c .if2 .left)
+
+returns-3 : tie.Need-returns-3
+unfolding passes
+returns-3 c = rw (← c .before .numbers-pass .ensures, c .if1 .left)
+
+pub check-columns-spec : {M : Type 1} → statement M
+check-columns-spec =
+    tie.close
+    (tie.spec
+    numbers-pass-requires
+    slots-pass-requires
+    txids-differ-requires
+    returns
+    returns-2
+    returns-3)

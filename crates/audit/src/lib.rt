@@ -1,0 +1,36 @@
+// The table check, for tables that somebody else wrote: the host's shared segment.
+mod differ;
+mod numbers;
+mod slots;
+
+use rules::Table;
+ghost use mathlib.Core.Path.{_≡_};
+ghost use Rattle.rules.specs.Check.{passes, tablePasses};
+
+// The check on lent columns of any length.
+pub fn check_columns<'a>(
+    txids: &'a [u64],
+    xmins: &'a [u64],
+    clock: u64,
+    sample: u64,
+    line: u64,
+) -> bool
+    ensures { λ r. do ⌜ r ≡ passes (← ⟦kinds::SLOTS⟧ .entry) (now (txids .entry)) (now (xmins .entry)) clock sample line ⌝ }
+{
+    if numbers::numbers_pass(txids.len(), clock, sample, line) {
+        if slots::slots_pass(txids, xmins, clock, line) {
+            return differ::txids_differ(txids);
+        }
+    }
+    false
+}
+
+// Whether a table is one that calls from fresh could have left, as far as a table can tell.
+pub fn check_table(table: Table) -> bool
+    ensures { λ r. do ⌜ r ≡ tablePasses (← ⟦kinds::SLOTS⟧ .entry) table ⌝ }
+{
+    let clock = table.clock;
+    let sample = table.sampled_clock;
+    let line = table.line;
+    check_columns(&table.txids, &table.snapshot_xmins, clock, sample, line)
+}
