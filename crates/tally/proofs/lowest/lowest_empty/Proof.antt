@@ -5,10 +5,10 @@ use borrow.Author.Needs.{needs}
 use lib.ListN.{length, drop}
 use Rattle.rules.specs.Tally.{lowestEmpty}
 use Rattle.tally.proofs.Slots.{empty-here, taken-here, no-more-slots}
-use Rattle.tally.proofs.lowest_empty.Statement.{statement}
-use Rattle.tally.proofs.lowest_empty.Tie as tie
-use Rattle.tally.proofs.lowest_empty.Reads as reads
-use Rattle.tally.proofs.lowest_empty.Lts as lts
+use Rattle.tally.proofs.lowest.lowest_empty.Statement.{statement}
+use Rattle.tally.proofs.lowest.lowest_empty.Tie as tie
+use Rattle.tally.proofs.lowest.lowest_empty.Reads as reads
+use Rattle.tally.proofs.lowest.lowest_empty.Lts as lts
 
 abbrev Inv-loop : tie.InvT-loop
 Inv-loop txids i₀ i = (i ≤ length txids) × (lowestEmpty txids ≡ i + lowestEmpty (drop i txids))

@@ -5,10 +5,10 @@ use borrow.Author.Needs.{needs}
 use lib.ListN.{length, drop}
 use Rattle.rules.specs.Tally.{oldestOf}
 use Rattle.tally.proofs.Slots.{oldest-miss, oldest-hit, oldest-none, oldest-short}
-use Rattle.tally.proofs.oldest_retained.Statement.{statement}
-use Rattle.tally.proofs.oldest_retained.Tie as tie
-use Rattle.tally.proofs.oldest_retained.Reads as reads
-use Rattle.tally.proofs.oldest_retained.Lts as lts
+use Rattle.tally.proofs.oldest.oldest_retained.Statement.{statement}
+use Rattle.tally.proofs.oldest.oldest_retained.Tie as tie
+use Rattle.tally.proofs.oldest.oldest_retained.Reads as reads
+use Rattle.tally.proofs.oldest.oldest_retained.Lts as lts
 use Rattle.kinds.proofs.lesser.Reads as lesser-reads
 
 abbrev Inv-loop : tie.InvT-loop
