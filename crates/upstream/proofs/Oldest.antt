@@ -1,0 +1,37 @@
+-- L.oldest_snapshot_xmin: our oldest meets upstream's contract where none of 4 to 8 is given.
+use Prim.Native.Nat.{ℕ}
+use mathlib.Core.Path.{_≡_, refl, sym, _∙_}
+use mathlib.Core.List.{List}
+use Rattle.rules.specs.declared.Table.{Table}
+use Rattle.rules.specs.Tests.{Verdict, pass, refuse}
+use Rattle.rules.specs.Calls.{oldest, refusal, afterAccepted, afterBy, after, answerAccepted, answerBy, answer}
+use Rattle.upstream.specs.States.{stateOf, stateAfter, historyBy, Shaped, Foreseen}
+use Rattle.upstream.specs.Relations.{WellFormed}
+use Rattle.upstream.specs.Clauses.{OldestSnapshotXmin}
+use Rattle.upstream.proofs.Tallies.{retention-same}
+use Rattle.upstream.proofs.Runs.{Observes, seen, observes}
+use Rattle.upstream.proofs.Moves.{well-observed}
+
+module _
+    (n : ℕ) (t : Table) (history : List ℕ) (c m : ℕ) (s : Shaped n t) (w : WellFormed n (stateOf t history)) where
+  by-run :
+      (v : Verdict) → Observes (t .clock) c m v →
+      OldestSnapshotXmin n (stateOf t history) (stateOf (afterBy v t (oldest c m)) (historyBy v history (oldest c m)))
+      (answerBy v t (oldest c m))
+  unfolding afterAccepted answerAccepted
+  by-run v (seen f) =
+      record {
+        l-oldest-e1 = well-observed n t history w c m f;
+        l-oldest-e3 = refl;
+        l-oldest-e4 = refl;
+        l-oldest-e5 = f .onward;
+        l-oldest-e6 =
+            sym
+            (rw (s .txids-size) at (retention-same (t .txids) (t .«snapshot_xmins») m (s .txids-size ∙ sym (s .xmins-size))));
+      }
+
+  pub oldest-meets :
+      Foreseen (refusal n t (oldest c m)) →
+      OldestSnapshotXmin n (stateOf t history) (stateAfter n t history (oldest c m)) (answer n t (oldest c m))
+  unfolding refusal after answer
+  oldest-meets f = by-run (refusal n t (oldest c m)) (observes (t .clock) c m f)

@@ -1,0 +1,228 @@
+-- L.snapshot_locked, L.create_snapshot, L.create_transaction_snapshot: our snapshots meet upstream's contracts where none of 4 to 8 is given.
+use Prim.Native.Nat.{ℕ, zero, suc, _+_, _-_, _<_, _≤_, min, max}
+use mathlib.Core.Path.{_≡_, refl, sym, ap, _∙_}
+use mathlib.Core.Logic.{_≢_}
+use mathlib.Core.Bool.{Bool, true, false}
+use mathlib.Core.List.{List, [], _∷_}
+use native.Mathlib.Nat.{suc-ne-zero, le-trans, le-refl}
+use native.Mathlib.Omega.{arith}
+use lib.Dec.{eqb, ltb}
+use lib.ListN.{length, getD, set, take, length-set, replicate}
+use lib.Seq.{take-append-seam}
+use borrow.Author.Tests.{ltb-true, ltb-false, ne-eqb}
+use Rattle.kinds.specs.Pick.{pick}
+use Rattle.kinds.specs.Kinds.{top}
+use Rattle.kinds.specs.declared.SlotNo.{SlotNo}
+use Rattle.kinds.specs.declared.Txid.{Txid}
+use Rattle.kinds.specs.declared.refusal.Refusal.{Refusal}
+use Rattle.kinds.specs.Refusals.{told}
+use Rattle.rules.specs.declared.Table.{Table}
+use Rattle.rules.specs.Tally.{active as ours, minimum, maximum, xminOf, xmaxOf, places, snapshotOf}
+use Rattle.rules.specs.Tables.{withXmin, observed}
+use Rattle.rules.specs.Tests.{Verdict, pass, refuse, observationTest}
+use Rattle.rules.specs.Calls.{snap, own, refusal, afterAccepted, afterRefused, afterBy, after, answerAccepted, answerBy, answer, shownBy, shown}
+use Rattle.upstream.specs.States.{Slot, State, slot, at, pairs, stateOf, stateAfter, historyBy, Shaped, Foreseen}
+use Rattle.upstream.specs.Tallies.{«maximum_active»}
+use Rattle.upstream.specs.Relations.{WellFormed, Coherent}
+use Rattle.upstream.specs.Clauses.{SnapshotLocked, CreateSnapshot, CreateTransactionSnapshot}
+use Rattle.upstream.proofs.Pairs.{pairs-length, pairs-set-xmin}
+use Rattle.upstream.proofs.Tallies.{active-same, minimum-same, maximum-same}
+use Rattle.upstream.proofs.Places.{minimum-low, minimum-positive}
+use Rattle.upstream.proofs.Runs.{Sees, Observes, seen, observes, observes-pass, Owns, outside, other, owned, OwnsThen, stopped, both, owns-then}
+use Rattle.upstream.proofs.Moves.{slotsOf, txid-at, well-observed, well-marked}
+
+-- the largest txid is below a clock that every txid is below
+maximum-below :
+    (ss : List Slot) (c k : ℕ) → ((i : ℕ) → at ss i .txid ≢ 0 → at ss i .txid < c) → 0 < c → «maximum_active» ss k < c
+unfolding «maximum_active»
+maximum-below ss c zero p h = h
+maximum-below ss c (suc k) p h = go (ltb («maximum_active» ss k) (at ss k .txid)) refl (maximum-below ss c k p h)
+  where
+    go :
+        (b : Bool) → ltb («maximum_active» ss k) (at ss k .txid) ≡ b → «maximum_active» ss k < c →
+        pick b (at ss k .txid) («maximum_active» ss k) < c
+    go true e ih = let g = ltb-true («maximum_active» ss k) (at ss k .txid) e in p k (λ z. omega arith)
+    go false e ih = ih
+
+-- our held xmax is upstream's, which holds nothing, where the largest txid is below 2^64 − 1
+larger : (a m : ℕ) → a ≤ top → max m (min a top) ≡ pick (ltb a m) m a
+larger a m h = go (ltb a m) refl
+  where
+    go : (b : Bool) → ltb a m ≡ b → max m (min a top) ≡ pick b m a
+    go true e = let g = ltb-true a m e in omega arith
+    go false e = let g = ltb-false a m e in omega arith
+
+alone : (m : ℕ) → 0 < m → m ≡ pick (ltb (0 + 1) m) m (0 + 1)
+alone m h = go (ltb (0 + 1) m) refl
+  where
+    go : (b : Bool) → ltb (0 + 1) m ≡ b → m ≡ pick b m (0 + 1)
+    go true e = refl
+    go false e = let g = ltb-false (0 + 1) m e in omega arith
+
+pub xmax-same :
+    (l : List ℕ) (m : ℕ) → 0 < m → maximum 0 l + 1 ≤ top →
+    xmaxOf m l ≡ pick (ltb (maximum 0 l + 1) m) m (maximum 0 l + 1)
+unfolding maximum
+xmax-same [] m h b = alone m h
+xmax-same (x ∷ l) m h b =
+    rw (ne-eqb (suc (length l)) 0 (λ e. suc-ne-zero _ e)) (larger (maximum (max 0 x) l + 1) m b)
+
+module _ (n : ℕ) (xs ys : List ℕ) (p : length xs ≡ n) (q : length ys ≡ n) where
+  even : length xs ≡ length ys
+  even = p ∙ sym q
+
+  pub coherent :
+      (c m : ℕ) (history : List ℕ) → 0 < m → maximum 0 (ours xs) + 1 ≤ top →
+      Coherent (record { slots = pairs xs ys; clock = c; «sampled_clock» = m; reservations = history }) (snapshotOf n xs m)
+  unfolding snapshotOf
+  coherent c m history h b =
+      record {
+        in-flight = seam ∙ sym (rw (pairs-length xs ys even) (active-same xs ys even));
+        in-flight-len = ap length (sym seam);
+        xmax =
+            rw (pairs-length xs ys even, maximum-same xs ys even) (xmax-same (ours xs) m h b);
+        xmin = sym (rw (pairs-length xs ys even) (minimum-same xs ys m even));
+      }
+    where
+      seam : take (length (ours xs)) (places n (ours xs)) ≡ ours xs
+      seam = take-append-seam (ours xs) (replicate (n - length (ours xs)) 0)
+
+module _
+    (n : ℕ) (t : Table) (history : List ℕ) (s : Shaped n t) (w : WellFormed n (stateOf t history)) (u : t .clock ≤ top) where
+  -- no txid of the table reaches 2^64 − 1
+  held : maximum 0 (ours (t .txids)) + 1 ≤ top
+  held =
+      let e = maximum-same (t .txids) (t .«snapshot_xmins») (s .txids-size ∙ sym (s .xmins-size)) in
+      let c : 0 < t .clock = le-trans (w .table .sample-positive) (w .table .sample-within) in
+      let b = maximum-below (slotsOf t) (t .clock) (length (t .txids)) (w .table .txid-below) c in
+      omega arith
+
+  module _ (c m : ℕ) where
+    locked-run :
+        (v : Verdict) → Observes (t .clock) c m v →
+        SnapshotLocked n (stateOf t history) (stateOf (afterBy v t (snap c m)) (historyBy v history (snap c m)))
+        (shownBy v n t m)
+    unfolding afterAccepted
+    locked-run v (seen f) =
+        record {
+          l-snapshot-locked-e1 = well-observed n t history w c m f;
+          l-snapshot-locked-e2 =
+              record {
+                slots = refl;
+                reservations = refl;
+                clock = f .onward;
+                sample-positive = f .positive;
+                sample-within = f .within;
+              };
+          l-snapshot-locked-e3 =
+              coherent n (t .txids) (t .«snapshot_xmins») (s .txids-size) (s .xmins-size) c m history (f .positive) held;
+        }
+
+    pub snapshot-locked-meets :
+        Foreseen (refusal n t (snap c m)) →
+        SnapshotLocked n (stateOf t history) (stateAfter n t history (snap c m)) (shown n t (snap c m) m)
+    unfolding refusal after shown
+    snapshot-locked-meets f = locked-run (refusal n t (snap c m)) (observes (t .clock) c m f)
+
+    pub create-snapshot-meets :
+        Foreseen (refusal n t (snap c m)) →
+        CreateSnapshot n (stateOf t history) (stateAfter n t history (snap c m)) (shown n t (snap c m) m)
+    create-snapshot-meets f =
+        let r = snapshot-locked-meets f in
+        record {
+          l-create-snapshot-e1 = r .l-snapshot-locked-e1;
+          l-create-snapshot-e3 = r .l-snapshot-locked-e2 .slots;
+          l-create-snapshot-e4 = r .l-snapshot-locked-e2 .reservations;
+          l-create-snapshot-e5 = r .l-snapshot-locked-e2 .clock;
+          l-create-snapshot-e6 = r .l-snapshot-locked-e3;
+        }
+
+  module _ (i : SlotNo) (id : Txid) (c m : ℕ) where
+    -- refused by 2 or 3: nothing moves
+    stopped-run :
+        (v : Verdict) → Owns n (t .txids) i id v → (v ≡ pass → ⊥) →
+        CreateTransactionSnapshot n (stateOf t history)
+        (stateOf (afterBy v t (own i id c m)) (historyBy v history (own i id c m))) i id (answerBy v t (own i id c m))
+        (shownBy v n t m)
+    unfolding afterRefused told
+    stopped-run v (outside h) z =
+        record {
+          l-own-e1 = w;
+          l-own-e3 = refl;
+          l-own-e4 = le-refl _;
+          l-own-e5 = λ e. absurd (suc-ne-zero _ e);
+          l-own-e6 = λ e. refl;
+          l-own-e7 = λ g e. absurd (omega arith);
+        }
+    stopped-run v (other h d) z =
+        record {
+          l-own-e1 = w;
+          l-own-e3 = refl;
+          l-own-e4 = le-refl _;
+          l-own-e5 = λ e. absurd (suc-ne-zero _ e);
+          l-own-e6 = λ e. refl;
+          l-own-e7 = λ g e. absurd (d (sym (txid-at n t (i .0) s) ∙ e));
+        }
+    stopped-run v (owned h z o) x = absurd (x refl)
+
+    taken-run :
+        i .0 < n → id .0 ≢ 0 → getD (t .txids) (i .0) 0 ≡ id .0 → Sees (t .clock) c m →
+        CreateTransactionSnapshot n (stateOf t history)
+        (stateOf (afterBy pass t (own i id c m)) (historyBy pass history (own i id c m))) i id
+        (answerBy pass t (own i id c m)) (shownBy pass n t m)
+    unfolding afterAccepted answerAccepted snapshotOf
+    taken-run h z o f =
+        record {
+          l-own-e1 =
+              well-marked n (observed c m t) history (well-observed n t history w c m f) (i .0)
+              (minimum m (ours (t .txids))) (record { txids-size = s .txids-size; xmins-size = s .xmins-size }) taken
+              (minimum-positive (t .txids) m (f .positive)) (minimum-low (t .txids) m (i .0) taken);
+          l-own-e3 = refl;
+          l-own-e4 = f .onward;
+          l-own-e5 =
+              λ e. record {
+                l-own-e5a = h;
+                l-own-e5b = txid-at n t (i .0) s ∙ o;
+                l-own-e5c =
+                    coherent n (t .txids) (set (t .«snapshot_xmins») (i .0) (minimum m (ours (t .txids)))) (s .txids-size)
+                    (length-set (t .«snapshot_xmins») (i .0) _ ∙ s .xmins-size) c m history (f .positive) held;
+                l-own-e5d =
+                    pairs-set-xmin (t .txids) (t .«snapshot_xmins») (i .0) (minimum m (ours (t .txids)))
+                    ∙ ap (λ (x : ℕ). set (slotsOf t) (i .0) (slot x (minimum m (ours (t .txids)))))
+                    (sym (txid-at n t (i .0) s));
+              };
+          l-own-e6 = λ e. absurd (e refl);
+          l-own-e7 = λ g e. refl;
+        }
+      where
+        taken : getD (t .txids) (i .0) 0 ≢ 0
+        taken e = z (sym o ∙ e)
+
+    own-run :
+        (v : Verdict) → OwnsThen n (t .txids) i id (Sees (t .clock) c m) v →
+        CreateTransactionSnapshot n (stateOf t history)
+        (stateOf (afterBy v t (own i id c m)) (historyBy v history (own i id c m))) i id (answerBy v t (own i id c m))
+        (shownBy v n t m)
+    own-run v (stopped {r = r} o) = stopped-run (refuse r) o (λ e. refused r e)
+      where
+        refused : (r : Refusal) → refuse r ≡ pass → ⊥
+        refused r e = let z : _≡_ {A = ℕ} 0 1 = cc in omega arith
+    own-run v (both o f) = go pass refl o
+      where
+        go :
+            (v : Verdict) → v ≡ pass → Owns n (t .txids) i id v →
+            CreateTransactionSnapshot n (stateOf t history)
+            (stateOf (afterBy pass t (own i id c m)) (historyBy pass history (own i id c m))) i id
+            (answerBy pass t (own i id c m)) (shownBy pass n t m)
+        go v e (outside h) = absurd (let z : _≡_ {A = ℕ} 0 1 = cc in omega arith)
+        go v e (other h d) = absurd (let z : _≡_ {A = ℕ} 0 1 = cc in omega arith)
+        go v e (owned h z o) = taken-run h z o f
+
+    pub create-transaction-snapshot-meets :
+        Foreseen (refusal n t (own i id c m)) →
+        CreateTransactionSnapshot n (stateOf t history) (stateAfter n t history (own i id c m)) i id
+        (answer n t (own i id c m)) (shown n t (own i id c m) m)
+    unfolding refusal after answer shown
+    create-transaction-snapshot-meets f =
+        own-run (refusal n t (own i id c m))
+        (owns-then n (t .txids) i id (observationTest (t .clock) c m) (Sees (t .clock) c m) (observes-pass (t .clock) c m) f)
