@@ -22,7 +22,7 @@ use Rattle.upstream.proofs.Moves.{slotsOf, txid-at, well-cleared}
 module _
     (n : ℕ) (t : Table) (history : List ℕ) (i : SlotNo) (id : Txid) (s : Shaped n t) (w : WellFormed n (stateOf t history)) where
   by-run :
-      (v : Verdict) → Owns n (t .txids) i id v →
+      (v : Verdict) → Owns n (t .txids) i id Unit v →
       EndTransaction n (stateOf t history) (stateOf (afterBy v t (end i id)) (historyBy v history (end i id))) i id
       (answerBy v t (end i id))
   unfolding afterAccepted afterRefused answerAccepted told
@@ -46,7 +46,7 @@ module _
         l-end-e7 = λ e. refl;
         l-end-e8 = rw (txid-at n t (i .0) s, lt-leb n (i .0) h, ne-eqb _ _ d);
       }
-  by-run v (owned h z o) =
+  by-run v (owned h z o u) =
       record {
         l-end-e1 = well-cleared n t history w (i .0);
         l-end-e3 = refl;

@@ -19,7 +19,7 @@ use Rattle.upstream.specs.States.{Slot, slot, at, pairs, push, stateOf, 
 use Rattle.upstream.specs.Relations.{Contains, WellFormed}
 use Rattle.upstream.specs.Clauses.{ReservePublicationClock, DeregisterThenReserve}
 use Rattle.upstream.proofs.Pairs.{pairs-set}
-use Rattle.upstream.proofs.Runs.{Fits, Reserves, reserved, reserves, reserves-pass, Owns, outside, other, owned, OwnsThen, stopped, both, owns-then}
+use Rattle.upstream.proofs.Runs.{Fits, Reserves, reserved, reserves, reserves-pass, Owns, outside, other, owned, owns-then}
 use Rattle.upstream.proofs.Kept.{Stored, here, elsewhere, stored}
 use Rattle.upstream.proofs.Moves.{slotsOf, txid-at, held-once, well-reserved, well-cleared}
 
@@ -66,60 +66,33 @@ module _ (n : ℕ) (t : Table) (history : List ℕ) (w : WellFormed n (stateOf t
             held-once n t history w (i .0) j (e (rw (w .table .size) h)) (λ y. z (sym mine ∙ y))
             (sym (ap (λ (a : Slot). a .txid) q) ∙ x ∙ sym mine)
 
-    finished :
-        i .0 < n → id .0 ≢ 0 → getD (t .txids) (i .0) 0 ≡ id .0 → Fits (t .clock) (k .0) →
+    above : (reader : ℕ) → Fits (t .clock) (k .0) → Contains history reader → reader < k .0
+    above reader f c =
+        let b = rw (c .there) at (w .history .below (c .place) (c .inside)) in
+        omega (arith, f .from-clock)
+
+    finish-run :
+        (v : Verdict) → Owns n (t .txids) i id (Fits (t .clock) (k .0)) v →
         DeregisterThenReserve n (stateOf t history)
-        (stateOf (afterBy pass t (finish i id k)) (historyBy pass history (finish i id k))) id
-        (answerBy pass t (finish i id k))
-    unfolding afterAccepted answerAccepted
-    finished h z o f =
+        (stateOf (afterBy v t (finish i id k)) (historyBy v history (finish i id k))) id (answerBy v t (finish i id k))
+    unfolding afterAccepted afterRefused answerAccepted told
+    finish-run v (outside h) =
+        record { l-finish-e1 = w; l-finish-e345 = λ e. absurd (suc-ne-zero _ e); l-finish-e6 = λ e. refl }
+    finish-run v (other h d) =
+        record { l-finish-e1 = w; l-finish-e345 = λ e. absurd (suc-ne-zero _ e); l-finish-e6 = λ e. refl }
+    finish-run v (owned h z o f) =
         record {
           l-finish-e1 =
               well-cleared n (withClock (k .0 + 1) t) (push history (k .0)) (well-reserved n t history w (k .0) f) (i .0);
           l-finish-e345 =
               λ e. record {
-                l-finish-e3 = λ reader c. above reader c;
+                l-finish-e3 = λ reader c. above reader f c;
                 l-finish-e4 = refl;
                 l-finish-e5 =
                     λ j b. rw (pairs-set (t .txids) (t .«snapshot_xmins») (i .0) 0 0) (gone z o h j);
               };
           l-finish-e6 = λ e. absurd (e refl);
         }
-      where
-        above : (reader : ℕ) → Contains history reader → reader < k .0
-        above reader c =
-            let b = rw (c .there) at (w .history .below (c .place) (c .inside)) in
-            omega (arith, f .from-clock)
-
-    stopped-run :
-        (v : Verdict) → Owns n (t .txids) i id v → (v ≡ pass → ⊥) →
-        DeregisterThenReserve n (stateOf t history)
-        (stateOf (afterBy v t (finish i id k)) (historyBy v history (finish i id k))) id (answerBy v t (finish i id k))
-    unfolding afterRefused told
-    stopped-run v (outside h) z =
-        record { l-finish-e1 = w; l-finish-e345 = λ e. absurd (suc-ne-zero _ e); l-finish-e6 = λ e. refl }
-    stopped-run v (other h d) z =
-        record { l-finish-e1 = w; l-finish-e345 = λ e. absurd (suc-ne-zero _ e); l-finish-e6 = λ e. refl }
-    stopped-run v (owned h z o) x = absurd (x refl)
-
-    finish-run :
-        (v : Verdict) → OwnsThen n (t .txids) i id (Fits (t .clock) (k .0)) v →
-        DeregisterThenReserve n (stateOf t history)
-        (stateOf (afterBy v t (finish i id k)) (historyBy v history (finish i id k))) id (answerBy v t (finish i id k))
-    finish-run v (stopped {r = r} o) = stopped-run (refuse r) o (λ e. refused r e)
-      where
-        refused : (r : Refusal) → refuse r ≡ pass → ⊥
-        refused r e = let z : _≡_ {A = ℕ} 0 1 = cc in omega arith
-    finish-run v (both o f) = go pass refl o
-      where
-        go :
-            (v : Verdict) → v ≡ pass → Owns n (t .txids) i id v →
-            DeregisterThenReserve n (stateOf t history)
-            (stateOf (afterBy pass t (finish i id k)) (historyBy pass history (finish i id k))) id
-            (answerBy pass t (finish i id k))
-        go v e (outside h) = absurd (let z : _≡_ {A = ℕ} 0 1 = cc in omega arith)
-        go v e (other h d) = absurd (let z : _≡_ {A = ℕ} 0 1 = cc in omega arith)
-        go v e (owned h z o) = finished h z o f
 
     pub finish-meets :
         Foreseen (refusal n t (finish i id k)) →

@@ -1,6 +1,6 @@
 -- How a call can go where none of refusals 4 to 8 is given, and what its tests then tell.
 use Prim.Native.Nat.{ℕ, _<_, _≤_}
-use mathlib.Core.Path.{_≡_, refl}
+use mathlib.Core.Path.{_≡_, refl, sym, subst}
 use mathlib.Core.Logic.{_≢_}
 use mathlib.Core.Bool.{Bool, true, false, _||_, true≢false}
 use mathlib.Core.List.{List}
@@ -76,33 +76,47 @@ begins n txids clock k f = go (reservationTest clock k) (reserves clock k) f
     go pass r f = on pass (r tt)
     go (refuse x) r f = on (refuse x) (r f)
 
+then-pass : (v : Verdict) → then v pass ≡ v
+then-pass pass = refl
+then-pass (refuse r) = refl
+
 abbrev pub mismatch : List ℕ → SlotNo → Txid → Verdict
 mismatch txids slot id = refuse (SlotOwnershipMismatch slot id (record { 0 = getD txids (slot .0) 0 }))
 
--- a registration: its slot is outside, or holds another txid or none, or is its own
-pub data Owns (n : ℕ) (txids : List ℕ) (slot : SlotNo) (id : Txid) : Verdict → Type 0 where
-  outside : n ≤ slot .0 → Owns n txids slot id (refuse (InvalidSlot slot))
-  other :
-      slot .0 < n → getD txids (slot .0) 0 ≢ id .0 →
-      Owns n txids slot id (mismatch txids slot id)
-  owned : slot .0 < n → id .0 ≢ 0 → getD txids (slot .0) 0 ≡ id .0 → Owns n txids slot id pass
+-- a registration: its slot is outside, or holds another txid or none, or is its own; and P, what a second test then tells
+pub data Owns (n : ℕ) (txids : List ℕ) (slot : SlotNo) (id : Txid) (P : Type 0) : Verdict → Type 0 where
+  outside : n ≤ slot .0 → Owns n txids slot id P (refuse (InvalidSlot slot))
+  other : slot .0 < n → getD txids (slot .0) 0 ≢ id .0 → Owns n txids slot id P (mismatch txids slot id)
+  owned : slot .0 < n → id .0 ≢ 0 → getD txids (slot .0) 0 ≡ id .0 → P → Owns n txids slot id P pass
 
-pub owns :
-    (n : ℕ) (txids : List ℕ) (slot : SlotNo) (id : Txid) → Foreseen (ownerTest n txids slot id) →
-    Owns n txids slot id (ownerTest n txids slot id)
-owns n txids slot id f =
-    go (leb n (slot .0)) refl (eqb (id .0) 0) refl (eqb (getD txids (slot .0) 0) (id .0)) refl f
-  where
-    go :
-        (a : Bool) → leb n (slot .0) ≡ a → (b : Bool) → eqb (id .0) 0 ≡ b → (c : Bool) →
-        eqb (getD txids (slot .0) 0) (id .0) ≡ c →
-        Foreseen (then (pick a (refuse (InvalidSlot slot)) pass) (then (pick b (refuse ZeroTxid) pass) (pick c pass (mismatch txids slot id)))) →
-        Owns n txids slot id
-        (then (pick a (refuse (InvalidSlot slot)) pass) (then (pick b (refuse ZeroTxid) pass) (pick c pass (mismatch txids slot id))))
-    go true p b q c r f = outside (leb-true n (slot .0) p)
-    go false p true q c r f = absurd f
-    go false p false q true r f = owned (leb-false n (slot .0) p) (eqb-false (id .0) 0 q) (eqb-true _ _ r)
-    go false p false q false r f = other (leb-false n (slot .0) p) (eqb-false _ _ r)
+module _ (n : ℕ) (txids : List ℕ) (slot : SlotNo) (id : Txid) where
+  pub owns-then :
+      (second : Verdict) (P : Type 0) → (Foreseen second → (second ≡ pass) × P) →
+      Foreseen (then (ownerTest n txids slot id) second) →
+      Owns n txids slot id P (then (ownerTest n txids slot id) second)
+  owns-then second P s f =
+      go (leb n (slot .0)) refl (eqb (id .0) 0) refl (eqb (getD txids (slot .0) 0) (id .0)) refl f
+    where
+      order : Bool → Bool → Bool → Verdict
+      order a b c =
+          then (pick a (refuse (InvalidSlot slot)) pass) (then (pick b (refuse ZeroTxid) pass) (pick c pass (mismatch txids slot id)))
+
+      go :
+          (a : Bool) → leb n (slot .0) ≡ a → (b : Bool) → eqb (id .0) 0 ≡ b → (c : Bool) →
+          eqb (getD txids (slot .0) 0) (id .0) ≡ c → Foreseen (then (order a b c) second) →
+          Owns n txids slot id P (then (order a b c) second)
+      go true p b q c r f = outside (leb-true n (slot .0) p)
+      go false p true q c r f = absurd f
+      go false p false q true r f =
+          let (e, x) = s f in
+          rw e (owned (leb-false n (slot .0) p) (eqb-false (id .0) 0 q) (eqb-true _ _ r) x)
+      go false p false q false r f = other (leb-false n (slot .0) p) (eqb-false _ _ r)
+
+  pub owns : Foreseen (ownerTest n txids slot id) → Owns n txids slot id Unit (ownerTest n txids slot id)
+  owns f =
+      subst (λ (v : Verdict). Owns n txids slot id Unit v) (then-pass (ownerTest n txids slot id))
+      (owns-then pass Unit (λ u. (refl, tt))
+      (subst (λ (v : Verdict). Foreseen v) (sym (then-pass (ownerTest n txids slot id))) f))
 
 -- a clock with a sample of it, as upstream's trait promised them
 pub record Sees (former clock sample : ℕ) : Type 0 where
@@ -131,23 +145,6 @@ observes former clock sample f = go (ltb clock former) refl (eqb sample 0 || ltb
     go true p b q f = absurd f
     go false p true q f = absurd f
     go false p false q f = seen (sees p q)
-
--- a registration's call with a second test: stopped by the first, or both passed
-pub data OwnsThen (n : ℕ) (txids : List ℕ) (slot : SlotNo) (id : Txid) (P : Type 0) : Verdict → Type 0 where
-  stopped : {r : Refusal} → Owns n txids slot id (refuse r) → OwnsThen n txids slot id P (refuse r)
-  both : Owns n txids slot id pass → P → OwnsThen n txids slot id P pass
-
-module _ (n : ℕ) (txids : List ℕ) (slot : SlotNo) (id : Txid) (second : Verdict) (P : Type 0) where
-  pub owns-then :
-      (Foreseen second → (second ≡ pass) × P) → Foreseen (then (ownerTest n txids slot id) second) →
-      OwnsThen n txids slot id P (then (ownerTest n txids slot id) second)
-  owns-then s f = go (ownerTest n txids slot id) (owns n txids slot id) f
-    where
-      go :
-          (v : Verdict) → (Foreseen v → Owns n txids slot id v) → Foreseen (then v second) →
-          OwnsThen n txids slot id P (then v second)
-      go pass o f = let (e, p) = s f in rw e (both (o tt) p)
-      go (refuse r) o f = stopped (o f)
 
 pub reserves-pass :
     (clock : ℕ) (k : Stamp) → Foreseen (reservationTest clock k) → (reservationTest clock k ≡ pass) × Fits clock (k .0)

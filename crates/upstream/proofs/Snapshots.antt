@@ -28,7 +28,7 @@ use Rattle.upstream.specs.Clauses.{SnapshotLocked, CreateSnapshot, Creat
 use Rattle.upstream.proofs.Pairs.{pairs-length, pairs-set-xmin}
 use Rattle.upstream.proofs.Tallies.{active-same, minimum-same, maximum-same}
 use Rattle.upstream.proofs.Places.{minimum-low, minimum-positive}
-use Rattle.upstream.proofs.Runs.{Sees, Observes, seen, observes, observes-pass, Owns, outside, other, owned, OwnsThen, stopped, both, owns-then}
+use Rattle.upstream.proofs.Runs.{Sees, Observes, seen, observes, observes-pass, Owns, outside, other, owned, owns-then}
 use Rattle.upstream.proofs.Moves.{slotsOf, txid-at, well-observed, well-marked}
 
 -- the largest txid is below a clock that every txid is below
@@ -138,14 +138,13 @@ module _
         }
 
   module _ (i : SlotNo) (id : Txid) (c m : ℕ) where
-    -- refused by 2 or 3: nothing moves
-    stopped-run :
-        (v : Verdict) → Owns n (t .txids) i id v → (v ≡ pass → ⊥) →
+    own-run :
+        (v : Verdict) → Owns n (t .txids) i id (Sees (t .clock) c m) v →
         CreateTransactionSnapshot n (stateOf t history)
         (stateOf (afterBy v t (own i id c m)) (historyBy v history (own i id c m))) i id (answerBy v t (own i id c m))
         (shownBy v n t m)
-    unfolding afterRefused told
-    stopped-run v (outside h) z =
+    unfolding afterAccepted afterRefused answerAccepted told snapshotOf
+    own-run v (outside h) =
         record {
           l-own-e1 = w;
           l-own-e3 = refl;
@@ -154,7 +153,7 @@ module _
           l-own-e6 = λ e. refl;
           l-own-e7 = λ g e. absurd (omega arith);
         }
-    stopped-run v (other h d) z =
+    own-run v (other h d) =
         record {
           l-own-e1 = w;
           l-own-e3 = refl;
@@ -163,15 +162,7 @@ module _
           l-own-e6 = λ e. refl;
           l-own-e7 = λ g e. absurd (d (sym (txid-at n t (i .0) s) ∙ e));
         }
-    stopped-run v (owned h z o) x = absurd (x refl)
-
-    taken-run :
-        i .0 < n → id .0 ≢ 0 → getD (t .txids) (i .0) 0 ≡ id .0 → Sees (t .clock) c m →
-        CreateTransactionSnapshot n (stateOf t history)
-        (stateOf (afterBy pass t (own i id c m)) (historyBy pass history (own i id c m))) i id
-        (answerBy pass t (own i id c m)) (shownBy pass n t m)
-    unfolding afterAccepted answerAccepted snapshotOf
-    taken-run h z o f =
+    own-run v (owned h z o f) =
         record {
           l-own-e1 =
               well-marked n (observed c m t) history (well-observed n t history w c m f) (i .0)
@@ -197,26 +188,6 @@ module _
       where
         taken : getD (t .txids) (i .0) 0 ≢ 0
         taken e = z (sym o ∙ e)
-
-    own-run :
-        (v : Verdict) → OwnsThen n (t .txids) i id (Sees (t .clock) c m) v →
-        CreateTransactionSnapshot n (stateOf t history)
-        (stateOf (afterBy v t (own i id c m)) (historyBy v history (own i id c m))) i id (answerBy v t (own i id c m))
-        (shownBy v n t m)
-    own-run v (stopped {r = r} o) = stopped-run (refuse r) o (λ e. refused r e)
-      where
-        refused : (r : Refusal) → refuse r ≡ pass → ⊥
-        refused r e = let z : _≡_ {A = ℕ} 0 1 = cc in omega arith
-    own-run v (both o f) = go pass refl o
-      where
-        go :
-            (v : Verdict) → v ≡ pass → Owns n (t .txids) i id v →
-            CreateTransactionSnapshot n (stateOf t history)
-            (stateOf (afterBy pass t (own i id c m)) (historyBy pass history (own i id c m))) i id
-            (answerBy pass t (own i id c m)) (shownBy pass n t m)
-        go v e (outside h) = absurd (let z : _≡_ {A = ℕ} 0 1 = cc in omega arith)
-        go v e (other h d) = absurd (let z : _≡_ {A = ℕ} 0 1 = cc in omega arith)
-        go v e (owned h z o) = taken-run h z o f
 
     pub create-transaction-snapshot-meets :
         Foreseen (refusal n t (own i id c m)) →
