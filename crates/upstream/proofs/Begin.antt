@@ -1,27 +1,25 @@
 -- L.begin_transaction: our begin meets upstream's contract where none of 4 to 8 is given.
-use Prim.Native.Nat.{ℕ, _+_, _<_, _≤_}
-use mathlib.Core.Path.{_≡_, refl, sym, _∙_}
-use mathlib.Core.Logic.{_≢_}
+use Prim.Native.Nat.{ℕ}
+use mathlib.Core.Path.{refl, sym, _∙_}
 use mathlib.Core.List.{List}
-use native.Mathlib.Nat.{le-trans, suc-ne-zero}
+use native.Mathlib.Nat.{suc-ne-zero}
 use native.Mathlib.Omega.{arith}
-use lib.ListN.{length, set}
 use Rattle.kinds.specs.declared.Stamp.{Stamp}
 use Rattle.kinds.specs.Refusals.{told}
 use Rattle.rules.specs.declared.Table.{Table}
 use Rattle.rules.specs.Tally.{lowestEmpty}
-use Rattle.rules.specs.Tests.{Verdict, pass, refuse}
+use Rattle.rules.specs.Tests.{Verdict}
 use Rattle.rules.specs.Calls.{begin, refusal, afterAccepted, afterRefused, afterBy, after, answerAccepted, answerBy, answer}
-use Rattle.upstream.specs.States.{slot, at, stateOf, stateAfter, historyBy, Shaped, Foreseen}
-use Rattle.upstream.specs.Relations.{WellFormed}
+use Rattle.upstream.specs.States.{stateOf, stateAfter, historyBy, Foreseen}
+use Rattle.upstream.specs.Relations.{Sound}
 use Rattle.upstream.specs.Clauses.{BeginTransaction}
 use Rattle.upstream.proofs.Pairs.{pairs-set}
 use Rattle.upstream.proofs.Places.{lowest-is-empty, below-lowest}
-use Rattle.upstream.proofs.Runs.{Fits, Begins, entered, full, begins}
+use Rattle.upstream.proofs.Runs.{Begins, entered, full, begins}
 use Rattle.upstream.proofs.Kept.{length-push}
-use Rattle.upstream.proofs.Moves.{slotsOf, txid-at, well-reserved, well-entered}
+use Rattle.upstream.proofs.Moves.{with-history, txid-at, well-reserved, well-entered}
 
-module _ (n : ℕ) (t : Table) (history : List ℕ) (k : Stamp) (s : Shaped n t) (w : WellFormed n (stateOf t history)) where
+module _ (n : ℕ) (t : Table) (history : List ℕ) (k : Stamp) (y : Sound n t) where
   by-run :
       (v : Verdict) → Begins n (t .txids) (t .clock) k v →
       BeginTransaction n (stateOf t history) (stateOf (afterBy v t (begin k)) (historyBy v history (begin k)))
@@ -29,7 +27,7 @@ module _ (n : ℕ) (t : Table) (history : List ℕ) (k : Stamp) (s : Shaped n t)
   unfolding afterAccepted afterRefused answerAccepted told
   by-run v (entered f room) =
       record {
-        l-begin-e1 = well-entered n t history w (lowestEmpty (t .txids)) (k .0) f;
+        l-begin-e1 = λ h. well-entered n t history (with-history n t history y h) (lowestEmpty (t .txids)) (k .0) f;
         l-begin-e3 = omega (arith, f .from-clock);
         l-begin-e4 = length-push history (k .0);
         l-begin-e5 =
@@ -37,7 +35,7 @@ module _ (n : ℕ) (t : Table) (history : List ℕ) (k : Stamp) (s : Shaped n t)
               l-begin-e5a = room;
               l-begin-e5b = f .from-clock;
               l-begin-e5c = refl;
-              l-begin-e5d = txid-at n t (lowestEmpty (t .txids)) s ∙ lowest-is-empty (t .txids);
+              l-begin-e5d = txid-at n t (lowestEmpty (t .txids)) (y .shape) ∙ lowest-is-empty (t .txids);
               l-begin-e5e = pairs-set (t .txids) (t .«snapshot_xmins») (lowestEmpty (t .txids)) (k .0) (k .0);
               i-begin-e2 = refl;
             };
@@ -46,7 +44,7 @@ module _ (n : ℕ) (t : Table) (history : List ℕ) (k : Stamp) (s : Shaped n t)
       }
   by-run v (full f taken) =
       record {
-        l-begin-e1 = well-reserved n t history w (k .0) f;
+        l-begin-e1 = λ h. well-reserved n t history (with-history n t history y h) (k .0) f;
         l-begin-e3 = omega (arith, f .from-clock);
         l-begin-e4 = length-push history (k .0);
         l-begin-e5 = λ e. absurd (suc-ne-zero _ e);
@@ -54,7 +52,7 @@ module _ (n : ℕ) (t : Table) (history : List ℕ) (k : Stamp) (s : Shaped n t)
             λ e. record {
               l-begin-e6a = refl;
               l-begin-e6b =
-                  λ i h z. below-lowest (t .txids) i (omega (arith, w .table .size)) (sym (txid-at n t i s) ∙ z);
+                  λ i h z. below-lowest (t .txids) i (omega (arith, y .table .size)) (sym (txid-at n t i (y .shape)) ∙ z);
               l-begin-e7a = f .from-clock;
               l-begin-e7b = refl;
               l-begin-e7c = refl;

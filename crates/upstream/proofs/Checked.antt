@@ -1,5 +1,5 @@
 -- L.checked_slot: our slot test meets upstream's contract, and names the kind of error.
-use Prim.Native.Nat.{ℕ, _<_, _≤_}
+use Prim.Native.Nat.{ℕ}
 use mathlib.Core.Path.{_≡_, refl}
 use mathlib.Core.Bool.{Bool, true, false}
 use native.Mathlib.Omega.{arith}
@@ -9,7 +9,7 @@ use Rattle.kinds.specs.Pick.{pick}
 use Rattle.kinds.specs.declared.SlotNo.{SlotNo}
 use Rattle.kinds.specs.declared.refusal.Refusal.{Refusal}
 use Rattle.kinds.specs.declared.refusal.Refusal.the-variants.{InvalidSlot}
-use Rattle.rules.specs.Tests.{Verdict, pass, refuse, slotTest}
+use Rattle.rules.specs.Tests.{pass, refuse, slotTest}
 use Rattle.upstream.specs.Clauses.{CheckedSlot}
 
 not-refused : {A : Type 0} (r : Refusal) → pass ≡ refuse r → A

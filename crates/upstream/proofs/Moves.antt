@@ -6,11 +6,11 @@ use mathlib.Core.List.{List}
 use native.Mathlib.Nat.{le-refl}
 use native.Mathlib.Decide.{decLt}
 use native.Mathlib.Omega.{arith}
-use lib.ListN.{length, getD, set}
+use lib.ListN.{getD, set}
 use Rattle.rules.specs.declared.Table.{Table}
 use Rattle.rules.specs.Tables.{withSlot, withXmin, withClock, observed}
 use Rattle.upstream.specs.States.{Slot, slot, at, pairs, push, stateOf, Shaped}
-use Rattle.upstream.specs.Relations.{Contains, TablePart, HistoryPart, WellFormed}
+use Rattle.upstream.specs.Relations.{Contains, HistoryOf, WellFormed, Sound}
 use Rattle.upstream.proofs.Pairs.{pairs-at, pairs-set, pairs-set-xmin}
 use Rattle.upstream.proofs.Runs.{Fits, Sees}
 use Rattle.upstream.proofs.Kept.{Stored, here, elsewhere, stored, fine-empty, fine-taken, table-clocks, table-set, contains-old, contains-last, history-same, history-push}
@@ -22,6 +22,20 @@ slotsOf t = pairs (t .txids) (t .«snapshot_xmins»)
 pub txid-at : (n : ℕ) (t : Table) (i : ℕ) → Shaped n t → at (slotsOf t) i .txid ≡ getD (t .txids) i 0
 txid-at n t i s =
     ap (λ (x : Slot). x .txid) (pairs-at (t .txids) (t .«snapshot_xmins») i (s .txids-size ∙ sym (s .xmins-size)))
+
+pub with-history :
+    (n : ℕ) (t : Table) (history : List ℕ) → Sound n t → HistoryOf (stateOf t history) → WellFormed n (stateOf t history)
+with-history n t history y h = record { table = y .table; history = h }
+
+-- two slots do not hold one txid
+pub held-once :
+    (n : ℕ) (t : Table) → Sound n t → (i j : ℕ) → j ≢ i → at (slotsOf t) i .txid ≢ 0 →
+    at (slotsOf t) j .txid ≢ at (slotsOf t) i .txid
+held-once n t y i j d z e = go (decLt i j)
+  where
+    go : Dec (i < j) → ⊥
+    go (yes h) = y .table .distinct i j h z (sym e)
+    go (no h) = y .table .distinct j i (omega arith) (λ q. z (sym e ∙ q)) e
 
 module _ (n : ℕ) (t : Table) (history : List ℕ) (w : WellFormed n (stateOf t history)) where
   pub well-reserved : (k : ℕ) → Fits (t .clock) k → WellFormed n (stateOf (withClock (k + 1) t) (push history k))
@@ -90,14 +104,6 @@ module _ (n : ℕ) (t : Table) (history : List ℕ) (w : WellFormed n (stateOf t
       had j (here e q) z = rw q (contains-last history k)
       had j (elsewhere e q) z = rw q (contains-old history k _ (w .history .registered j (rw q at z)))
 
-  -- two slots do not hold one txid
-  pub held-once : (i j : ℕ) → j ≢ i → at (slotsOf t) i .txid ≢ 0 → at (slotsOf t) j .txid ≢ at (slotsOf t) i .txid
-  held-once i j d z e = go (decLt i j)
-    where
-      go : Dec (i < j) → ⊥
-      go (yes h) = w .table .distinct i j h z (sym e)
-      go (no h) = w .table .distinct j i (omega arith) (λ q. z (sym e ∙ q)) e
-
   pub well-marked :
       (i x : ℕ) → Shaped n t → getD (t .txids) i 0 ≢ 0 → 0 < x → x ≤ getD (t .txids) i 0 →
       WellFormed n (stateOf (withXmin i x t) history)
@@ -120,7 +126,7 @@ module _ (n : ℕ) (t : Table) (history : List ℕ) (w : WellFormed n (stateOf t
       taken e = z (sym txid-i ∙ e)
 
       apart : (j : ℕ) → j ≢ i → getD (t .txids) i 0 ≢ 0 → at (slotsOf t) j .txid ≢ getD (t .txids) i 0
-      apart j d y e = held-once i j d taken (e ∙ sym txid-i)
+      apart j d y e = held-once n t (record { shape = s; table = w .table }) i j d taken (e ∙ sym txid-i)
 
       had :
           (j : ℕ) → Stored (slotsOf t) i (slot (getD (t .txids) i 0) x) j →

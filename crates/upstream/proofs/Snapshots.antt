@@ -6,7 +6,7 @@ use mathlib.Core.Bool.{Bool, true, false}
 use mathlib.Core.List.{List, [], _∷_}
 use native.Mathlib.Nat.{suc-ne-zero, le-trans, le-refl}
 use native.Mathlib.Omega.{arith}
-use lib.Dec.{eqb, ltb}
+use lib.Dec.{ltb}
 use lib.ListN.{length, getD, set, take, length-set, replicate}
 use lib.Seq.{take-append-seam}
 use borrow.Author.Tests.{ltb-true, ltb-false, ne-eqb}
@@ -14,22 +14,21 @@ use Rattle.kinds.specs.Pick.{pick}
 use Rattle.kinds.specs.Kinds.{top}
 use Rattle.kinds.specs.declared.SlotNo.{SlotNo}
 use Rattle.kinds.specs.declared.Txid.{Txid}
-use Rattle.kinds.specs.declared.refusal.Refusal.{Refusal}
 use Rattle.kinds.specs.Refusals.{told}
 use Rattle.rules.specs.declared.Table.{Table}
-use Rattle.rules.specs.Tally.{active as ours, minimum, maximum, xminOf, xmaxOf, places, snapshotOf}
-use Rattle.rules.specs.Tables.{withXmin, observed}
-use Rattle.rules.specs.Tests.{Verdict, pass, refuse, observationTest}
+use Rattle.rules.specs.Tally.{active as ours, minimum, maximum, xmaxOf, places, snapshotOf}
+use Rattle.rules.specs.Tables.{observed}
+use Rattle.rules.specs.Tests.{Verdict, pass, observationTest}
 use Rattle.rules.specs.Calls.{snap, own, refusal, afterAccepted, afterRefused, afterBy, after, answerAccepted, answerBy, answer, shownBy, shown}
-use Rattle.upstream.specs.States.{Slot, State, slot, at, pairs, stateOf, stateAfter, historyBy, Shaped, Foreseen}
+use Rattle.upstream.specs.States.{Slot, slot, at, pairs, stateOf, stateAfter, historyBy, Foreseen}
 use Rattle.upstream.specs.Tallies.{«maximum_active»}
-use Rattle.upstream.specs.Relations.{WellFormed, Coherent}
+use Rattle.upstream.specs.Relations.{HistoryOf, WellFormed, Sound, Coherent}
 use Rattle.upstream.specs.Clauses.{SnapshotLocked, CreateSnapshot, CreateTransactionSnapshot}
 use Rattle.upstream.proofs.Pairs.{pairs-length, pairs-set-xmin}
 use Rattle.upstream.proofs.Tallies.{active-same, minimum-same, maximum-same}
 use Rattle.upstream.proofs.Places.{minimum-low, minimum-positive}
 use Rattle.upstream.proofs.Runs.{Sees, Observes, seen, observes, observes-pass, Owns, outside, other, owned, owns-then}
-use Rattle.upstream.proofs.Moves.{slotsOf, txid-at, well-observed, well-marked}
+use Rattle.upstream.proofs.Moves.{with-history, slotsOf, txid-at, well-observed, well-marked}
 
 -- the largest txid is below a clock that every txid is below
 maximum-below :
@@ -87,14 +86,44 @@ module _ (n : ℕ) (xs ys : List ℕ) (p : length xs ≡ n) (q : length ys ≡ n
       seam : take (length (ours xs)) (places n (ours xs)) ≡ ours xs
       seam = take-append-seam (ours xs) (replicate (n - length (ours xs)) 0)
 
+-- E1 of the transaction snapshot alone, which needs no bound on the clock
+module _ (n : ℕ) (t : Table) (history : List ℕ) (y : Sound n t) (i : SlotNo) (id : Txid) (c m : ℕ) where
+  own-well :
+      (v : Verdict) → Owns n (t .txids) i id (Sees (t .clock) c m) v → HistoryOf (stateOf t history) →
+      WellFormed n (stateOf (afterBy v t (own i id c m)) (historyBy v history (own i id c m)))
+  unfolding afterAccepted afterRefused
+  own-well v (outside h) p = with-history n t history y p
+  own-well v (other h d) p = with-history n t history y p
+  own-well v (owned h z o f) p =
+      well-marked n (observed c m t) history (well-observed n t history (with-history n t history y p) c m f)
+      (i .0) (minimum m (ours (t .txids)))
+      (record { txids-size = y .shape .txids-size; xmins-size = y .shape .xmins-size }) taken
+      (minimum-positive (t .txids) m (f .positive)) (minimum-low (t .txids) m (i .0) taken)
+    where
+      taken : getD (t .txids) (i .0) 0 ≢ 0
+      taken e = z (sym o ∙ e)
+
+  own-goes :
+      Foreseen (refusal n t (own i id c m)) →
+      Owns n (t .txids) i id (Sees (t .clock) c m) (refusal n t (own i id c m))
+  unfolding refusal
+  own-goes f =
+      owns-then n (t .txids) i id (observationTest (t .clock) c m) (Sees (t .clock) c m) (observes-pass (t .clock) c m) f
+
+  pub own-keeps :
+      Foreseen (refusal n t (own i id c m)) → HistoryOf (stateOf t history) →
+      WellFormed n (stateAfter n t history (own i id c m))
+  unfolding after
+  own-keeps f = own-well (refusal n t (own i id c m)) (own-goes f)
+
 module _
-    (n : ℕ) (t : Table) (history : List ℕ) (s : Shaped n t) (w : WellFormed n (stateOf t history)) (u : t .clock ≤ top) where
+    (n : ℕ) (t : Table) (history : List ℕ) (y : Sound n t) (u : t .clock ≤ top) where
   -- no txid of the table reaches 2^64 − 1
   held : maximum 0 (ours (t .txids)) + 1 ≤ top
   held =
-      let e = maximum-same (t .txids) (t .«snapshot_xmins») (s .txids-size ∙ sym (s .xmins-size)) in
-      let c : 0 < t .clock = le-trans (w .table .sample-positive) (w .table .sample-within) in
-      let b = maximum-below (slotsOf t) (t .clock) (length (t .txids)) (w .table .txid-below) c in
+      let e = maximum-same (t .txids) (t .«snapshot_xmins») (y .shape .txids-size ∙ sym (y .shape .xmins-size)) in
+      let c : 0 < t .clock = le-trans (y .table .sample-positive) (y .table .sample-within) in
+      let b = maximum-below (slotsOf t) (t .clock) (length (t .txids)) (y .table .txid-below) c in
       omega arith
 
   module _ (c m : ℕ) where
@@ -105,7 +134,7 @@ module _
     unfolding afterAccepted
     locked-run v (seen f) =
         record {
-          l-snapshot-locked-e1 = well-observed n t history w c m f;
+          l-snapshot-locked-e1 = λ h. well-observed n t history (with-history n t history y h) c m f;
           l-snapshot-locked-e2 =
               record {
                 slots = refl;
@@ -115,7 +144,7 @@ module _
                 sample-within = f .within;
               };
           l-snapshot-locked-e3 =
-              coherent n (t .txids) (t .«snapshot_xmins») (s .txids-size) (s .xmins-size) c m history (f .positive) held;
+              coherent n (t .txids) (t .«snapshot_xmins») (y .shape .txids-size) (y .shape .xmins-size) c m history (f .positive) held;
         }
 
     pub snapshot-locked-meets :
@@ -146,7 +175,7 @@ module _
     unfolding afterAccepted afterRefused answerAccepted told snapshotOf
     own-run v (outside h) =
         record {
-          l-own-e1 = w;
+          l-own-e1 = with-history n t history y;
           l-own-e3 = refl;
           l-own-e4 = le-refl _;
           l-own-e5 = λ e. absurd (suc-ne-zero _ e);
@@ -155,45 +184,38 @@ module _
         }
     own-run v (other h d) =
         record {
-          l-own-e1 = w;
+          l-own-e1 = with-history n t history y;
           l-own-e3 = refl;
           l-own-e4 = le-refl _;
           l-own-e5 = λ e. absurd (suc-ne-zero _ e);
           l-own-e6 = λ e. refl;
-          l-own-e7 = λ g e. absurd (d (sym (txid-at n t (i .0) s) ∙ e));
+          l-own-e7 = λ g e. absurd (d (sym (txid-at n t (i .0) (y .shape)) ∙ e));
         }
     own-run v (owned h z o f) =
         record {
-          l-own-e1 =
-              well-marked n (observed c m t) history (well-observed n t history w c m f) (i .0)
-              (minimum m (ours (t .txids))) (record { txids-size = s .txids-size; xmins-size = s .xmins-size }) taken
-              (minimum-positive (t .txids) m (f .positive)) (minimum-low (t .txids) m (i .0) taken);
+          l-own-e1 = own-well n t history y i id c m pass (owned h z o f);
           l-own-e3 = refl;
           l-own-e4 = f .onward;
           l-own-e5 =
               λ e. record {
                 l-own-e5a = h;
-                l-own-e5b = txid-at n t (i .0) s ∙ o;
+                l-own-e5b = txid-at n t (i .0) (y .shape) ∙ o;
                 l-own-e5c =
-                    coherent n (t .txids) (set (t .«snapshot_xmins») (i .0) (minimum m (ours (t .txids)))) (s .txids-size)
-                    (length-set (t .«snapshot_xmins») (i .0) _ ∙ s .xmins-size) c m history (f .positive) held;
+                    coherent n (t .txids) (set (t .«snapshot_xmins») (i .0) (minimum m (ours (t .txids)))) (y .shape .txids-size)
+                    (length-set (t .«snapshot_xmins») (i .0) _ ∙ y .shape .xmins-size) c m history (f .positive) held;
                 l-own-e5d =
                     pairs-set-xmin (t .txids) (t .«snapshot_xmins») (i .0) (minimum m (ours (t .txids)))
                     ∙ ap (λ (x : ℕ). set (slotsOf t) (i .0) (slot x (minimum m (ours (t .txids)))))
-                    (sym (txid-at n t (i .0) s));
+                    (sym (txid-at n t (i .0) (y .shape)));
               };
           l-own-e6 = λ e. absurd (e refl);
           l-own-e7 = λ g e. refl;
         }
-      where
-        taken : getD (t .txids) (i .0) 0 ≢ 0
-        taken e = z (sym o ∙ e)
 
     pub create-transaction-snapshot-meets :
         Foreseen (refusal n t (own i id c m)) →
         CreateTransactionSnapshot n (stateOf t history) (stateAfter n t history (own i id c m)) i id
         (answer n t (own i id c m)) (shown n t (own i id c m) m)
-    unfolding refusal after answer shown
+    unfolding after answer shown
     create-transaction-snapshot-meets f =
-        own-run (refusal n t (own i id c m))
-        (owns-then n (t .txids) i id (observationTest (t .clock) c m) (Sees (t .clock) c m) (observes-pass (t .clock) c m) f)
+        own-run (refusal n t (own i id c m)) (own-goes n t history y i id c m f)

@@ -1,6 +1,6 @@
 -- Upstream's tallies, which read the slots from the last one back, are ours, which read them from the first one on. Over any number of slots.
-use Prim.Native.Nat.{ℕ, zero, suc, _+_, _<_, _≤_, min, max}
-use mathlib.Core.Path.{_≡_, refl, sym, ap, _∙_}
+use Prim.Native.Nat.{ℕ, zero, suc, min, max}
+use mathlib.Core.Path.{_≡_, refl, ap, _∙_}
 use mathlib.Core.Bool.{Bool, true, false}
 use mathlib.Core.List.{List, [], _∷_}
 use native.Mathlib.Nat.{suc-ne-zero, suc-inj}

@@ -1,11 +1,10 @@
 -- A yes of the table check gives what well_formed says of slots and clocks, and the shape of the table.
-use Prim.Native.Nat.{ℕ, zero, suc, _<_, _≤_}
+use Prim.Native.Nat.{ℕ, zero, suc, _<_}
 use mathlib.Core.Path.{_≡_, refl, sym, ap, _∙_}
 use mathlib.Core.Logic.{_≢_}
 use mathlib.Core.Bool.{Bool, true, false, _&&_, _||_, not, true≢false, false≢true}
 use mathlib.Core.List.{List, [], _∷_}
 use native.Mathlib.Nat.{le-of-suc-le-suc, not-suc-le-zero}
-use native.Mathlib.Omega.{arith}
 use lib.Dec.{eqb, ltb, leb}
 use lib.ListN.{length, getD}
 use borrow.Author.Tests.{ltb-true, leb-true, eqb-true, eq-eqb, ne-eqb}
@@ -13,8 +12,8 @@ use Rattle.kinds.specs.Pick.{pick}
 use Rattle.settled.specs.Settled.{listed}
 use Rattle.rules.specs.declared.Table.{Table}
 use Rattle.rules.specs.Check.{slotPasses, slotsPass, differ, passes, tablePasses}
-use Rattle.upstream.specs.States.{Slot, slot, at, pairs, stateOf, Shaped}
-use Rattle.upstream.specs.Relations.{TablePart, HistoryPart, WellFormed}
+use Rattle.upstream.specs.States.{Slot, slot, at, pairs, stateOf}
+use Rattle.upstream.specs.Relations.{HistoryOf, WellFormed, Sound}
 use Rattle.upstream.proofs.Pairs.{pairs-length, pairs-at}
 use Rattle.upstream.proofs.Kept.{SlotFine, fine-empty, fine-taken}
 
@@ -83,11 +82,7 @@ differ-apart (x ∷ xs) e (suc i) (suc j) h z w =
     differ-apart xs (and-true (eqb x 0 || not (listed x xs)) (differ xs) e .1) i j (le-of-suc-le-suc h) z w
 
 -- the whole
-pub record FromYes (n : ℕ) (t : Table) : Type 0 where
-  pub shape : Shaped n t
-  pub table : TablePart n (pairs (t .txids) (t .«snapshot_xmins»)) (t .clock) (t .«sampled_clock»)
-
-pub from-yes : (n : ℕ) (t : Table) → tablePasses n t ≡ true → FromYes n t
+pub from-yes : (n : ℕ) (t : Table) → tablePasses n t ≡ true → Sound n t
 unfolding passes
 from-yes n t e =
     let (k, r) = and-true _ (slotsPass (t .clock) (t .line) (t .txids) (t .«snapshot_xmins») && differ (t .txids)) e in
@@ -128,5 +123,5 @@ from-yes n t e =
 -- with a history that fits the table, upstream's well_formed
 pub well-formed-from-yes :
     (n : ℕ) (t : Table) (history : List ℕ) → tablePasses n t ≡ true →
-    HistoryPart (pairs (t .txids) (t .«snapshot_xmins»)) (t .clock) history → WellFormed n (stateOf t history)
+    HistoryOf (stateOf t history) → WellFormed n (stateOf t history)
 well-formed-from-yes n t history e p = record { table = from-yes n t e .table; history = p }

@@ -1,4 +1,4 @@
--- The ensures of upstream's nine functions, by the ids of docs/CONTRACTS.md. `number` 0 is Ok, 1 to 3 are upstream's errors. The flag is left out.
+-- The ensures of upstream's nine functions, by the ids of docs/CONTRACTS.md. `number` 0 is Ok, 1 to 3 are upstream's errors. The flag is left out. Where a clause needs the history, the field asks for it.
 use Prim.Native.Nat.{ℕ, _+_, _<_, _≤_}
 use mathlib.Core.Path.{_≡_}
 use mathlib.Core.Logic.{_≢_}
@@ -16,7 +16,7 @@ use Rattle.rules.specs.Tests.{Verdict, pass, refuse}
 use Rattle.rules.specs.Calls.{Answer, values, answerTold}
 use Rattle.upstream.specs.States.{State, slot, at, push}
 use Rattle.upstream.specs.Tallies.{«minimum_retention»}
-use Rattle.upstream.specs.Relations.{Contains, WellFormed, Coherent, Observation, Reservation}
+use Rattle.upstream.specs.Relations.{Contains, HistoryOf, WellFormed, Coherent, Observation, Reservation}
 
 -- L:153-155; the last field is ours: upstream leaves the kind of error open
 pub record CheckedSlot (n : ℕ) (given : SlotNo) (result : Verdict) : Type 0 where
@@ -43,7 +43,7 @@ pub record BeginErr (old new : State) (result : Answer) : Type 0 where
   pub begin-refused-clock : new .clock ≡ result .id + 1
 
 pub record BeginTransaction (n : ℕ) (old new : State) (result : Answer) : Type 0 where
-  pub l-begin-e1 : WellFormed n new
+  pub l-begin-e1 : HistoryOf old → WellFormed n new
   pub l-begin-e3 : old .clock < new .clock
   pub l-begin-e4 : length (new .reservations) ≡ length (old .reservations) + 1
   pub l-begin-e5 : result .number ≡ 0 → BeginOk n old new result
@@ -64,7 +64,7 @@ endResult n old given id =
     (answerTold (told (SlotOwnershipMismatch given id (record { 0 = at (old .slots) (given .0) .txid })))))
 
 pub record EndTransaction (n : ℕ) (old new : State) (given : SlotNo) (id : Txid) (result : Answer) : Type 0 where
-  pub l-end-e1 : WellFormed n new
+  pub l-end-e1 : HistoryOf old → WellFormed n new
   pub l-end-e3 : new .clock ≡ old .clock
   pub l-end-e4 : new .«sampled_clock» ≡ old .«sampled_clock»
   pub l-end-e5 : new .reservations ≡ old .reservations
@@ -74,13 +74,13 @@ pub record EndTransaction (n : ℕ) (old new : State) (given : SlotNo) (id : Txi
 
 -- L:260-261
 pub record SnapshotLocked (n : ℕ) (old new : State) (snapshot : Snapshot) : Type 0 where
-  pub l-snapshot-locked-e1 : WellFormed n new
+  pub l-snapshot-locked-e1 : HistoryOf old → WellFormed n new
   pub l-snapshot-locked-e2 : Observation old new
   pub l-snapshot-locked-e3 : Coherent new snapshot
 
 -- L:307-311
 pub record CreateSnapshot (n : ℕ) (old new : State) (snapshot : Snapshot) : Type 0 where
-  pub l-create-snapshot-e1 : WellFormed n new
+  pub l-create-snapshot-e1 : HistoryOf old → WellFormed n new
   pub l-create-snapshot-e3 : new .slots ≡ old .slots
   pub l-create-snapshot-e4 : new .reservations ≡ old .reservations
   pub l-create-snapshot-e5 : old .clock ≤ new .clock
@@ -97,7 +97,7 @@ pub record OwnOk (n : ℕ) (old new : State) (given : SlotNo) (id : Txid) (snaps
 -- L:320-333; E7 is both ways, and the other way is E5 a and b
 pub record CreateTransactionSnapshot
     (n : ℕ) (old new : State) (given : SlotNo) (id : Txid) (result : Answer) (snapshot : Snapshot) : Type 0 where
-  pub l-own-e1 : WellFormed n new
+  pub l-own-e1 : HistoryOf old → WellFormed n new
   pub l-own-e3 : new .reservations ≡ old .reservations
   pub l-own-e4 : old .clock ≤ new .clock
   pub l-own-e5 : result .number ≡ 0 → OwnOk n old new given id snapshot
@@ -106,7 +106,7 @@ pub record CreateTransactionSnapshot
 
 -- L:351-355
 pub record OldestSnapshotXmin (n : ℕ) (old new : State) (result : Answer) : Type 0 where
-  pub l-oldest-e1 : WellFormed n new
+  pub l-oldest-e1 : HistoryOf old → WellFormed n new
   pub l-oldest-e3 : new .slots ≡ old .slots
   pub l-oldest-e4 : new .reservations ≡ old .reservations
   pub l-oldest-e5 : old .clock ≤ new .clock
@@ -114,17 +114,17 @@ pub record OldestSnapshotXmin (n : ℕ) (old new : State) (result : Answer) : Ty
 
 -- L:385
 pub record ReservePublicationClock (n : ℕ) (old new : State) (result : Answer) : Type 0 where
-  pub l-stamp-e1 : WellFormed n new
+  pub l-stamp-e1 : HistoryOf old → WellFormed n new
   pub l-stamp-e2 : Reservation old new (result .id)
 
 -- L:402-405
 pub record FinishOk (old new : State) (id : Txid) (result : Answer) : Type 0 where
-  pub l-finish-e3 : (reader : ℕ) → Contains (old .reservations) reader → reader < result .id
+  pub l-finish-e3 : HistoryOf old → (reader : ℕ) → Contains (old .reservations) reader → reader < result .id
   pub l-finish-e4 : new .reservations ≡ push (old .reservations) (result .id)
   pub l-finish-e5 : (i : ℕ) → i < length (new .slots) → at (new .slots) i .txid ≢ id .0
 
 -- L:401-406
 pub record DeregisterThenReserve (n : ℕ) (old new : State) (id : Txid) (result : Answer) : Type 0 where
-  pub l-finish-e1 : WellFormed n new
+  pub l-finish-e1 : HistoryOf old → WellFormed n new
   pub l-finish-e345 : result .number ≡ 0 → FinishOk old new id result
   pub l-finish-e6 : result .number ≢ 0 → new .reservations ≡ old .reservations

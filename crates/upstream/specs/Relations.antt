@@ -8,7 +8,8 @@ use lib.ListN.{length, getD, take}
 use Rattle.kinds.specs.Pick.{pick}
 use Rattle.kinds.specs.Kinds.{top}
 use Rattle.settled.specs.declared.Snapshot.{Snapshot}
-use Rattle.upstream.specs.States.{Slot, State, at, push}
+use Rattle.rules.specs.declared.Table.{Table}
+use Rattle.upstream.specs.States.{Slot, State, at, pairs, push, Shaped}
 use Rattle.upstream.specs.Tallies.{active, «minimum_active», «maximum_active»}
 
 -- `contains`: x stands at some place of the list
@@ -35,9 +36,17 @@ pub record HistoryPart (slots : List Slot) (clock : ℕ) (ids : List ℕ) : Type
   pub below : (i : ℕ) → i < length ids → getD ids i 0 < clock
   pub registered : (i : ℕ) → at slots i .txid ≢ 0 → Contains ids (at slots i .txid)
 
+abbrev pub HistoryOf : State → Type 0
+HistoryOf s = HistoryPart (s .slots) (s .clock) (s .reservations)
+
 pub record WellFormed (n : ℕ) (s : State) : Type 0 where
   pub table : TablePart n (s .slots) (s .clock) (s .«sampled_clock»)
-  pub history : HistoryPart (s .slots) (s .clock) (s .reservations)
+  pub history : HistoryOf s
+
+-- what a yes of the table check gives: the shape, and well_formed but for the history
+pub record Sound (n : ℕ) (t : Table) : Type 0 where
+  pub shape : Shaped n t
+  pub table : TablePart n (pairs (t .txids) (t .«snapshot_xmins»)) (t .clock) (t .«sampled_clock»)
 
 -- `coherent_snapshot`: in_flight is the first count places of ours. Xmax adds 1 and holds nothing
 pub record Coherent (s : State) (snapshot : Snapshot) : Type 0 where

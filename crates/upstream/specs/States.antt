@@ -3,12 +3,10 @@ use Prim.Native.Nat.{ℕ}
 use mathlib.Core.List.{List, [], _∷_, _++_}
 use mathlib.Core.Path.{_≡_}
 use lib.ListN.{length, getD}
-use Rattle.kinds.specs.declared.Stamp.{Stamp}
-use Rattle.kinds.specs.declared.SlotNo.{SlotNo}
-use Rattle.kinds.specs.declared.Txid.{Txid}
 use Rattle.kinds.specs.declared.refusal.Refusal.{Refusal}
 use Rattle.kinds.specs.declared.refusal.Refusal.the-variants.{NoFreeSlot, InvalidSlot, SlotOwnershipMismatch, ZeroTxid, ClockExhausted, BadReservation, BadClock, BadSample, BadTrace, BadSnapshot}
 use Rattle.rules.specs.declared.Table.{Table}
+use Rattle.rules.specs.Tables.{freshTable}
 use Rattle.rules.specs.Tests.{Verdict, pass, refuse}
 use Rattle.rules.specs.Calls.{Call, begin, end, snap, own, oldest, vacuum, stamp, finish, refusal, after}
 
@@ -84,6 +82,13 @@ historyBy (refuse r) history c = historyRefused history r
 -- upstream's state after one of our calls
 abbrev pub stateAfter : ℕ → Table → List ℕ → Call → State
 stateAfter n t history c = stateOf (after n t c) (historyBy (refusal n t c) history c)
+
+-- the tables and histories that calls lead to from fresh
+pub data Reached (n : ℕ) : Table → List ℕ → Type 0 where
+  fresh : Reached n (freshTable n) []
+  on :
+      {t : Table} {history : List ℕ} → Reached n t history → (c : Call) →
+      Reached n (after n t c) (historyBy (refusal n t c) history c)
 
 -- upstream's outcomes: accepted, or one of its three errors; none of refusals 4 to 8
 abbrev pub Foreseen : Verdict → Type 0

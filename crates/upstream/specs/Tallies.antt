@@ -1,6 +1,6 @@
 -- Upstream's tallies (L:55-87), by recursion on the number of slots read, as upstream defines them.
 use Prim.Native.Nat.{ℕ, zero, suc}
-use mathlib.Core.List.{List, [], _∷_}
+use mathlib.Core.List.{List, []}
 use mathlib.Core.Bool.{Bool, true, false}
 use lib.Dec.{eqb, ltb}
 use Rattle.kinds.specs.Pick.{pick}
