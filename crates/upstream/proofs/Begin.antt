@@ -12,7 +12,7 @@ use Rattle.rules.specs.Tests.{Verdict}
 use Rattle.rules.specs.Calls.{begin, refusal, afterAccepted, afterRefused, afterBy, after, answerAccepted, answerBy, answer}
 use Rattle.upstream.specs.States.{stateOf, stateAfter, historyBy, Foreseen}
 use Rattle.upstream.specs.Relations.{Sound}
-use Rattle.upstream.specs.Clauses.{BeginTransaction}
+use Rattle.upstream.specs.Clauses.{BeginTransaction, BeginAcquired}
 use Rattle.upstream.proofs.Pairs.{pairs-set}
 use Rattle.upstream.proofs.Places.{lowest-is-empty, below-lowest}
 use Rattle.upstream.proofs.Runs.{Begins, entered, full, begins}
@@ -37,10 +37,8 @@ module _ (n : ℕ) (t : Table) (history : List ℕ) (k : Stamp) (y : Sound n t) 
               l-begin-e5c = refl;
               l-begin-e5d = txid-at n t (lowestEmpty (t .txids)) (y .shape) ∙ lowest-is-empty (t .txids);
               l-begin-e5e = pairs-set (t .txids) (t .«snapshot_xmins») (lowestEmpty (t .txids)) (k .0) (k .0);
-              i-begin-e2 = refl;
             };
         l-begin-e67 = λ e. absurd (e refl);
-        i-begin-e1 = refl;
       }
   by-run v (full f taken) =
       record {
@@ -56,9 +54,7 @@ module _ (n : ℕ) (t : Table) (history : List ℕ) (k : Stamp) (y : Sound n t) 
               l-begin-e7a = f .from-clock;
               l-begin-e7b = refl;
               l-begin-e7c = refl;
-              begin-refused-clock = refl;
             };
-        i-begin-e1 = refl;
       }
 
   pub begin-meets :
@@ -66,3 +62,17 @@ module _ (n : ℕ) (t : Table) (history : List ℕ) (k : Stamp) (y : Sound n t) 
       BeginTransaction n (stateOf t history) (stateAfter n t history (begin k)) (answer n t (begin k))
   unfolding refusal after answer
   begin-meets f = by-run (refusal n t (begin k)) (begins n (t .txids) (t .clock) k f)
+
+  acquired-run :
+      (v : Verdict) → Begins n (t .txids) (t .clock) k v →
+      BeginAcquired (stateOf t history) (stateOf (afterBy v t (begin k)) (historyBy v history (begin k)))
+      (answerBy v t (begin k))
+  unfolding afterAccepted afterRefused answerAccepted told
+  acquired-run v (entered f room) = record { i-begin-e1 = refl; i-begin-e2 = refl }
+  acquired-run v (full f taken) = record { i-begin-e1 = refl; i-begin-e2 = refl }
+
+  pub begin-acquired-meets :
+      Foreseen (refusal n t (begin k)) →
+      BeginAcquired (stateOf t history) (stateAfter n t history (begin k)) (answer n t (begin k))
+  unfolding refusal after answer
+  begin-acquired-meets f = acquired-run (refusal n t (begin k)) (begins n (t .txids) (t .clock) k f)

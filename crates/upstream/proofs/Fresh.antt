@@ -28,7 +28,7 @@ zeros-at zero i = refl
 zeros-at (suc n) zero = refl
 zeros-at (suc n) (suc i) = zeros-at n i
 
-fresh-at : (n i : ℕ) → at (pairs (replicate n 0) (replicate n 0)) i ≡ slot 0 0
+pub fresh-at : (n i : ℕ) → at (pairs (replicate n 0) (replicate n 0)) i ≡ slot 0 0
 fresh-at n i = pairs-at (replicate n 0) (replicate n 0) i refl ∙ rw (zeros-at n i)
 
 pub fresh-shaped : (n : ℕ) → Shaped n (freshTable n)

@@ -14,12 +14,12 @@ use Rattle.upstream.proofs.Moves.{with-history, well-observed}
 
 module _
     (n : ℕ) (t : Table) (history : List ℕ) (c m : ℕ) (y : Sound n t) where
-  by-run :
+  pub oldest-run :
       (v : Verdict) → Observes (t .clock) c m v →
       OldestSnapshotXmin n (stateOf t history) (stateOf (afterBy v t (oldest c m)) (historyBy v history (oldest c m)))
       (answerBy v t (oldest c m))
   unfolding afterAccepted answerAccepted
-  by-run v (seen f) =
+  oldest-run v (seen f) =
       record {
         l-oldest-e1 = λ h. well-observed n t history (with-history n t history y h) c m f;
         l-oldest-e3 = refl;
@@ -34,4 +34,4 @@ module _
       Foreseen (refusal n t (oldest c m)) →
       OldestSnapshotXmin n (stateOf t history) (stateAfter n t history (oldest c m)) (answer n t (oldest c m))
   unfolding refusal after answer
-  oldest-meets f = by-run (refusal n t (oldest c m)) (observes (t .clock) c m f)
+  oldest-meets f = oldest-run (refusal n t (oldest c m)) (observes (t .clock) c m f)

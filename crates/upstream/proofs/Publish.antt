@@ -65,7 +65,7 @@ module _ (n : ℕ) (t : Table) (history : List ℕ) (y : Sound n t) where
             held-once n t y (i .0) j (e (rw (y .table .size) h)) (λ y. z (sym mine ∙ y))
             (sym (ap (λ (a : Slot). a .txid) q) ∙ x ∙ sym mine)
 
-    above :
+    pub above :
         Fits (t .clock) (k .0) → HistoryOf (stateOf t history) → (reader : ℕ) → Contains history reader → reader < k .0
     above f p reader c =
         let b = rw (c .there) at (p .below (c .place) (c .inside)) in

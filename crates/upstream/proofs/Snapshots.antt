@@ -20,7 +20,8 @@ use Rattle.rules.specs.Tally.{active as ours, minimum, maximum, xmaxOf, places,
 use Rattle.rules.specs.Tables.{observed}
 use Rattle.rules.specs.Tests.{Verdict, pass, observationTest}
 use Rattle.rules.specs.Calls.{snap, own, refusal, afterAccepted, afterRefused, afterBy, after, answerAccepted, answerBy, answer, shownBy, shown}
-use Rattle.upstream.specs.States.{Slot, slot, at, pairs, stateOf, stateAfter, historyBy, Foreseen}
+use Rattle.settled.specs.declared.Snapshot.{Snapshot}
+use Rattle.upstream.specs.States.{Slot, State, slot, at, pairs, stateOf, stateAfter, historyBy, Foreseen}
 use Rattle.upstream.specs.Tallies.{«maximum_active»}
 use Rattle.upstream.specs.Relations.{HistoryOf, WellFormed, Sound, Coherent}
 use Rattle.upstream.specs.Clauses.{SnapshotLocked, CreateSnapshot, CreateTransactionSnapshot}
@@ -86,6 +87,18 @@ module _ (n : ℕ) (xs ys : List ℕ) (p : length xs ≡ n) (q : length ys ≡ n
       seam : take (length (ours xs)) (places n (ours xs)) ≡ ours xs
       seam = take-append-seam (ours xs) (replicate (n - length (ours xs)) 0)
 
+-- create_snapshot promises no more than snapshot_locked
+pub create-from-locked :
+    (n : ℕ) (old new : State) (snapshot : Snapshot) → SnapshotLocked n old new snapshot → CreateSnapshot n old new snapshot
+create-from-locked n old new snapshot r =
+    record {
+      l-create-snapshot-e1 = r .l-snapshot-locked-e1;
+      l-create-snapshot-e3 = r .l-snapshot-locked-e2 .slots;
+      l-create-snapshot-e4 = r .l-snapshot-locked-e2 .reservations;
+      l-create-snapshot-e5 = r .l-snapshot-locked-e2 .clock;
+      l-create-snapshot-e6 = r .l-snapshot-locked-e3;
+    }
+
 -- E1 of the transaction snapshot alone, which needs no bound on the clock
 module _ (n : ℕ) (t : Table) (history : List ℕ) (y : Sound n t) (i : SlotNo) (id : Txid) (c m : ℕ) where
   own-well :
@@ -127,7 +140,7 @@ module _
       omega arith
 
   module _ (c m : ℕ) where
-    locked-run :
+    pub locked-run :
         (v : Verdict) → Observes (t .clock) c m v →
         SnapshotLocked n (stateOf t history) (stateOf (afterBy v t (snap c m)) (historyBy v history (snap c m)))
         (shownBy v n t m)
@@ -156,15 +169,7 @@ module _
     pub create-snapshot-meets :
         Foreseen (refusal n t (snap c m)) →
         CreateSnapshot n (stateOf t history) (stateAfter n t history (snap c m)) (shown n t (snap c m) m)
-    create-snapshot-meets f =
-        let r = snapshot-locked-meets f in
-        record {
-          l-create-snapshot-e1 = r .l-snapshot-locked-e1;
-          l-create-snapshot-e3 = r .l-snapshot-locked-e2 .slots;
-          l-create-snapshot-e4 = r .l-snapshot-locked-e2 .reservations;
-          l-create-snapshot-e5 = r .l-snapshot-locked-e2 .clock;
-          l-create-snapshot-e6 = r .l-snapshot-locked-e3;
-        }
+    create-snapshot-meets f = create-from-locked n _ _ _ (snapshot-locked-meets f)
 
   module _ (i : SlotNo) (id : Txid) (c m : ℕ) where
     own-run :

@@ -18,29 +18,26 @@ use Rattle.upstream.specs.States.{State, slot, at, push}
 use Rattle.upstream.specs.Tallies.{«minimum_retention»}
 use Rattle.upstream.specs.Relations.{Contains, HistoryOf, WellFormed, Coherent, Observation, Reservation}
 
--- L:153-155; the last field is ours: upstream leaves the kind of error open
+-- L:153-155
 pub record CheckedSlot (n : ℕ) (given : SlotNo) (result : Verdict) : Type 0 where
   pub l-checked-slot-e1 : result ≡ pass → given .0 < n
   pub l-checked-slot-e2 : (r : Refusal) → result ≡ refuse r → n ≤ given .0
-  pub checked-slot-kind : (r : Refusal) → result ≡ refuse r → r ≡ InvalidSlot given
 
--- L:171-178, and I:547
+-- L:171-178
 pub record BeginOk (n : ℕ) (old new : State) (result : Answer) : Type 0 where
   pub l-begin-e5a : result .slot < n
   pub l-begin-e5b : old .clock ≤ result .id
   pub l-begin-e5c : new .reservations ≡ push (old .reservations) (result .id)
   pub l-begin-e5d : at (old .slots) (result .slot) .txid ≡ 0
   pub l-begin-e5e : new .slots ≡ set (old .slots) (result .slot) (slot (result .id) (result .id))
-  pub i-begin-e2 : new .clock ≡ result .id + 1
 
--- L:179-186; the last field is ours
+-- L:179-186
 pub record BeginErr (old new : State) (result : Answer) : Type 0 where
   pub l-begin-e6a : new .slots ≡ old .slots
   pub l-begin-e6b : (i : ℕ) → i < length (old .slots) → at (old .slots) i .txid ≢ 0
   pub l-begin-e7a : old .clock ≤ result .id
   pub l-begin-e7b : new .reservations ≡ push (old .reservations) (result .id)
   pub l-begin-e7c : result .number ≡ 1
-  pub begin-refused-clock : new .clock ≡ result .id + 1
 
 pub record BeginTransaction (n : ℕ) (old new : State) (result : Answer) : Type 0 where
   pub l-begin-e1 : HistoryOf old → WellFormed n new
@@ -48,7 +45,11 @@ pub record BeginTransaction (n : ℕ) (old new : State) (result : Answer) : Type
   pub l-begin-e4 : length (new .reservations) ≡ length (old .reservations) + 1
   pub l-begin-e5 : result .number ≡ 0 → BeginOk n old new result
   pub l-begin-e67 : result .number ≢ 0 → BeginErr old new result
+
+-- what I:547 adds, on the refusal too
+pub record BeginAcquired (old new : State) (result : Answer) : Type 0 where
   pub i-begin-e1 : new .«sampled_clock» ≡ old .«sampled_clock»
+  pub i-begin-e2 : new .clock ≡ result .id + 1
 
 -- L:224-227
 pub record EndOk (n : ℕ) (old new : State) (given : SlotNo) (id : Txid) : Type 0 where
