@@ -1,0 +1,75 @@
+-- What upstream required of a call, and what its trait promised of numbers, clocks and samples, keeps refusals 4 to 8 away.
+use Prim.Native.Nat.{ℕ, _<_}
+use mathlib.Core.Bool.{Bool, true, false}
+use lib.Dec.{eqb, leb}
+use lib.ListN.{getD}
+use Rattle.kinds.specs.Pick.{pick}
+use Rattle.kinds.specs.Kinds.{top, txidOf}
+use Rattle.kinds.specs.declared.Stamp.{Stamp}
+use Rattle.kinds.specs.declared.SlotNo.{SlotNo}
+use Rattle.kinds.specs.declared.Txid.{Txid}
+use Rattle.kinds.specs.declared.refusal.Refusal.the-variants.{NoFreeSlot, InvalidSlot}
+use Rattle.rules.specs.declared.Table.{Table}
+use Rattle.rules.specs.Tally.{lowestEmpty}
+use Rattle.rules.specs.Tests.{Verdict, pass, refuse, then, ownerTest, fullTest}
+use Rattle.rules.specs.Calls.{begin, end, snap, own, oldest, stamp, finish, refusal}
+use Rattle.upstream.specs.States.{Foreseen}
+use Rattle.upstream.proofs.Runs.{Fits, Sees, mismatch, fits-passes, sees-passes, positive-passes}
+
+module _ (n : ℕ) (t : Table) where
+  full-foreseen : (k : Stamp) → Foreseen (fullTest n (t .txids) k)
+  full-foreseen k = go (leb n (lowestEmpty (t .txids)))
+    where
+      go : (b : Bool) → Foreseen (pick b (refuse (NoFreeSlot (txidOf k))) pass)
+      go true = tt
+      go false = tt
+
+  owner-foreseen :
+      (i : SlotNo) (id : Txid) (v : Verdict) → 0 < id .0 → Foreseen v → Foreseen (then (ownerTest n (t .txids) i id) v)
+  owner-foreseen i id v h f =
+      rw (positive-passes id h) (go (leb n (i .0)) (eqb (getD (t .txids) (i .0) 0) (id .0)))
+    where
+      go :
+          (a b : Bool) →
+          Foreseen (then (then (pick a (refuse (InvalidSlot i)) pass) (pick b pass (mismatch (t .txids) i id))) v)
+      go true b = tt
+      go false true = f
+      go false false = tt
+
+  pub begin-foreseen : (k : Stamp) → t .clock < top → Fits (t .clock) (k .0) → Foreseen (refusal n t (begin k))
+  unfolding refusal
+  begin-foreseen k h f = rw (fits-passes (t .clock) k h f) (full-foreseen k)
+
+  pub snap-foreseen : (c m : ℕ) → Sees (t .clock) c m → Foreseen (refusal n t (snap c m))
+  unfolding refusal
+  snap-foreseen c m f = rw (sees-passes (t .clock) c m f) tt
+
+  pub oldest-foreseen : (c m : ℕ) → Sees (t .clock) c m → Foreseen (refusal n t (oldest c m))
+  unfolding refusal
+  oldest-foreseen c m f = rw (sees-passes (t .clock) c m f) tt
+
+  pub own-foreseen :
+      (i : SlotNo) (id : Txid) (c m : ℕ) → 0 < id .0 → Sees (t .clock) c m → Foreseen (refusal n t (own i id c m))
+  unfolding refusal
+  own-foreseen i id c m h f = rw (sees-passes (t .clock) c m f) (owner-foreseen i id pass h tt)
+
+  pub stamp-foreseen : (k : Stamp) → t .clock < top → Fits (t .clock) (k .0) → Foreseen (refusal n t (stamp k))
+  unfolding refusal
+  stamp-foreseen k h f = rw (fits-passes (t .clock) k h f) tt
+
+  pub finish-foreseen :
+      (i : SlotNo) (id : Txid) (k : Stamp) → 0 < id .0 → t .clock < top → Fits (t .clock) (k .0) →
+      Foreseen (refusal n t (finish i id k))
+  unfolding refusal
+  finish-foreseen i id k z h f = rw (fits-passes (t .clock) k h f) (owner-foreseen i id pass z tt)
+
+  pub end-foreseen : (i : SlotNo) (id : Txid) → 0 < id .0 → Foreseen (refusal n t (end i id))
+  unfolding refusal
+  end-foreseen i id h =
+      rw (positive-passes id h) (go (leb n (i .0)) (eqb (getD (t .txids) (i .0) 0) (id .0)))
+    where
+      go :
+          (a b : Bool) → Foreseen (then (pick a (refuse (InvalidSlot i)) pass) (pick b pass (mismatch (t .txids) i id)))
+      go true b = tt
+      go false true = tt
+      go false false = tt

@@ -1,0 +1,226 @@
+-- L.snapshot_locked, L.create_snapshot, L.create_transaction_snapshot: our snapshots meet upstream's contracts where none of 4 to 8 is given.
+use Prim.Native.Nat.{ℕ, zero, suc, _+_, _-_, _<_, _≤_, min, max}
+use mathlib.Core.Path.{_≡_, refl, sym, ap, _∙_}
+use mathlib.Core.Logic.{_≢_}
+use mathlib.Core.Bool.{Bool, true, false}
+use mathlib.Core.List.{List, [], _∷_}
+use native.Mathlib.Nat.{suc-ne-zero, le-trans, le-refl}
+use native.Mathlib.Omega.{arith}
+use lib.Dec.{ltb}
+use lib.ListN.{length, getD, set, take, length-set, replicate}
+use lib.Seq.{take-append-seam}
+use borrow.Author.Tests.{ltb-true, ltb-false, ne-eqb}
+use Rattle.kinds.specs.Pick.{pick}
+use Rattle.kinds.specs.Kinds.{top}
+use Rattle.kinds.specs.declared.SlotNo.{SlotNo}
+use Rattle.kinds.specs.declared.Txid.{Txid}
+use Rattle.kinds.specs.Refusals.{told}
+use Rattle.rules.specs.declared.Table.{Table}
+use Rattle.rules.specs.Tally.{active as ours, minimum, maximum, xmaxOf, places, snapshotOf}
+use Rattle.rules.specs.Tables.{observed}
+use Rattle.rules.specs.Tests.{Verdict, pass, observationTest}
+use Rattle.rules.specs.Calls.{snap, own, refusal, afterAccepted, afterRefused, afterBy, after, answerAccepted, answerBy, answer, shownBy, shown}
+use Rattle.settled.specs.declared.Snapshot.{Snapshot}
+use Rattle.upstream.specs.States.{Slot, State, slot, at, pairs, stateOf, stateAfter, historyBy, Foreseen}
+use Rattle.upstream.specs.Tallies.{«maximum_active»}
+use Rattle.upstream.specs.Relations.{HistoryOf, WellFormed, Sound, Coherent}
+use Rattle.upstream.specs.Clauses.{SnapshotLocked, CreateSnapshot, CreateTransactionSnapshot}
+use Rattle.upstream.proofs.Pairs.{pairs-length, pairs-set-xmin}
+use Rattle.upstream.proofs.Tallies.{active-same, minimum-same, maximum-same}
+use Rattle.upstream.proofs.Places.{minimum-low, minimum-positive}
+use Rattle.upstream.proofs.Runs.{Sees, Observes, seen, observes, observes-pass, Owns, outside, other, owned, owns-then}
+use Rattle.upstream.proofs.Moves.{with-history, slotsOf, txid-at, well-observed, well-marked}
+
+-- the largest txid is below a clock that every txid is below
+maximum-below :
+    (ss : List Slot) (c k : ℕ) → ((i : ℕ) → at ss i .txid ≢ 0 → at ss i .txid < c) → 0 < c → «maximum_active» ss k < c
+unfolding «maximum_active»
+maximum-below ss c zero p h = h
+maximum-below ss c (suc k) p h = go (ltb («maximum_active» ss k) (at ss k .txid)) refl (maximum-below ss c k p h)
+  where
+    go :
+        (b : Bool) → ltb («maximum_active» ss k) (at ss k .txid) ≡ b → «maximum_active» ss k < c →
+        pick b (at ss k .txid) («maximum_active» ss k) < c
+    go true e ih = let g = ltb-true («maximum_active» ss k) (at ss k .txid) e in p k (λ z. omega arith)
+    go false e ih = ih
+
+-- our held xmax is upstream's, which holds nothing, where the largest txid is below 2^64 − 1
+larger : (a m : ℕ) → a ≤ top → max m (min a top) ≡ pick (ltb a m) m a
+larger a m h = go (ltb a m) refl
+  where
+    go : (b : Bool) → ltb a m ≡ b → max m (min a top) ≡ pick b m a
+    go true e = let g = ltb-true a m e in omega arith
+    go false e = let g = ltb-false a m e in omega arith
+
+alone : (m : ℕ) → 0 < m → m ≡ pick (ltb (0 + 1) m) m (0 + 1)
+alone m h = go (ltb (0 + 1) m) refl
+  where
+    go : (b : Bool) → ltb (0 + 1) m ≡ b → m ≡ pick b m (0 + 1)
+    go true e = refl
+    go false e = let g = ltb-false (0 + 1) m e in omega arith
+
+pub xmax-same :
+    (l : List ℕ) (m : ℕ) → 0 < m → maximum 0 l + 1 ≤ top →
+    xmaxOf m l ≡ pick (ltb (maximum 0 l + 1) m) m (maximum 0 l + 1)
+unfolding maximum
+xmax-same [] m h b = alone m h
+xmax-same (x ∷ l) m h b =
+    rw (ne-eqb (suc (length l)) 0 (λ e. suc-ne-zero _ e)) (larger (maximum (max 0 x) l + 1) m b)
+
+module _ (n : ℕ) (xs ys : List ℕ) (p : length xs ≡ n) (q : length ys ≡ n) where
+  even : length xs ≡ length ys
+  even = p ∙ sym q
+
+  pub coherent :
+      (c m : ℕ) (history : List ℕ) → 0 < m → maximum 0 (ours xs) + 1 ≤ top →
+      Coherent (record { slots = pairs xs ys; clock = c; «sampled_clock» = m; reservations = history }) (snapshotOf n xs m)
+  unfolding snapshotOf
+  coherent c m history h b =
+      record {
+        in-flight = seam ∙ sym (rw (pairs-length xs ys even) (active-same xs ys even));
+        in-flight-len = ap length (sym seam);
+        xmax =
+            rw (pairs-length xs ys even, maximum-same xs ys even) (xmax-same (ours xs) m h b);
+        xmin = sym (rw (pairs-length xs ys even) (minimum-same xs ys m even));
+      }
+    where
+      seam : take (length (ours xs)) (places n (ours xs)) ≡ ours xs
+      seam = take-append-seam (ours xs) (replicate (n - length (ours xs)) 0)
+
+-- create_snapshot promises no more than snapshot_locked
+pub create-from-locked :
+    (n : ℕ) (old new : State) (snapshot : Snapshot) → SnapshotLocked n old new snapshot → CreateSnapshot n old new snapshot
+create-from-locked n old new snapshot r =
+    record {
+      l-create-snapshot-e1 = r .l-snapshot-locked-e1;
+      l-create-snapshot-e3 = r .l-snapshot-locked-e2 .slots;
+      l-create-snapshot-e4 = r .l-snapshot-locked-e2 .reservations;
+      l-create-snapshot-e5 = r .l-snapshot-locked-e2 .clock;
+      l-create-snapshot-e6 = r .l-snapshot-locked-e3;
+    }
+
+-- E1 of the transaction snapshot alone, which needs no bound on the clock
+module _ (n : ℕ) (t : Table) (history : List ℕ) (y : Sound n t) (i : SlotNo) (id : Txid) (c m : ℕ) where
+  own-well :
+      (v : Verdict) → Owns n (t .txids) i id (Sees (t .clock) c m) v → HistoryOf (stateOf t history) →
+      WellFormed n (stateOf (afterBy v t (own i id c m)) (historyBy v history (own i id c m)))
+  unfolding afterAccepted afterRefused
+  own-well v (outside h) p = with-history n t history y p
+  own-well v (other h d) p = with-history n t history y p
+  own-well v (owned h z o f) p =
+      well-marked n (observed c m t) history (well-observed n t history (with-history n t history y p) c m f)
+      (i .0) (minimum m (ours (t .txids)))
+      (record { txids-size = y .shape .txids-size; xmins-size = y .shape .xmins-size }) taken
+      (minimum-positive (t .txids) m (f .positive)) (minimum-low (t .txids) m (i .0) taken)
+    where
+      taken : getD (t .txids) (i .0) 0 ≢ 0
+      taken e = z (sym o ∙ e)
+
+  own-goes :
+      Foreseen (refusal n t (own i id c m)) →
+      Owns n (t .txids) i id (Sees (t .clock) c m) (refusal n t (own i id c m))
+  unfolding refusal
+  own-goes f =
+      owns-then n (t .txids) i id (observationTest (t .clock) c m) (Sees (t .clock) c m) (observes-pass (t .clock) c m) f
+
+  pub own-keeps :
+      Foreseen (refusal n t (own i id c m)) → HistoryOf (stateOf t history) →
+      WellFormed n (stateAfter n t history (own i id c m))
+  unfolding after
+  own-keeps f = own-well (refusal n t (own i id c m)) (own-goes f)
+
+module _
+    (n : ℕ) (t : Table) (history : List ℕ) (y : Sound n t) (u : t .clock ≤ top) where
+  -- no txid of the table reaches 2^64 − 1
+  held : maximum 0 (ours (t .txids)) + 1 ≤ top
+  held =
+      let e = maximum-same (t .txids) (t .«snapshot_xmins») (y .shape .txids-size ∙ sym (y .shape .xmins-size)) in
+      let c : 0 < t .clock = le-trans (y .table .sample-positive) (y .table .sample-within) in
+      let b = maximum-below (slotsOf t) (t .clock) (length (t .txids)) (y .table .txid-below) c in
+      omega arith
+
+  module _ (c m : ℕ) where
+    pub locked-run :
+        (v : Verdict) → Observes (t .clock) c m v →
+        SnapshotLocked n (stateOf t history) (stateOf (afterBy v t (snap c m)) (historyBy v history (snap c m)))
+        (shownBy v n t m)
+    unfolding afterAccepted
+    locked-run v (seen f) =
+        record {
+          l-snapshot-locked-e1 = λ h. well-observed n t history (with-history n t history y h) c m f;
+          l-snapshot-locked-e2 =
+              record {
+                slots = refl;
+                reservations = refl;
+                clock = f .onward;
+                sample-positive = f .positive;
+                sample-within = f .within;
+              };
+          l-snapshot-locked-e3 =
+              coherent n (t .txids) (t .«snapshot_xmins») (y .shape .txids-size) (y .shape .xmins-size) c m history (f .positive) held;
+        }
+
+    pub snapshot-locked-meets :
+        Foreseen (refusal n t (snap c m)) →
+        SnapshotLocked n (stateOf t history) (stateAfter n t history (snap c m)) (shown n t (snap c m) m)
+    unfolding refusal after shown
+    snapshot-locked-meets f = locked-run (refusal n t (snap c m)) (observes (t .clock) c m f)
+
+    pub create-snapshot-meets :
+        Foreseen (refusal n t (snap c m)) →
+        CreateSnapshot n (stateOf t history) (stateAfter n t history (snap c m)) (shown n t (snap c m) m)
+    create-snapshot-meets f = create-from-locked n _ _ _ (snapshot-locked-meets f)
+
+  module _ (i : SlotNo) (id : Txid) (c m : ℕ) where
+    own-run :
+        (v : Verdict) → Owns n (t .txids) i id (Sees (t .clock) c m) v →
+        CreateTransactionSnapshot n (stateOf t history)
+        (stateOf (afterBy v t (own i id c m)) (historyBy v history (own i id c m))) i id (answerBy v t (own i id c m))
+        (shownBy v n t m)
+    unfolding afterAccepted afterRefused answerAccepted told snapshotOf
+    own-run v (outside h) =
+        record {
+          l-own-e1 = with-history n t history y;
+          l-own-e3 = refl;
+          l-own-e4 = le-refl _;
+          l-own-e5 = λ e. absurd (suc-ne-zero _ e);
+          l-own-e6 = λ e. refl;
+          l-own-e7 = λ g e. absurd (omega arith);
+        }
+    own-run v (other h d) =
+        record {
+          l-own-e1 = with-history n t history y;
+          l-own-e3 = refl;
+          l-own-e4 = le-refl _;
+          l-own-e5 = λ e. absurd (suc-ne-zero _ e);
+          l-own-e6 = λ e. refl;
+          l-own-e7 = λ g e. absurd (d (sym (txid-at n t (i .0) (y .shape)) ∙ e));
+        }
+    own-run v (owned h z o f) =
+        record {
+          l-own-e1 = own-well n t history y i id c m pass (owned h z o f);
+          l-own-e3 = refl;
+          l-own-e4 = f .onward;
+          l-own-e5 =
+              λ e. record {
+                l-own-e5a = h;
+                l-own-e5b = txid-at n t (i .0) (y .shape) ∙ o;
+                l-own-e5c =
+                    coherent n (t .txids) (set (t .«snapshot_xmins») (i .0) (minimum m (ours (t .txids)))) (y .shape .txids-size)
+                    (length-set (t .«snapshot_xmins») (i .0) _ ∙ y .shape .xmins-size) c m history (f .positive) held;
+                l-own-e5d =
+                    pairs-set-xmin (t .txids) (t .«snapshot_xmins») (i .0) (minimum m (ours (t .txids)))
+                    ∙ ap (λ (x : ℕ). set (slotsOf t) (i .0) (slot x (minimum m (ours (t .txids)))))
+                    (sym (txid-at n t (i .0) (y .shape)));
+              };
+          l-own-e6 = λ e. absurd (e refl);
+          l-own-e7 = λ g e. refl;
+        }
+
+    pub create-transaction-snapshot-meets :
+        Foreseen (refusal n t (own i id c m)) →
+        CreateTransactionSnapshot n (stateOf t history) (stateAfter n t history (own i id c m)) i id
+        (answer n t (own i id c m)) (shown n t (own i id c m) m)
+    unfolding after answer shown
+    create-transaction-snapshot-meets f =
+        own-run (refusal n t (own i id c m)) (own-goes n t history y i id c m f)

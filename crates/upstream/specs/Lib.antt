@@ -1,0 +1,4 @@
+pub mod States
+pub mod Tallies
+pub mod Relations
+pub mod Clauses

@@ -1,0 +1,105 @@
+-- Upstream's state, and how a table with the numbers reserved so far is one. Names are upstream's (L:18-40); the flag `lifecycle_held` is left out.
+use Prim.Native.Nat.{ℕ}
+use mathlib.Core.List.{List, [], _∷_, _++_}
+use mathlib.Core.Path.{_≡_}
+use lib.ListN.{length, getD}
+use Rattle.kinds.specs.declared.refusal.Refusal.{Refusal}
+use Rattle.kinds.specs.declared.refusal.Refusal.the-variants.{NoFreeSlot, InvalidSlot, SlotOwnershipMismatch, ZeroTxid, ClockExhausted, BadReservation, BadClock, BadSample, BadTrace, BadSnapshot}
+use Rattle.rules.specs.declared.Table.{Table}
+use Rattle.rules.specs.Tables.{freshTable}
+use Rattle.rules.specs.Tests.{Verdict, pass, refuse}
+use Rattle.rules.specs.Calls.{Call, begin, end, snap, own, oldest, vacuum, stamp, finish, refusal, after}
+
+pub record Slot : Type 0 where
+  pub txid : ℕ
+  pub «snapshot_xmin» : ℕ
+
+pub record State : Type 0 where
+  pub slots : List Slot
+  pub clock : ℕ
+  pub «sampled_clock» : ℕ
+  pub reservations : List ℕ
+
+abbrev pub slot : ℕ → ℕ → Slot
+slot txid xmin = record { txid = txid; «snapshot_xmin» = xmin }
+
+-- what slot i holds; past the last slot, what an empty one holds
+abbrev pub at : List Slot → ℕ → Slot
+at slots i = getD slots i (slot 0 0)
+
+-- our two columns as one run of slots
+abbrev pub pairs : List ℕ → List ℕ → List Slot
+pairs [] xmins = []
+pairs (txid ∷ txids) [] = []
+pairs (txid ∷ txids) (xmin ∷ xmins) = slot txid xmin ∷ pairs txids xmins
+
+-- one more at the end
+abbrev pub push : List ℕ → ℕ → List ℕ
+push ids id = ids ++ id ∷ []
+
+abbrev pub stateOf : Table → List ℕ → State
+stateOf t history =
+    record {
+      slots = pairs (t .txids) (t .«snapshot_xmins»);
+      clock = t .clock;
+      «sampled_clock» = t .«sampled_clock»;
+      reservations = history;
+    }
+
+-- both columns of the table have n places, as every table of the code has
+pub record Shaped (n : ℕ) (t : Table) : Type 0 where
+  pub txids-size : length (t .txids) ≡ n
+  pub xmins-size : length (t .«snapshot_xmins») ≡ n
+
+-- the numbers reserved after a refused call: a full table spends the number
+abbrev pub historyRefused : List ℕ → Refusal → List ℕ
+historyRefused history (NoFreeSlot txid) = push history (txid .0)
+historyRefused history (InvalidSlot slot) = history
+historyRefused history (SlotOwnershipMismatch slot expected seen) = history
+historyRefused history ZeroTxid = history
+historyRefused history ClockExhausted = history
+historyRefused history BadReservation = history
+historyRefused history BadClock = history
+historyRefused history BadSample = history
+historyRefused history (BadTrace line) = history
+historyRefused history BadSnapshot = history
+
+-- and after an accepted one
+abbrev pub historyAccepted : List ℕ → Call → List ℕ
+historyAccepted history (begin number) = push history (number .0)
+historyAccepted history (end slot id) = history
+historyAccepted history (snap clock sample) = history
+historyAccepted history (own slot id clock sample) = history
+historyAccepted history (oldest clock sample) = history
+historyAccepted history (vacuum clock sample) = history
+historyAccepted history (stamp number) = push history (number .0)
+historyAccepted history (finish slot id number) = push history (number .0)
+
+abbrev pub historyBy : Verdict → List ℕ → Call → List ℕ
+historyBy pass history c = historyAccepted history c
+historyBy (refuse r) history c = historyRefused history r
+
+-- upstream's state after one of our calls
+abbrev pub stateAfter : ℕ → Table → List ℕ → Call → State
+stateAfter n t history c = stateOf (after n t c) (historyBy (refusal n t c) history c)
+
+-- the tables and histories that calls lead to from fresh
+pub data Reached (n : ℕ) : Table → List ℕ → Type 0 where
+  fresh : Reached n (freshTable n) []
+  on :
+      {t : Table} {history : List ℕ} → Reached n t history → (c : Call) →
+      Reached n (after n t c) (historyBy (refusal n t c) history c)
+
+-- upstream's outcomes: accepted, or one of its three errors; none of refusals 4 to 8
+abbrev pub Foreseen : Verdict → Type 0
+Foreseen pass = Unit
+Foreseen (refuse (NoFreeSlot txid)) = Unit
+Foreseen (refuse (InvalidSlot slot)) = Unit
+Foreseen (refuse (SlotOwnershipMismatch slot expected seen)) = Unit
+Foreseen (refuse ZeroTxid) = ⊥
+Foreseen (refuse ClockExhausted) = ⊥
+Foreseen (refuse BadReservation) = ⊥
+Foreseen (refuse BadClock) = ⊥
+Foreseen (refuse BadSample) = ⊥
+Foreseen (refuse (BadTrace line)) = ⊥
+Foreseen (refuse BadSnapshot) = ⊥
