@@ -1,0 +1,6 @@
+pub mod Decimal
+pub mod Numbers
+pub mod Bytes
+pub mod Places
+pub mod Lines
+pub mod Splice
