@@ -1,0 +1,4 @@
+pub mod Arms
+pub mod OpLines
+pub mod Records
+pub mod Walk
