@@ -58,6 +58,12 @@ pub nonempty : (key : List ℕ) (n : ℕ) → 0 < length (lineText key n)
 unfolding lineText numberText
 nonempty key n = simp length-append (omega arith)
 
+-- lines joined
+pub joined-append : (xs ys : List (List ℕ)) → joined (xs ++ ys) ≡ joined xs ++ joined ys
+unfolding joined
+joined-append [] ys = refl
+joined-append (x ∷ xs) ys = ap (λ (t : List ℕ). x ++ t) (joined-append xs ys) ∙ sym (append-assoc x (joined xs) (joined ys))
+
 -- all the lines of a list of rules
 pub lines-of : (rs : List Rule) (ns : List ℕ) (s : List ℕ) (at line : ℕ) (rest : List ℕ) → Within rs ns → drop at s ≡ joined (lineTexts rs ns) ++ rest
     → linesAt s at line rs ≡ Read ns (at + length (joined (lineTexts rs ns)))
