@@ -5,7 +5,6 @@ use native.Mathlib.Decide.{decLt}
 use native.Mathlib.Nat.{le-refl, pow-suc}
 use mathlib.Core.Path.{_≡_, refl, sym, ap, _∙_}
 use mathlib.Core.List.{List, [], _∷_, _++_}
-use lib.Dec.{ltb}
 use lib.ListN.{length, length-append}
 use borrow.Author.Tests.{lt-ltb, le-ltb}
 use Rattle.text.specs.Decimal.{decimalIn, decimal, numberText}

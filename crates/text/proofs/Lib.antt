@@ -4,3 +4,4 @@ pub mod Bytes
 pub mod Places
 pub mod Lines
 pub mod Splice
+mod Examples

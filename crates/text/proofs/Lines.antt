@@ -1,17 +1,18 @@
 -- Lines are read as their numbers, what is read is the lines' text, and the line that breaks its rule is the first that does. Assumes nothing.
-use Prim.Native.Nat.{ℕ, zero, suc, _+_, _^_, _≤_, _<_}
+use Prim.Native.Nat.{ℕ, zero, suc, _+_, _%_, _^_, _≤_, _<_}
 use native.Mathlib.Omega.{arith}
 use mathlib.Core.Path.{_≡_, refl, sym, ap, _∙_}
 use mathlib.Core.List.{List, [], _∷_, _++_, append-assoc}
 use mathlib.Core.Bool.{Bool, true, false, cond}
 use lib.Dec.{leb}
 use lib.ListN.{length, take, drop, length-append}
-use borrow.Author.Tests.{le-leb, leb-true}
+use borrow.Author.Tests.{ne-eqb, le-leb, leb-true}
 use Rattle.text.specs.declared.Number.{Number}
 use Rattle.text.specs.declared.Number.the-variants.{Is, Bad}
-use Rattle.text.specs.Decimal.{numberText, numberAt}
+use Rattle.text.specs.Decimal.{decimal, numberText, numberAt}
 use Rattle.text.specs.Bytes.{starts}
-use Rattle.text.specs.Line.{lineText, atMost, fieldAt, Rule, lineTexts, joined, Within, none, also, Lines, Read, Breaks, onField, withFirst, linesAt}
+use Rattle.text.specs.Line.{lineText, atMost, fieldAt, Rule, lineTexts, oneLine, joined, Within, none, also, Lines, Read, Breaks, onField, withFirst, linesAt}
+use Rattle.text.proofs.Decimal.{decimal-small, decimal-more, by-tens}
 use Rattle.text.proofs.Numbers.{number-of, text-of, no-number}
 use Rattle.text.proofs.Bytes.{starts-of}
 use Rattle.text.proofs.Places.{rest-of, There, there, then, key-there}
@@ -57,6 +58,17 @@ field-text s at key n most e = go (starts key (drop at s)) refl
 pub nonempty : (key : List ℕ) (n : ℕ) → 0 < length (lineText key n)
 unfolding lineText numberText
 nonempty key n = simp length-append (omega arith)
+
+-- a line is one line, where its key has no newline
+digits-plain : (n : ℕ) (t : List ℕ) → oneLine (decimal n ++ t) ≡ oneLine t
+unfolding oneLine
+digits-plain = by-tens (λ (n : ℕ). (t : List ℕ) → oneLine (decimal n ++ t) ≡ oneLine t)
+    (λ n h t. rw (decimal-small n h, ne-eqb (48 + n) 10 (λ e. omega arith)))
+    (λ n h ih t. rw (decimal-more n h, append-assoc, ih, ne-eqb (48 + n % 10) 10 (λ e. omega arith)))
+
+pub line-one : (key : List ℕ) (n : ℕ) → ((t : List ℕ) → oneLine (key ++ t) ≡ oneLine t) → oneLine (lineText key n) ≡ true
+unfolding lineText numberText oneLine
+line-one key n plain = plain (decimal n ++ (10 ∷ [])) ∙ digits-plain n (10 ∷ [])
 
 -- lines joined
 pub joined-append : (xs ys : List (List ℕ)) → joined (xs ++ ys) ≡ joined xs ++ joined ys

@@ -1,5 +1,5 @@
 -- A number's text is read as that number, and what is read as a number is its text. Assumes nothing.
-use Prim.Native.Nat.{ℕ, zero, suc, _+_, _-_, _*_, _/_, _%_, _^_, _≤_, _<_}
+use Prim.Native.Nat.{ℕ, _+_, _-_, _*_, _/_, _%_, _^_, _≤_, _<_}
 use native.Mathlib.Omega.{arith}
 use native.Mathlib.Decide.{decLt}
 use native.Mathlib.Nat.{add-sub-cancel-left}
@@ -12,7 +12,6 @@ use lib.ListN.{length, drop, getD, length-append, drop-of-length-le}
 use lib.Seq.{drop-cons}
 use borrow.Author.Tests.{eq-eqb, ne-eqb, le-leb, lt-leb, lt-ltb, le-ltb, leb-true, ltb-true, eqb-true}
 use Rattle.text.specs.Decimal.{decimal, numberText, isDigit, goesOn, numberTail, numberFrom, numberAt}
-use Rattle.text.specs.declared.Number.{Number}
 use Rattle.text.specs.declared.Number.the-variants.{Is, Bad}
 use Rattle.text.proofs.Decimal.{decimal-small, decimal-more, by-tens, length-text}
 

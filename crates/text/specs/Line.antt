@@ -1,8 +1,8 @@
 -- Lines of a key and a number: their text, and what is read of a text. Assumes nothing.
 use Prim.Native.Nat.{ℕ, _+_, _^_, _≤_, _<_}
-use mathlib.Core.Bool.{Bool, cond}
+use mathlib.Core.Bool.{Bool, false, cond}
 use mathlib.Core.List.{List, [], _∷_, _++_}
-use lib.Dec.{leb}
+use lib.Dec.{leb, eqb}
 use lib.ListN.{length, drop}
 use Rattle.text.specs.declared.Number.{Number}
 use Rattle.text.specs.declared.Number.the-variants.{Is, Bad}
@@ -31,6 +31,11 @@ unfoldable pub lineTexts : List Rule → List ℕ → List (List ℕ)
 lineTexts [] ns = []
 lineTexts (r ∷ rs) [] = []
 lineTexts (r ∷ rs) (n ∷ ns) = lineText (r .key) n ∷ lineTexts rs ns
+
+-- one line: it ends in a newline, and has no other
+unfoldable pub oneLine : List ℕ → Bool
+oneLine [] = false
+oneLine (b ∷ bs) = cond (eqb b 10) (eqb (length bs) 0) (oneLine bs)
 
 -- lines one after the other
 unfoldable pub joined : List (List ℕ) → List ℕ

@@ -1,8 +1,8 @@
 -- The grammar both ways: what is accepted is the text of its records, and the text of records is accepted as them. Assumes nothing.
-use Prim.Native.Nat.{ℕ, zero, suc, _+_, _≤_, _<_}
+use Prim.Native.Nat.{ℕ, _+_, _≤_}
 use native.Mathlib.Omega.{arith}
 use mathlib.Core.Path.{_≡_, refl, sym, ap, _∙_}
-use mathlib.Core.List.{List, [], _∷_, _++_, append-assoc, append-nil}
+use mathlib.Core.List.{List, [], _∷_, _++_}
 use mathlib.Core.Bool.{Bool, true, false, cond}
 use lib.Dec.{ltb}
 use lib.ListN.{length, drop, length-append}
@@ -13,7 +13,7 @@ use Rattle.text.specs.Line.{joined}
 use Rattle.text.proofs.Bytes.{starts-of, starts-text}
 use Rattle.text.proofs.Places.{rest-of}
 use Rattle.text.proofs.Lines.{joined-append}
-use Rattle.trace.specs.Record.{Expressible, recordLines, recordText, recordAt}
+use Rattle.trace.specs.Record.{recordLines, recordText, recordAt}
 use Rattle.trace.specs.Trace.{header, firstRecord, longest, linesOf, traceLines, traceText, AllExpressible, none, also, Found, Records, Breaks, withFirst, foundFrom, traceOf, recordsFrom, Boundary, counted, reading}
 use Rattle.trace.specs.declared.Record.{Record}
 use Rattle.trace.specs.declared.RecordAt.the-variants.{Is}

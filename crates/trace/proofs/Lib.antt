@@ -4,3 +4,5 @@ pub mod Records
 pub mod Walk
 pub mod Grammar
 pub mod Refusal
+pub mod Shape
+mod Examples

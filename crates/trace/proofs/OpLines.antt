@@ -1,7 +1,7 @@
 -- An op's line is read as that op, and what is read as an op is its line. Assumes nothing.
 use Prim.Native.Nat.{ℕ, _+_, _<_}
 use native.Mathlib.Omega.{arith}
-use mathlib.Core.Path.{_≡_, refl, sym, ap, _∙_}
+use mathlib.Core.Path.{_≡_, refl, ap, _∙_}
 use mathlib.Core.List.{List, [], _∷_, _++_, append-assoc}
 use mathlib.Core.Bool.{Bool, true, false, cond}
 use lib.ListN.{length, drop, length-append}
@@ -11,7 +11,6 @@ use Rattle.text.proofs.Places.{rest-of, There, then, key-there}
 use Rattle.trace.specs.Op.{opKey, opName, ops, opLine, tryName, firstNamed, nameAt, opAt}
 use Rattle.trace.specs.declared.Op.{Op}
 use Rattle.trace.specs.declared.Op.the-variants.{Begin, End, Snap, Own, Oldest, Vacuum, Stamp, Finish}
-use Rattle.trace.specs.declared.ops.OpAt.{OpAt}
 use Rattle.trace.specs.declared.ops.OpAt.the-variants.{Is, Unknown}
 
 name-of : (o : Op) (s : List ℕ) (at : ℕ) (rest : List ℕ) → drop at s ≡ opName o ++ rest → nameAt s at ≡ Is o (at + length (opName o))

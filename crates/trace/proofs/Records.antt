@@ -1,12 +1,12 @@
 -- A record's text is read as that record, what is read as a record is its text, and a broken line is the first that breaks a rule. Assumes nothing.
-use Prim.Native.Nat.{ℕ, zero, suc, _+_, _^_, _-_, _≤_, _<_}
+use Prim.Native.Nat.{ℕ, zero, suc, _+_, _^_, _≤_, _<_}
 use native.Mathlib.Omega.{arith}
 use mathlib.Core.Path.{_≡_, refl, sym, ap, _∙_}
 use mathlib.Core.List.{List, [], _∷_, _++_, append-assoc}
-use mathlib.Core.Bool.{Bool, true, false, cond}
+use mathlib.Core.Bool.{Bool, true, false}
 use lib.ListN.{length, take, drop, length-append, length-drop}
 use Rattle.text.specs.declared.Number.{Number}
-use Rattle.text.specs.Line.{Rule, lineText, lineTexts, joined, Within, none, also, Lines, Read, Breaks, linesAt}
+use Rattle.text.specs.Line.{lineTexts, joined, Within, none, also, Lines, Read, Breaks, linesAt}
 use Rattle.text.proofs.Places.{rest-of, There, then}
 use Rattle.text.proofs.Lines.{lines-of, lines-text, Spelled, lines-open, Opening, lines-late}
 use Rattle.trace.specs.Op.{readsStamp, readsOwner, readsClock, opLine, opAt}
@@ -16,7 +16,6 @@ use Rattle.trace.specs.declared.Op.the-variants.{Begin}
 use Rattle.trace.specs.declared.ops.OpAt.{OpAt}
 use Rattle.trace.specs.declared.ops.OpAt.the-variants as op
 use Rattle.trace.specs.declared.Record.{Record}
-use Rattle.trace.specs.declared.RecordAt.{RecordAt}
 use Rattle.trace.specs.declared.RecordAt.the-variants.{Is, Broken}
 use Rattle.trace.proofs.OpLines.{op-of, op-there, op-length}
 

@@ -5,7 +5,7 @@ use native.Mathlib.Decide.{decLt}
 use native.Mathlib.Nat.{zero-add, suc-add}
 use native.Mathlib.Numerals.{add-one}
 use mathlib.Core.Path.{_≡_, refl, sym, ap, _∙_}
-use mathlib.Core.List.{List, [], _∷_, _++_, append-assoc, append-nil}
+use mathlib.Core.List.{List, [], _∷_, _++_, append-assoc}
 use mathlib.Core.Bool.{Bool, true, false, cond, false≢true}
 use lib.Dec.{ltb}
 use lib.ListN.{length, take, drop, length-append, take-append-drop}
@@ -16,7 +16,7 @@ use Rattle.text.specs.Line.{joined}
 use Rattle.text.proofs.Bytes.{starts-of, starts-text}
 use Rattle.text.proofs.Places.{rest-of}
 use Rattle.text.proofs.Lines.{joined-append}
-use Rattle.trace.specs.Record.{Expressible, recordLines, recordText, recordAt}
+use Rattle.trace.specs.Record.{recordLines, recordText, recordAt}
 use Rattle.trace.specs.Trace.{header, firstRecord, longest, linesOf, traceLines, traceText, AllExpressible, none, also, Found, Records, Breaks, withFirst, foundFrom, traceOf, counted, reading, Opens}
 use Rattle.trace.specs.declared.Record.{Record}
 use Rattle.trace.specs.declared.RecordAt.the-variants.{Is, Broken}

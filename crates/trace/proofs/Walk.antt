@@ -4,12 +4,12 @@ use native.Mathlib.Omega.{arith}
 use native.Mathlib.Numerals.{add-one}
 use mathlib.Core.Path.{_≡_, refl, sym, ap, _∙_}
 use mathlib.Core.List.{List, [], _∷_}
-use mathlib.Core.Bool.{Bool, true, false, cond}
+use mathlib.Core.Bool.{Bool, true, false}
 use lib.Dec.{eqb}
 use lib.ListN.{length}
 use borrow.Author.Tests.{eq-eqb, ne-eqb, eqb-true, eqb-false}
 use Rattle.trace.specs.Record.{recordAt}
-use Rattle.trace.specs.Trace.{firstRecord, Found, Records, Breaks, withFirst, onRecord, foundIn, foundFrom, listed, recordsFrom, Boundary, counted}
+use Rattle.trace.specs.Trace.{Found, Records, Breaks, withFirst, onRecord, foundIn, foundFrom, listed, recordsFrom, Boundary, counted}
 use Rattle.trace.specs.declared.Record.{Record}
 use Rattle.trace.specs.declared.RecordAt.{RecordAt}
 use Rattle.trace.specs.declared.RecordAt.the-variants.{Is, Broken}
@@ -142,6 +142,28 @@ next-record s at r e h q = go (foundFrom s e 6) refl
 
 pub none-broken : (s : List ℕ) (at k : ℕ) → Boundary s at → (at ≡ length s → ⊥) → recordAt s at ≡ Broken k → ⊥
 none-broken s at k h n q = no-records (0 + k) (recordsFrom s at) (sym (found-broken s at 0 k n q) ∙ h)
+
+-- so a boundary before the end has a record, and one with no record left is the end
+pub record Some (s : List ℕ) (at : ℕ) : Type 0 where
+  pub record-there : Record
+  pub past : ℕ
+  pub is : recordAt s at ≡ Is record-there past
+
+pub some-left : (s : List ℕ) (at : ℕ) → Boundary s at → (at ≡ length s → ⊥) → Some s at
+some-left s at h n = go (look s at 0)
+  where
+    go : At s at 0 → Some s at
+    go (ended p f) = absurd (n p)
+    go (broke k q f) = absurd (none-broken s at k h n q)
+    go (went r e q f) = record { record-there = r; past = e; is = q }
+
+pub end-only : (s : List ℕ) (at : ℕ) → Boundary s at → recordsFrom s at ≡ [] → at ≡ length s
+end-only s at h none = go (look s at 0)
+  where
+    go : At s at 0 → at ≡ length s
+    go (ended p f) = p
+    go (broke k q f) = absurd (no-records (0 + k) (recordsFrom s at) (sym f ∙ h))
+    go (went r e q f) = absurd (let z : _≡_ {A = List Record} [] (r ∷ recordsFrom s e) = sym none ∙ next-record s at r e h q .first in let y : _≡_ {A = ℕ} 0 1 = cc in omega arith)
 
 -- the count of a reader that has gone past n records
 abbrev pub counting : ℕ → Found → Reading

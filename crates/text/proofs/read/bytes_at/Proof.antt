@@ -1,16 +1,14 @@
-use Prim.Native.Nat.{_≤_, _<_, _-_, _+_, _*_, _^_}
-use mathlib.Core.Path.{_≡_, refl, sym, ap, _∙_}
+use Prim.Native.Nat.{_≤_, _-_, _+_}
+use mathlib.Core.Path.{_≡_, sym, _∙_}
 use native.Mathlib.Omega.{arith}
 use native.Mathlib.Nat.{add-zero, add-assoc}
-use borrow.Author.Tests.{eq-eqb, ne-eqb}
+use borrow.Author.Tests.{ne-eqb}
 use lib.ListN.{length, drop}
 use denote.Ref.{now}
 use Rattle.text.specs.Bytes.{starts}
 use Rattle.text.proofs.Bytes.{starts-past, starts-end, starts-same, starts-other}
 use Rattle.text.proofs.read.bytes_at.Statement.{statement}
 use Rattle.text.proofs.read.bytes_at.Tie as tie
-use Rattle.text.proofs.read.bytes_at.Reads as reads
-use Rattle.text.proofs.read.bytes_at.Lts as lts
 
 abbrev Inv-loop : tie.InvT-loop
 Inv-loop s at key j₀ j = (j ≤ length key) × (at + length key ≤ length s) × (starts key (drop at s) ≡ starts (drop j key) (drop (at + j) s))

@@ -1,17 +1,12 @@
-use mathlib.Core.Path.{_≡_, refl, sym, ap, _∙_}
+use mathlib.Core.Path.{sym, _∙_}
 use native.Mathlib.Omega.{arith}
 use borrow.Author.Needs.{needs}
 use borrow.Author.Tests.{le-leb, lt-leb, not-true, not-false}
-use lib.ListN.{length}
 use denote.Ref.{now}
 use Rattle.text.specs.Line.{fieldAt}
 use Rattle.text.proofs.Bytes.{starts-within}
 use Rattle.text.proofs.read.field_at.Statement.{statement}
 use Rattle.text.proofs.read.field_at.Tie as tie
-use Rattle.text.proofs.read.field_at.Reads as reads
-use Rattle.text.proofs.read.field_at.Lts as lts
-use Rattle.text.proofs.read.bytes_at.Reads as bytes-at-reads
-use Rattle.text.proofs.read.number_at.Reads as number-at-reads
 
 bytes-at-requires : tie.Need-bytes-at-requires
 bytes-at-requires c κs = search needs

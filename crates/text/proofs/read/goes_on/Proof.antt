@@ -1,12 +1,10 @@
-use Prim.Native.Nat.{_≤_, _<_, _-_, _+_, _*_, _^_}
-use mathlib.Core.Path.{_≡_, refl, sym, ap, _∙_}
+use Prim.Native.Nat.{_-_, _+_, _*_, _^_}
+use mathlib.Core.Path.{sym}
 use native.Mathlib.Omega.{arith}
 use borrow.Author.Tests.{le-leb, lt-leb, lt-ltb, le-ltb}
 use Rattle.text.proofs.Numbers.{goes, goes-last}
 use Rattle.text.proofs.read.goes_on.Statement.{statement}
 use Rattle.text.proofs.read.goes_on.Tie as tie
-use Rattle.text.proofs.read.goes_on.Reads as reads
-use Rattle.text.proofs.read.goes_on.Lts as lts
 
 returns : tie.Need-returns
 returns c = simp (lt-leb _ _ (c .if1 .taken))

@@ -1,5 +1,5 @@
-use Prim.Native.Nat.{_≤_, _-_, _+_}
-use mathlib.Core.Path.{_≡_, refl, sym, ap, _∙_}
+use Prim.Native.Nat.{_≤_, _-_}
+use mathlib.Core.Path.{_≡_, sym, _∙_}
 use mathlib.Core.Bool.{true, false}
 use native.Mathlib.Omega.{arith}
 use borrow.Author.Tests.{le-leb, lt-leb, not-true, not-false}
@@ -9,10 +9,6 @@ use Rattle.text.specs.Decimal.{numberTail, numberAt}
 use Rattle.text.proofs.Numbers.{start-none, start-step, tail-none, tail-ends, tail-goes, went}
 use Rattle.text.proofs.read.number_at.Statement.{statement}
 use Rattle.text.proofs.read.number_at.Tie as tie
-use Rattle.text.proofs.read.number_at.Reads as reads
-use Rattle.text.proofs.read.number_at.Lts as lts
-use Rattle.text.proofs.read.goes_on.Reads as goes-on-reads
-use Rattle.text.proofs.read.wide.Reads as wide-reads
 
 abbrev Inv-loop : tie.InvT-loop
 Inv-loop s at first n₀ i₀ n i = (i ≤ length s) × (numberAt s at ≡ numberTail (drop i s) n i)

@@ -1,5 +1,5 @@
-use Prim.Native.Nat.{ℕ, zero, suc, _≤_, _<_, _-_, _+_, _*_, _^_}
-use mathlib.Core.Path.{_≡_, refl, sym, ap, _∙_}
+use Prim.Native.Nat.{ℕ, zero, suc, _≤_, _<_, _-_, _*_, _^_}
+use mathlib.Core.Path.{_≡_, ap}
 use native.Mathlib.Omega.{arith}
 use native.Mathlib.Nat.{pow-suc}
 use native.Mathlib.Numerals.{add-one}
@@ -8,8 +8,6 @@ use Rattle.text.specs.Decimal.{decimal}
 use Rattle.text.proofs.Decimal.{length-some, length-below, length-from, length-word}
 use Rattle.text.proofs.write.digits_in.Statement.{statement}
 use Rattle.text.proofs.write.digits_in.Tie as tie
-use Rattle.text.proofs.write.digits_in.Reads as reads
-use Rattle.text.proofs.write.digits_in.Lts as lts
 
 abbrev Inv-loop : tie.InvT-loop
 Inv-loop n tenth power₀ digits₀ power digits = (1 ≤ power) × (1 ≤ digits) × (digits ≤ length (decimal n)) × (10 ^ digits ≡ power * 10)

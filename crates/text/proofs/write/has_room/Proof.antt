@@ -1,5 +1,5 @@
-use Prim.Native.Nat.{ℕ, _≤_, _<_, _-_, _+_, _*_, _^_}
-use mathlib.Core.Path.{_≡_, refl, sym, ap, _∙_}
+use Prim.Native.Nat.{_+_}
+use mathlib.Core.Path.{sym}
 use native.Mathlib.Omega.{arith}
 use borrow.Author.Needs.{needs}
 use borrow.Author.Tests.{lt-leb}
@@ -8,8 +8,6 @@ use denote.Ref.{now}
 use Rattle.text.proofs.Splice.{room-moved}
 use Rattle.text.proofs.write.has_room.Statement.{statement}
 use Rattle.text.proofs.write.has_room.Tie as tie
-use Rattle.text.proofs.write.has_room.Reads as reads
-use Rattle.text.proofs.write.has_room.Lts as lts
 
 returns : tie.Need-returns
 returns c = let a = c .before .args in sym (lt-leb (a .at + a .n) (length (now (a .buf))) (omega arith))

@@ -1,5 +1,5 @@
-use Prim.Native.Nat.{_≤_, _-_, _+_}
-use mathlib.Core.Path.{_≡_, refl, sym, ap, _∙_}
+use Prim.Native.Nat.{_≤_, _-_}
+use mathlib.Core.Path.{_≡_, refl, ap, _∙_}
 use native.Mathlib.Omega.{arith}
 use lib.ListN.{length, take, length-set}
 use lib.Seq.{take-all}
@@ -8,8 +8,6 @@ use Rattle.text.specs.Write.{spliced}
 use Rattle.text.proofs.Splice.{splice-none, splice-take}
 use Rattle.text.proofs.write.place_bytes.Statement.{statement}
 use Rattle.text.proofs.write.place_bytes.Tie as tie
-use Rattle.text.proofs.write.place_bytes.Reads as reads
-use Rattle.text.proofs.write.place_bytes.Lts as lts
 
 abbrev Inv-loop : tie.InvT-loop
 Inv-loop buf₀ at t i₀ buf i = (i ≤ length t) × (buf ≡ spliced buf₀ at (take i t)) × (length buf ≡ length buf₀)

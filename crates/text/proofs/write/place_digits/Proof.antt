@@ -1,13 +1,11 @@
-use Prim.Native.Nat.{ℕ, _≤_, _<_, _-_, _+_, _/_}
-use mathlib.Core.Path.{_≡_, refl, sym, ap, _∙_}
+use Prim.Native.Nat.{_≤_, _<_, _-_, _/_}
+use mathlib.Core.Path.{_≡_, refl}
 use native.Mathlib.Omega.{arith}
 use lib.ListN.{length, length-set}
 use Rattle.text.proofs.Decimal.{length-some, length-more}
 use Rattle.text.proofs.Splice.{Backwards, back-none, back-more, back-last}
 use Rattle.text.proofs.write.place_digits.Statement.{statement}
 use Rattle.text.proofs.write.place_digits.Tie as tie
-use Rattle.text.proofs.write.place_digits.Reads as reads
-use Rattle.text.proofs.write.place_digits.Lts as lts
 
 abbrev Inv-loop : tie.InvT-loop
 Inv-loop buf₀ at past n left₀ i₀ buf left i = (i < length buf₀) × (length buf ≡ length buf₀) × Backwards buf₀ at n buf left i

@@ -1,5 +1,5 @@
 use Prim.Native.Nat.{_+_}
-use mathlib.Core.Path.{_≡_, refl, sym, ap, _∙_}
+use mathlib.Core.Path.{sym, _∙_}
 use native.Mathlib.Omega.{arith}
 use borrow.Author.Needs.{needs}
 use borrow.Author.Tests.{leb-true, leb-false, not-true, not-false}
@@ -8,10 +8,6 @@ use denote.Ref.{now}
 use Rattle.text.proofs.Splice.{room, no-room}
 use Rattle.text.proofs.write.put_bytes.Statement.{statement}
 use Rattle.text.proofs.write.put_bytes.Tie as tie
-use Rattle.text.proofs.write.put_bytes.Reads as reads
-use Rattle.text.proofs.write.put_bytes.Lts as lts
-use Rattle.text.proofs.write.has_room.Reads as has-room-reads
-use Rattle.text.proofs.write.place_bytes.Reads as place-bytes-reads
 
 has-room-requires : tie.Need-has-room-requires
 has-room-requires c κs = search needs

@@ -1,21 +1,14 @@
 use Prim.Native.Nat.{_+_, _≤_}
-use mathlib.Core.Path.{_≡_, refl, sym, ap, _∙_}
+use mathlib.Core.Path.{_≡_, sym, ap, _∙_}
 use native.Mathlib.Omega.{arith}
 use borrow.Author.Needs.{needs}
 use borrow.Author.Tests.{not-true, not-false}
 use lib.ListN.{length, length-set}
 use denote.Ref.{now}
-use Rattle.text.specs.Decimal.{decimal}
 use Rattle.text.proofs.Decimal.{length-word}
-use Rattle.text.proofs.Splice.{no-room, splice-length, line-length, line-room, line-no-room, line-put}
+use Rattle.text.proofs.Splice.{no-room, line-length, line-room, line-no-room, line-put}
 use Rattle.text.proofs.write.put_line.Statement.{statement}
 use Rattle.text.proofs.write.put_line.Tie as tie
-use Rattle.text.proofs.write.put_line.Reads as reads
-use Rattle.text.proofs.write.put_line.Lts as lts
-use Rattle.text.proofs.write.digits_in.Reads as digits-in-reads
-use Rattle.text.proofs.write.has_room.Reads as has-room-reads
-use Rattle.text.proofs.write.place_bytes.Reads as place-bytes-reads
-use Rattle.text.proofs.write.place_digits.Reads as place-digits-reads
 
 digits-in-requires : tie.Need-digits-in-requires
 digits-in-requires c κs = search needs

@@ -1,8 +1,6 @@
 use Rattle.trace.specs.Record.{limit}
 use Rattle.trace.proofs.lines.limit_of.Statement.{statement}
 use Rattle.trace.proofs.lines.limit_of.Tie as tie
-use Rattle.trace.proofs.lines.limit_of.Reads as reads
-use Rattle.trace.proofs.lines.limit_of.Lts as lts
 
 returns : tie.Need-returns
 unfolding limit

@@ -1,18 +1,10 @@
-use mathlib.Core.Path.{_≡_, sym, _∙_}
+use mathlib.Core.Path.{sym, _∙_}
 use borrow.Author.Needs.{needs}
 use Rattle.text.specs.Line.{fieldAt, linesAt}
 use Rattle.trace.specs.Record.{slotKey, idKey, stampKey, clockKey, sampleKey, most, mostSlot, rules, recordAt}
 use Rattle.trace.proofs.Records.{limited}
 use Rattle.trace.proofs.lines.record_at.Statement.{statement}
 use Rattle.trace.proofs.lines.record_at.Tie as tie
-use Rattle.trace.proofs.lines.record_at.Reads as reads
-use Rattle.trace.proofs.lines.record_at.Lts as lts
-use Rattle.text.proofs.field_at.Reads as field-at-reads
-use Rattle.trace.proofs.lines.limit_of.Reads as limit-of-reads
-use Rattle.trace.proofs.ops.op_at.Reads as op-at-reads
-use Rattle.trace.proofs.ops.reads_clock.Reads as reads-clock-reads
-use Rattle.trace.proofs.ops.reads_owner.Reads as reads-owner-reads
-use Rattle.trace.proofs.ops.reads_stamp.Reads as reads-stamp-reads
 
 op-at-requires : tie.Need-op-at-requires
 op-at-requires c κs = search needs

@@ -1,11 +1,6 @@
-use mathlib.Core.Path.{_≡_, refl, sym, ap, _∙_}
-use native.Mathlib.Omega.{arith}
 use borrow.Author.Needs.{needs}
 use Rattle.trace.proofs.ops.name_at.Statement.{statement}
 use Rattle.trace.proofs.ops.name_at.Tie as tie
-use Rattle.trace.proofs.ops.name_at.Reads as reads
-use Rattle.trace.proofs.ops.name_at.Lts as lts
-use Rattle.trace.proofs.ops.try_name.Reads as try-name-reads
 
 slice-aggregate-try-name : tie.Need-slice-aggregate-try-name
 slice-aggregate-try-name c = search needs

@@ -1,4 +1,4 @@
-use mathlib.Core.Path.{_≡_, refl, sym, ap, _∙_}
+use mathlib.Core.Path.{sym, _∙_}
 use native.Mathlib.Omega.{arith}
 use borrow.Author.Needs.{needs}
 use denote.Ref.{now}
@@ -6,10 +6,6 @@ use Rattle.text.proofs.Bytes.{starts-room}
 use Rattle.trace.specs.Op.{opKey, opAt}
 use Rattle.trace.proofs.ops.op_at.Statement.{statement}
 use Rattle.trace.proofs.ops.op_at.Tie as tie
-use Rattle.trace.proofs.ops.op_at.Reads as reads
-use Rattle.trace.proofs.ops.op_at.Lts as lts
-use Rattle.text.proofs.bytes_at.Reads as bytes-at-reads
-use Rattle.trace.proofs.ops.name_at.Reads as name-at-reads
 
 slice-aggregate-bytes-at : tie.Need-slice-aggregate-bytes-at
 slice-aggregate-bytes-at c = search needs

@@ -9,8 +9,6 @@ use Rattle.trace.specs.declared.Op.the-variants.{Begin, End, Snap, Own, 
 use Rattle.trace.proofs.Arms.{tag, arm}
 use Rattle.trace.proofs.ops.reads_clock.Statement.{statement}
 use Rattle.trace.proofs.ops.reads_clock.Tie as tie
-use Rattle.trace.proofs.ops.reads_clock.Reads as reads
-use Rattle.trace.proofs.ops.reads_clock.Lts as lts
 
 reads-it : (o : Op) → hasKey (2 ∷ 3 ∷ 4 ∷ 5 ∷ []) (tag o) ≡ readsClock o
 reads-it Begin = refl

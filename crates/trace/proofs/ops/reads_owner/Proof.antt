@@ -9,8 +9,6 @@ use Rattle.trace.specs.declared.Op.the-variants.{Begin, End, Snap, Own, 
 use Rattle.trace.proofs.Arms.{tag, arm}
 use Rattle.trace.proofs.ops.reads_owner.Statement.{statement}
 use Rattle.trace.proofs.ops.reads_owner.Tie as tie
-use Rattle.trace.proofs.ops.reads_owner.Reads as reads
-use Rattle.trace.proofs.ops.reads_owner.Lts as lts
 
 reads-it : (o : Op) → hasKey (1 ∷ 3 ∷ 7 ∷ []) (tag o) ≡ readsOwner o
 reads-it Begin = refl

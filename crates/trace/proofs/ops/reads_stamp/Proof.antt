@@ -9,8 +9,6 @@ use Rattle.trace.specs.declared.Op.the-variants.{Begin, End, Snap, Own, 
 use Rattle.trace.proofs.Arms.{tag, arm}
 use Rattle.trace.proofs.ops.reads_stamp.Statement.{statement}
 use Rattle.trace.proofs.ops.reads_stamp.Tie as tie
-use Rattle.trace.proofs.ops.reads_stamp.Reads as reads
-use Rattle.trace.proofs.ops.reads_stamp.Lts as lts
 
 reads-it : (o : Op) → hasKey (0 ∷ 6 ∷ 7 ∷ []) (tag o) ≡ readsStamp o
 reads-it Begin = refl

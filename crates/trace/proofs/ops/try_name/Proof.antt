@@ -1,4 +1,4 @@
-use mathlib.Core.Path.{_≡_, refl, sym, ap, _∙_}
+use mathlib.Core.Path.{sym, _∙_}
 use native.Mathlib.Omega.{arith}
 use borrow.Author.Needs.{needs}
 use denote.Ref.{now}
@@ -6,9 +6,6 @@ use Rattle.text.proofs.Bytes.{starts-room}
 use Rattle.trace.specs.Op.{tryName}
 use Rattle.trace.proofs.ops.try_name.Statement.{statement}
 use Rattle.trace.proofs.ops.try_name.Tie as tie
-use Rattle.trace.proofs.ops.try_name.Reads as reads
-use Rattle.trace.proofs.ops.try_name.Lts as lts
-use Rattle.text.proofs.bytes_at.Reads as bytes-at-reads
 
 bytes-at-requires : tie.Need-bytes-at-requires
 bytes-at-requires c κs = search needs

@@ -1,5 +1,5 @@
-use Prim.Native.Nat.{ℕ, _≤_, _-_, _+_, _*_}
-use mathlib.Core.Path.{_≡_, refl, sym, ap, _∙_}
+use Prim.Native.Nat.{_≤_, _-_, _+_, _*_}
+use mathlib.Core.Path.{_≡_, sym, ap, _∙_}
 use native.Mathlib.Omega.{arith}
 use borrow.Author.Needs.{needs}
 use borrow.Author.Tests.{lt-ltb, le-ltb, not-true, not-false}
@@ -9,14 +9,9 @@ use Rattle.text.proofs.Bytes.{starts-room}
 use Rattle.trace.specs.Trace.{header, reading, traceOf, foundFrom}
 use Rattle.trace.specs.declared.Reading.the-variants.{Whole}
 use Rattle.trace.proofs.Records.{moves, record-open}
-use Rattle.trace.proofs.Walk.{counting, count-start, count-next, found-end, found-broken, found-next}
+use Rattle.trace.proofs.Walk.{counting, count-start, count-next, found-end, found-broken}
 use Rattle.trace.proofs.whole.read_trace.Statement.{statement}
 use Rattle.trace.proofs.whole.read_trace.Tie as tie
-use Rattle.trace.proofs.whole.read_trace.Reads as reads
-use Rattle.trace.proofs.whole.read_trace.Lts as lts
-use Rattle.text.proofs.bytes_at.Reads as bytes-at-reads
-use Rattle.trace.proofs.lines.record_at.Reads as record-at-reads
-use Rattle.trace.proofs.whole.first_record.Reads as first-record-reads
 
 abbrev Inv-loop : tie.InvT-loop
 Inv-loop s at₀ n₀ at n = (length s ≤ 65536) × (at ≤ length s) × (n ≤ at) × (reading s ≡ counting n (foundFrom s at (1 + 6 * n)))
