@@ -5,7 +5,6 @@ use mathlib.Core.Path.{_≡_, refl, sym, ap, _∙_}
 use mathlib.Core.List.{List, [], _∷_, _++_, append-assoc}
 use mathlib.Core.Bool.{Bool, true, false}
 use lib.ListN.{length, take, drop, length-append, length-drop}
-use Rattle.text.specs.declared.Number.{Number}
 use Rattle.text.specs.Line.{lineTexts, joined, Within, none, also, Lines, Read, Breaks, linesAt}
 use Rattle.text.proofs.Places.{rest-of, There, then}
 use Rattle.text.proofs.Lines.{lines-of, lines-text, Spelled, lines-open, Opening, lines-late}
@@ -22,10 +21,6 @@ use Rattle.trace.proofs.OpLines.{op-of, op-there, op-length}
 -- the numbers of a record, in the order of its lines
 abbrev numbersOf : Record → List ℕ
 numbersOf r = r .slot ∷ r .id ∷ r .stamp ∷ r .clock ∷ r .sample ∷ []
-
--- a line read with a limit that was worked out
-pub limited : (f : ℕ → Number) (x : ℕ) {m : ℕ} (r q : Bool) {n v : Number} → m ≡ limit r x → r ≡ q → n ≡ f m → n ≡ v → f (limit q x) ≡ v
-limited f x r q p o g h = ap f (ap (λ (b : Bool). limit b x) (sym o) ∙ sym p) ∙ sym g ∙ h
 
 limit-fits : (b : Bool) (n m : ℕ) → m < 2 ^ 64 → n ≤ limit b m → n < 2 ^ 64
 unfolding limit

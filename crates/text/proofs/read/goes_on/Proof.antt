@@ -1,3 +1,4 @@
+-- `goes_on` meets its contract.
 use Prim.Native.Nat.{_-_, _+_, _*_, _^_}
 use mathlib.Core.Path.{sym}
 use native.Mathlib.Omega.{arith}

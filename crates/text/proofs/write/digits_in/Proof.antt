@@ -1,3 +1,4 @@
+-- `digits_in` meets its contract.
 use Prim.Native.Nat.{ℕ, zero, suc, _≤_, _<_, _-_, _*_, _^_}
 use mathlib.Core.Path.{_≡_, ap}
 use native.Mathlib.Omega.{arith}

@@ -1,3 +1,4 @@
+-- `has_room` meets its contract.
 use Prim.Native.Nat.{_+_}
 use mathlib.Core.Path.{sym}
 use native.Mathlib.Omega.{arith}

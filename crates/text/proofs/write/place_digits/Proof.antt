@@ -1,3 +1,4 @@
+-- `place_digits` meets its contract.
 use Prim.Native.Nat.{_≤_, _<_, _-_, _/_}
 use mathlib.Core.Path.{_≡_, refl}
 use native.Mathlib.Omega.{arith}

@@ -1,3 +1,4 @@
+-- `put_line` meets its contract.
 use Prim.Native.Nat.{_+_, _≤_}
 use mathlib.Core.Path.{_≡_, sym, ap, _∙_}
 use native.Mathlib.Omega.{arith}

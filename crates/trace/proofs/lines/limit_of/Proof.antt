@@ -1,3 +1,4 @@
+-- `limit_of` meets its contract.
 use Rattle.trace.specs.Record.{limit}
 use Rattle.trace.proofs.lines.limit_of.Statement.{statement}
 use Rattle.trace.proofs.lines.limit_of.Tie as tie

@@ -1,3 +1,4 @@
+-- `name_at` meets its contract.
 use borrow.Author.Needs.{needs}
 use Rattle.trace.proofs.ops.name_at.Statement.{statement}
 use Rattle.trace.proofs.ops.name_at.Tie as tie
