@@ -19,7 +19,8 @@ use Rattle.trace.specs.declared.Record.{Record}
 use Rattle.trace.specs.declared.RecordAt.the-variants.{Is}
 use Rattle.trace.specs.declared.Reading.the-variants as reading
 use Rattle.trace.proofs.Records.{record-of, record-text, text-length}
-use Rattle.trace.proofs.Walk.{found-end, found-next, along, At, ended, broke, went, look, no-records, boundary}
+use Rattle.trace.proofs.Walk.{found-end, found-next, along, At, ended, broke, went, look, no-records}
+use Rattle.trace.proofs.Loop.{boundary}
 
 -- the text of some records, one record at a time
 pub lines-first : (r : Record) (rs : List Record) → joined (linesOf (r ∷ rs)) ≡ recordText r ++ joined (linesOf rs)

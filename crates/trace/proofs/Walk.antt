@@ -1,15 +1,15 @@
--- Record after record: one step, the bound that is never reached, and what a loop at a record's place knows. Assumes nothing.
-use Prim.Native.Nat.{ℕ, zero, suc, _+_, _-_, _*_, _≤_, _<_}
+-- Record after record: one step, induction along the records, the bound that is never reached, and the count. Assumes nothing.
+use Prim.Native.Nat.{ℕ, zero, suc, _+_, _-_, _*_, _<_}
 use native.Mathlib.Omega.{arith}
 use native.Mathlib.Numerals.{add-one}
 use mathlib.Core.Path.{_≡_, refl, sym, ap, _∙_}
-use mathlib.Core.List.{List, [], _∷_}
+use mathlib.Core.List.{List, []}
 use mathlib.Core.Bool.{Bool, true, false}
 use lib.Dec.{eqb}
 use lib.ListN.{length}
 use borrow.Author.Tests.{eq-eqb, ne-eqb, eqb-true, eqb-false}
 use Rattle.trace.specs.Record.{recordAt}
-use Rattle.trace.specs.Trace.{Found, Records, Breaks, withFirst, onRecord, foundIn, foundFrom, listed, recordsFrom, Boundary, counted}
+use Rattle.trace.specs.Trace.{Found, Records, Breaks, withFirst, onRecord, foundIn, foundFrom, counted}
 use Rattle.trace.specs.declared.Record.{Record}
 use Rattle.trace.specs.declared.RecordAt.{RecordAt}
 use Rattle.trace.specs.declared.RecordAt.the-variants.{Is, Broken}
@@ -103,67 +103,6 @@ alike s = along s (Alike s) (λ at ih b c rs h. go at ih b c rs h (look s at b))
     go at ih b c rs h (went r e q f) =
         let m = moves s at r e q in
         found-next s at c r e (λ p. omega (arith, m .0, m .1)) q ∙ tail e (b + 6) (c + 6) r rs (ih r e q) (foundFrom s e (b + 6)) refl (sym f ∙ h)
-
--- What a loop over the records knows. It stands at `at`, a record's place or the end.
-pub boundary : (s : List ℕ) (at b : ℕ) (rs : List Record) → foundFrom s at b ≡ Records rs → Boundary s at × (recordsFrom s at ≡ rs)
-unfolding recordsFrom
-boundary s at b rs h =
-    let p : foundFrom s at 0 ≡ Records rs = alike s at b 0 rs h in
-    let q : listed (foundFrom s at 0) ≡ rs = ap listed p in
-    (p ∙ ap Records (sym q), q)
-
--- at the end no record is left
-pub none-left : (s : List ℕ) (at : ℕ) → at ≡ length s → recordsFrom s at ≡ []
-unfolding recordsFrom
-none-left s at h = ap listed (found-end s at 0 h)
-
--- before the end a record stands: it is the first that is left, and past it stands the next, or the end
-pub record Next (s : List ℕ) (at : ℕ) (r : Record) (e : ℕ) : Type 0 where
-  pub first : recordsFrom s at ≡ r ∷ recordsFrom s e
-  pub again : Boundary s e
-  pub further : at < e
-  pub inside : e ≤ length s
-
-pub next-record : (s : List ℕ) (at : ℕ) (r : Record) (e : ℕ) → Boundary s at → recordAt s at ≡ Is r e → Next s at r e
-next-record s at r e h q = go (foundFrom s e 6) refl
-  where
-    go : (x : Found) → foundFrom s e 6 ≡ x → Next s at r e
-    go x p =
-        let m = moves s at r e q in
-        let f = found-next s at 0 r e (λ z. omega (arith, m .0, m .1)) q in
-        go′ x p (sym h ∙ f) m
-      where
-        go′ : (x : Found) → foundFrom s e 6 ≡ x → Records (recordsFrom s at) ≡ withFirst r (foundFrom s e 6) → (at < e) × (e ≤ length s) → Next s at r e
-        go′ (Breaks k) p f m = absurd (no-records k (recordsFrom s at) (sym (f ∙ ap (withFirst r) p)))
-        go′ (Records rs) p f m =
-            let b = boundary s e 6 rs p in
-            let same : recordsFrom s at ≡ r ∷ rs = cc in
-            record { first = same ∙ ap (λ (ts : List Record). r ∷ ts) (sym (b .1)); again = b .0; further = m .0; inside = m .1 }
-
-pub none-broken : (s : List ℕ) (at k : ℕ) → Boundary s at → (at ≡ length s → ⊥) → recordAt s at ≡ Broken k → ⊥
-none-broken s at k h n q = no-records (0 + k) (recordsFrom s at) (sym (found-broken s at 0 k n q) ∙ h)
-
--- so a boundary before the end has a record, and one with no record left is the end
-pub record Some (s : List ℕ) (at : ℕ) : Type 0 where
-  pub record-there : Record
-  pub past : ℕ
-  pub is : recordAt s at ≡ Is record-there past
-
-pub some-left : (s : List ℕ) (at : ℕ) → Boundary s at → (at ≡ length s → ⊥) → Some s at
-some-left s at h n = go (look s at 0)
-  where
-    go : At s at 0 → Some s at
-    go (ended p f) = absurd (n p)
-    go (broke k q f) = absurd (none-broken s at k h n q)
-    go (went r e q f) = record { record-there = r; past = e; is = q }
-
-pub end-only : (s : List ℕ) (at : ℕ) → Boundary s at → recordsFrom s at ≡ [] → at ≡ length s
-end-only s at h none = go (look s at 0)
-  where
-    go : At s at 0 → at ≡ length s
-    go (ended p f) = p
-    go (broke k q f) = absurd (no-records (0 + k) (recordsFrom s at) (sym f ∙ h))
-    go (went r e q f) = absurd (let z : _≡_ {A = List Record} [] (r ∷ recordsFrom s e) = sym none ∙ next-record s at r e h q .first in let y : _≡_ {A = ℕ} 0 1 = cc in omega arith)
 
 -- the count of a reader that has gone past n records
 abbrev pub counting : ℕ → Found → Reading
