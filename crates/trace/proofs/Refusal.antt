@@ -17,7 +17,7 @@ use Rattle.text.proofs.Bytes.{starts-of, starts-text}
 use Rattle.text.proofs.Places.{rest-of}
 use Rattle.text.proofs.Lines.{joined-append}
 use Rattle.trace.specs.Record.{recordLines, recordText, recordAt}
-use Rattle.trace.specs.Trace.{header, firstRecord, longest, linesOf, traceLines, traceText, AllExpressible, none, also, Found, Records, Breaks, withFirst, foundFrom, traceOf, counted, reading, Opens}
+use Rattle.trace.specs.Trace.{header, firstRecord, longest, linesOf, traceLines, traceText, AllExpressible, none, also, Found, Records, Breaks, withFirst, foundFrom, traceOf, counted, reading, Opens, FirstBroken}
 use Rattle.trace.specs.declared.Record.{Record}
 use Rattle.trace.specs.declared.RecordAt.the-variants.{Is, Broken}
 use Rattle.trace.specs.declared.Reading.the-variants as reading
@@ -128,11 +128,6 @@ late-from (r ∷ rs) s at b m j rest (also x xs) l e h = go (decLt 6 j) (look s 
     go : Dec (6 < j) → At s at b → ((p : ℕ) → drop p s ≡ joined (take (j - 6) (linesOf rs)) ++ rest → foundFrom s p (b + 6) ≡ Breaks m → b + 6 + (j - 6) < m) → b + j < m
     go (no g) w ih = inside (omega arith) w
     go (yes g) w ih = past g ih
-
--- line k + 1 is the first line of s that breaks a rule: the k lines before it are the first of some trace, and with it they are not
-pub record FirstBroken (k : ℕ) (s : List ℕ) : Type 0 where
-  pub before : Opens k s
-  pub broken : Opens (k + 1) s → ⊥
 
 trace-breaks : (f : Found) (k : ℕ) → counted f ≡ reading.Broken k → f ≡ Breaks k
 trace-breaks (Records rs) k h = absurd (let z : _≡_ {A = ℕ} 0 1 = cc in omega arith)

@@ -42,6 +42,7 @@ readsClock End = false
 readsClock Stamp = false
 readsClock Finish = false
 
+-- `op=`
 abbrev pub opKey : List ℕ
 opKey = 111 ∷ 112 ∷ 61 ∷ []
 

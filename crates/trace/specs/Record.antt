@@ -12,18 +12,23 @@ use Rattle.trace.specs.declared.Record.{Record}
 use Rattle.trace.specs.declared.RecordAt.{RecordAt}
 use Rattle.trace.specs.declared.RecordAt.the-variants.{Is, Broken}
 
+-- `slot=`
 abbrev pub slotKey : List ℕ
 slotKey = 115 ∷ 108 ∷ 111 ∷ 116 ∷ 61 ∷ []
 
+-- `id=`
 abbrev pub idKey : List ℕ
 idKey = 105 ∷ 100 ∷ 61 ∷ []
 
+-- `stamp=`
 abbrev pub stampKey : List ℕ
 stampKey = 115 ∷ 116 ∷ 97 ∷ 109 ∷ 112 ∷ 61 ∷ []
 
+-- `clock=`
 abbrev pub clockKey : List ℕ
 clockKey = 99 ∷ 108 ∷ 111 ∷ 99 ∷ 107 ∷ 61 ∷ []
 
+-- `sample=`
 abbrev pub sampleKey : List ℕ
 sampleKey = 115 ∷ 97 ∷ 109 ∷ 112 ∷ 108 ∷ 101 ∷ 61 ∷ []
 

@@ -14,7 +14,7 @@ use Rattle.trace.specs.declared.RecordAt.the-variants as one
 use Rattle.trace.specs.declared.Reading.{Reading}
 use Rattle.trace.specs.declared.Reading.the-variants.{Whole, Broken}
 
--- the first line, `trace=proc-1`
+-- the first line, `trace=proc-1` and its newline
 abbrev pub header : List ℕ
 header = 116 ∷ 114 ∷ 97 ∷ 99 ∷ 101 ∷ 61 ∷ 112 ∷ 114 ∷ 111 ∷ 99 ∷ 45 ∷ 49 ∷ 10 ∷ []
 
@@ -36,6 +36,7 @@ traceLines rs = header ∷ linesOf rs
 unfoldable pub traceText : List Record → List ℕ
 traceText rs = joined (traceLines rs)
 
+-- records that the text can express, each of them
 pub data AllExpressible : List Record → Type 0 where
   none : AllExpressible []
   also : {r : Record} {rs : List Record} → Expressible r → AllExpressible rs → AllExpressible (r ∷ rs)
@@ -77,21 +78,27 @@ counted (Breaks k) = Broken k
 unfoldable pub reading : List ℕ → Reading
 reading s = counted (traceOf s)
 
--- the records that are left from `at` on, and that nothing else is: a loop over the records stands at such places
 abbrev pub listed : Found → List Record
 listed (Records rs) = rs
 listed (Breaks k) = []
 
+-- the records that are left from `at` on
 unfoldable pub recordsFrom : List ℕ → ℕ → List Record
 recordsFrom s at = listed (foundFrom s at 0)
 
+-- from `at` on the text is those records and nothing else: where a loop over the records stands
 abbrev pub Boundary : List ℕ → ℕ → Type 0
 Boundary s at = foundFrom s at 0 ≡ Records (recordsFrom s at)
 
--- the first k lines of s are the first k lines of some trace
+-- s begins with the first k lines of some trace, each with its newline
 pub record Opens (k : ℕ) (s : List ℕ) : Type 0 where
   pub records : List Record
   pub expressible : AllExpressible records
   pub enough : k ≤ length (traceLines records)
   pub rest : List ℕ
   pub text : s ≡ joined (take k (traceLines records)) ++ rest
+
+-- line k + 1 is the first that breaks a rule: s begins with the first k lines of some trace, and with no first k + 1
+pub record FirstBroken (k : ℕ) (s : List ℕ) : Type 0 where
+  pub before : Opens k s
+  pub broken : Opens (k + 1) s → ⊥
