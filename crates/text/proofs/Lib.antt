@@ -1,0 +1,7 @@
+pub mod Decimal
+pub mod Numbers
+pub mod Bytes
+pub mod Places
+pub mod Lines
+pub mod Splice
+mod Examples

@@ -1,0 +1,63 @@
+-- `field_at` meets its contract.
+use mathlib.Core.Path.{sym, _∙_}
+use native.Mathlib.Omega.{arith}
+use borrow.Author.Needs.{needs}
+use borrow.Author.Tests.{le-leb, lt-leb, not-true, not-false}
+use denote.Ref.{now}
+use Rattle.text.specs.Line.{fieldAt}
+use Rattle.text.proofs.Bytes.{starts-within}
+use Rattle.text.proofs.read.field_at.Statement.{statement}
+use Rattle.text.proofs.read.field_at.Tie as tie
+
+bytes-at-requires : tie.Need-bytes-at-requires
+bytes-at-requires c κs = search needs
+
+returns : tie.Need-returns
+unfolding fieldAt
+returns c = rw (sym (c .before .bytes-at .ensures) ∙ not-true _ (c .if1 .taken))
+
+add-number-at : tie.Need-add-number-at
+add-number-at c =
+    let a = c .before .before .before .before .args in
+    omega (arith, starts-within (now (a .key)) (now (a .s)) (a .at) 18446744073709551615 (omega arith) (omega arith) (sym (c .before .bytes-at .ensures) ∙ not-false _ (c .if1 .left)))
+
+number-at-requires : tie.Need-number-at-requires
+number-at-requires c κs = search needs
+
+enum-known-n : tie.Need-enum-known-n
+enum-known-n c = search needs
+
+enum-told : tie.Need-enum-told
+enum-told c = search needs
+
+returns-2 : tie.Need-returns-2
+unfolding fieldAt
+returns-2 c =
+    let p = c .before .before .before in
+    rw (sym (p .before .bytes-at .ensures) ∙ not-false _ (p .if1 .left), sym (c .before .before .number-at .ensures) ∙ c .enum-told .given .1)
+
+returns-3 : tie.Need-returns-3
+unfolding fieldAt
+returns-3 c =
+    let p = c .before .before .before .before .before in
+    rw (sym (p .before .bytes-at .ensures) ∙ not-false _ (p .if1 .left), sym (c .before .before .before .before .number-at .ensures) ∙ c .before .before .n .given .1, le-leb _ _ (c .if2 .taken))
+
+returns-4 : tie.Need-returns-4
+unfolding fieldAt
+returns-4 c =
+    let p = c .before .before .before .before .before in
+    rw (sym (p .before .bytes-at .ensures) ∙ not-false _ (p .if1 .left), sym (c .before .before .before .before .number-at .ensures) ∙ c .before .before .n .given .1, lt-leb _ _ (c .if2 .left))
+
+pub field-at-spec : {M : Type 1} → statement M
+field-at-spec =
+    tie.close
+    (tie.spec
+    bytes-at-requires
+    returns
+    add-number-at
+    number-at-requires
+    enum-known-n
+    enum-told
+    returns-2
+    returns-3
+    returns-4)

@@ -1,0 +1,4 @@
+pub mod Decimal
+pub mod Bytes
+pub mod Line
+pub mod Write

@@ -1,0 +1,90 @@
+// Writing at a place of a lent buffer: a fixed byte string, a line of a key and a number.
+use crate::Put;
+ghost use Prim.Native.Nat.{_≤_, _+_};
+ghost use mathlib.Core.Path.{_≡_};
+ghost use lib.Dec.{leb};
+ghost use lib.ListN.{length};
+ghost use Rattle.text.specs.Decimal.{decimal};
+ghost use Rattle.text.specs.Line.{lineText};
+ghost use Rattle.text.specs.Write.{spliced, putAt, written};
+
+// How many digits n has: 1, and one more for each power of ten that a tenth of n reaches.
+fn digits_in(n: u64) -> usize
+    ensures { λ r. ⌜ r ≡ length (decimal n) ⌝ }
+{
+    let tenth = n / 10;
+    let mut power: u64 = 1;
+    let mut digits: usize = 1;
+    while power <= tenth {
+        power *= 10;
+        digits += 1;
+    }
+    digits
+}
+
+// The digits of n, the last one just before `past`: written from the back, one division each.
+fn place_digits(buf: &mut [u8], at: usize, past: usize, n: u64)
+    requires { ⌜ past ≡ at + length (decimal n) ⌝ }
+    requires { ⌜ past ≤ length (now buf) ⌝ }
+    ensures { λ _. ⌜ now (buf .exit) ≡ spliced (now (buf .entry)) at (decimal n) ⌝ }
+{
+    let mut left = n;
+    let mut i = past - 1;
+    while 10 <= left {
+        buf[i] = b'0' + (left % 10) as u8;
+        left /= 10;
+        i -= 1;
+    }
+    buf[i] = b'0' + left as u8;
+}
+
+// The bytes of t, from `at` on.
+fn place_bytes(buf: &mut [u8], at: usize, t: &[u8])
+    requires { ⌜ at + length (now t) ≤ length (now buf) ⌝ }
+    ensures { λ _. ⌜ now (buf .exit) ≡ spliced (now (buf .entry)) at (now (t .entry)) ⌝ }
+{
+    let mut i = 0;
+    while i < t.len() {
+        buf[at + i] = t[i];
+        i += 1;
+    }
+}
+
+// Whether n bytes have room from `at` on.
+fn has_room(buf: &[u8], at: usize, n: usize) -> bool
+    ensures { λ r. ⌜ r ≡ leb (at + n) (length (now (buf .entry))) ⌝ }
+{
+    if buf.len() < n {
+        return false;
+    }
+    at <= buf.len() - n
+}
+
+// The bytes of t, from `at` on, where there is room for them.
+pub fn put_bytes(buf: &mut [u8], at: usize, t: &[u8]) -> Put
+    ensures { λ r. ⌜ r ≡ putAt (now (buf .entry)) at (now (t .entry)) ⌝ }
+    ensures { λ _. ⌜ now (buf .exit) ≡ written (now (buf .entry)) at (now (t .entry)) ⌝ }
+{
+    if !has_room(buf, at, t.len()) {
+        return Put::NoRoom;
+    }
+    place_bytes(buf, at, t);
+    Put::Past(at + t.len())
+}
+
+// The line of `key` and n, from `at` on, where there is room for it.
+pub fn put_line(buf: &mut [u8], at: usize, key: &[u8], n: u64) -> Put
+    ensures { λ r. ⌜ r ≡ putAt (now (buf .entry)) at (lineText (now (key .entry)) n) ⌝ }
+    ensures { λ _. ⌜ now (buf .exit) ≡ written (now (buf .entry)) at (lineText (now (key .entry)) n) ⌝ }
+{
+    let digits = digits_in(n);
+    if !has_room(buf, at, key.len() + digits + 1) {
+        return Put::NoRoom;
+    }
+    place_bytes(buf, at, key);
+    let start = at + key.len();
+    let end = start + digits;
+    place_digits(buf, start, end, n);
+    buf[end] = b'\n';
+    Put::Past(end + 1)
+}

@@ -1,0 +1,133 @@
+-- The grammar both ways: what is accepted is the text of its records, and the text of records is accepted as them. Assumes nothing.
+use Prim.Native.Nat.{ℕ, _+_, _≤_}
+use native.Mathlib.Omega.{arith}
+use mathlib.Core.Path.{_≡_, refl, sym, ap, _∙_}
+use mathlib.Core.List.{List, [], _∷_, _++_}
+use mathlib.Core.Bool.{Bool, true, false, cond}
+use lib.Dec.{ltb}
+use lib.ListN.{length, drop, length-append}
+use lib.Seq.{drop-length}
+use borrow.Author.Tests.{le-ltb, ltb-false}
+use Rattle.text.specs.Bytes.{starts}
+use Rattle.text.specs.Line.{joined}
+use Rattle.text.proofs.Bytes.{starts-of, starts-text}
+use Rattle.text.proofs.Places.{rest-of}
+use Rattle.text.proofs.Lines.{joined-append}
+use Rattle.trace.specs.Record.{recordLines, recordText, recordAt}
+use Rattle.trace.specs.Trace.{header, firstRecord, longest, linesOf, traceLines, traceText, AllExpressible, none, also, Found, Records, Breaks, withFirst, foundFrom, traceOf, recordsFrom, Boundary, counted, reading}
+use Rattle.trace.specs.declared.Record.{Record}
+use Rattle.trace.specs.declared.RecordAt.the-variants.{Is}
+use Rattle.trace.specs.declared.Reading.the-variants as reading
+use Rattle.trace.proofs.Records.{record-of, record-text, text-length}
+use Rattle.trace.proofs.Walk.{found-end, found-next, along, At, ended, broke, went, look, no-records}
+use Rattle.trace.proofs.Loop.{boundary}
+
+-- the text of some records, one record at a time
+pub lines-first : (r : Record) (rs : List Record) → joined (linesOf (r ∷ rs)) ≡ recordText r ++ joined (linesOf rs)
+unfolding linesOf recordText
+lines-first r rs = joined-append (recordLines r) (linesOf rs)
+
+-- what is found from a place on is the text that stands there
+pub record Rest (s : List ℕ) (at : ℕ) (rs : List Record) : Type 0 where
+  pub text : drop at s ≡ joined (linesOf rs)
+  pub expressible : AllExpressible rs
+
+Reads : List ℕ → ℕ → Type 0
+Reads s at = (b : ℕ) (rs : List Record) → foundFrom s at b ≡ Records rs → Rest s at rs
+
+pub rest-text : (s : List ℕ) (at : ℕ) (b : ℕ) (rs : List Record) → foundFrom s at b ≡ Records rs → Rest s at rs
+unfolding Reads linesOf joined
+rest-text s = along s (Reads s) (λ at ih b rs h. go at ih b rs h (look s at b))
+  where
+    first : (at : ℕ) (r : Record) (e : ℕ) (rs : List Record) → recordAt s at ≡ Is r e → Reads s e → (b : ℕ) (x : Found) → foundFrom s e b ≡ x → withFirst r x ≡ Records rs → Rest s at rs
+    first at r e rs q ih b (Breaks k) p h = absurd (no-records k rs h)
+    first at r e rs q ih b (Records ts) p h =
+        let w = record-text s at r e q in
+        let t = ih b ts p in
+        let same : r ∷ ts ≡ rs = cc in
+        rw same at (let x : Rest s at (r ∷ ts) = record { text = w .text .text ∙ ap (λ (z : List ℕ). recordText r ++ z) (t .text) ∙ sym (lines-first r ts); expressible = also (w .expressible) (t .expressible) } in x)
+
+    go : (at : ℕ) → ((r : Record) (e : ℕ) → recordAt s at ≡ Is r e → Reads s e) → (b : ℕ) (rs : List Record) → foundFrom s at b ≡ Records rs → At s at b → Rest s at rs
+    go at ih b rs h (ended p f) =
+        let same : _≡_ {A = List Record} [] rs = cc in
+        rw (← same) (record { text = ap (λ (k : ℕ). drop k s) p ∙ drop-length s; expressible = none })
+    go at ih b rs h (broke k q f) = absurd (no-records (b + k) rs (sym f ∙ h))
+    go at ih b rs h (went r e q f) = first at r e rs q (ih r e q) (b + 6) (foundFrom s e (b + 6)) refl (sym f ∙ h)
+
+-- and the text of expressible records, to the last byte, is found as them
+pub rest-found : (rs : List Record) (s : List ℕ) (at b : ℕ) → AllExpressible rs → drop at s ≡ joined (linesOf rs) → at + length (joined (linesOf rs)) ≡ length s → foundFrom s at b ≡ Records rs
+unfolding linesOf joined
+rest-found [] s at b x e l = found-end s at b (omega arith)
+rest-found (r ∷ rs) s at b (also x xs) e l =
+    let t = joined (linesOf rs) in
+    let e' : drop at s ≡ recordText r ++ t = e ∙ lines-first r rs in
+    let l' : at + (length (recordText r) + length t) ≡ length s = ap (λ (z : ℕ). at + z) (sym (length-append (recordText r) t) ∙ ap length (sym (lines-first r rs))) ∙ l in
+    let q = record-of r s at t x e' in
+    let p = at + length (recordText r) in
+    found-next s at b r p (λ z. omega (arith, text-length r)) q ∙ ap (withFirst r) (rest-found rs s p (b + 6) xs (rest-of s (recordText r) t at e') (omega arith))
+
+trace-is : (rs : List Record) → traceText rs ≡ header ++ joined (linesOf rs)
+unfolding traceText traceLines joined
+trace-is rs = refl
+
+-- (a) what is accepted is the text of its records
+pub record Accepted (s : List ℕ) (rs : List Record) : Type 0 where
+  pub text : s ≡ traceText rs
+  pub expressible : AllExpressible rs
+  pub short : length s ≤ longest
+
+pub accepted : (s : List ℕ) (rs : List Record) → traceOf s ≡ Records rs → Accepted s rs
+unfolding traceOf
+accepted s rs = go (ltb longest (length s)) (starts header s) refl refl
+  where
+    go : (x y : Bool) → ltb longest (length s) ≡ x → starts header s ≡ y → cond x (Breaks 0) (cond y (foundFrom s firstRecord 1) (Breaks 1)) ≡ Records rs → Accepted s rs
+    go true y p q h = absurd (no-records 0 rs h)
+    go false false p q h = absurd (no-records 1 rs h)
+    go false true p q h =
+        let t = rest-text s firstRecord 1 rs h in
+        record { text = starts-text header s q ∙ ap (λ (z : List ℕ). header ++ z) (t .text) ∙ sym (trace-is rs); expressible = t .expressible; short = ltb-false longest (length s) p }
+
+-- (b) the text of expressible records, if it is not too long, is accepted as them
+pub accepts : (rs : List Record) → AllExpressible rs → length (traceText rs) ≤ longest → traceOf (traceText rs) ≡ Records rs
+unfolding traceOf
+accepts rs x l =
+    let t = joined (linesOf rs) in
+    let h : starts header (traceText rs) ≡ true = rw (trace-is rs) (starts-of header t) in
+    rw (le-ltb longest (length (traceText rs)) l, h)
+    (rest-found rs (traceText rs) firstRecord 1 x (rest-of (traceText rs) header t 0 (trace-is rs)) (sym (ap length (trace-is rs) ∙ length-append header t)))
+
+-- so no two lists of records have one text
+pub one-text : (rs ts : List Record) → AllExpressible rs → AllExpressible ts → length (traceText rs) ≤ longest → traceText rs ≡ traceText ts → rs ≡ ts
+one-text rs ts x y l e =
+    let p : Records rs ≡ Records ts = sym (accepts rs x l) ∙ ap traceOf e ∙ accepts ts y (rw (← e) l) in
+    cc
+
+-- what a reader that was answered `Whole n` knows before its first record
+pub record Begun (s : List ℕ) (n : ℕ) : Type 0 where
+  pub records : traceOf s ≡ Records (recordsFrom s firstRecord)
+  pub many : length (recordsFrom s firstRecord) ≡ n
+  pub boundary : Boundary s firstRecord
+  pub inside : firstRecord ≤ length s
+
+pub begun : (s : List ℕ) (n : ℕ) → reading s ≡ reading.Whole n → Begun s n
+unfolding reading
+begun s n h = go (traceOf s) refl h
+  where
+    found : (x y : Bool) (rs : List Record) → cond x (Breaks 0) (cond y (foundFrom s firstRecord 1) (Breaks 1)) ≡ Records rs → foundFrom s firstRecord 1 ≡ Records rs
+    found true y rs h = absurd (no-records 0 rs h)
+    found false false rs h = absurd (no-records 1 rs h)
+    found false true rs h = h
+
+    go : (x : Found) → traceOf s ≡ x → counted x ≡ reading.Whole n → Begun s n
+    go (Breaks k) q h = absurd (let z : _≡_ {A = ℕ} 0 1 = cc in omega arith)
+    go (Records rs) q h =
+        let many : length rs ≡ n = cc in
+        let f = found (ltb longest (length s)) (starts header s) rs (unfold traceOf in q) in
+        let b = boundary s firstRecord 1 rs f in
+        let a = accepted s rs q in
+        record {
+          records = q ∙ ap Records (sym (b .1));
+          many = ap length (b .1) ∙ many;
+          boundary = b .0;
+          inside = omega (arith, ap length (a .text ∙ trace-is rs) ∙ length-append header (joined (linesOf rs)));
+        }

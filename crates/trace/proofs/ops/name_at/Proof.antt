@@ -1,0 +1,77 @@
+-- `name_at` meets its contract.
+use borrow.Author.Needs.{needs}
+use Rattle.trace.proofs.ops.name_at.Statement.{statement}
+use Rattle.trace.proofs.ops.name_at.Tie as tie
+
+slice-aggregate-try-name : tie.Need-slice-aggregate-try-name
+slice-aggregate-try-name c = search needs
+
+try-name-requires : tie.Need-try-name-requires
+try-name-requires c κs = search needs
+
+slice-aggregate-try-name-2 : tie.Need-slice-aggregate-try-name-2
+slice-aggregate-try-name-2 c = search needs
+
+try-name-requires-2 : tie.Need-try-name-requires-2
+try-name-requires-2 c κs = search needs
+
+slice-aggregate-try-name-3 : tie.Need-slice-aggregate-try-name-3
+slice-aggregate-try-name-3 c = search needs
+
+try-name-requires-3 : tie.Need-try-name-requires-3
+try-name-requires-3 c κs = search needs
+
+slice-aggregate-try-name-4 : tie.Need-slice-aggregate-try-name-4
+slice-aggregate-try-name-4 c = search needs
+
+try-name-requires-4 : tie.Need-try-name-requires-4
+try-name-requires-4 c κs = search needs
+
+slice-aggregate-try-name-5 : tie.Need-slice-aggregate-try-name-5
+slice-aggregate-try-name-5 c = search needs
+
+try-name-requires-5 : tie.Need-try-name-requires-5
+try-name-requires-5 c κs = search needs
+
+slice-aggregate-try-name-6 : tie.Need-slice-aggregate-try-name-6
+slice-aggregate-try-name-6 c = search needs
+
+try-name-requires-6 : tie.Need-try-name-requires-6
+try-name-requires-6 c κs = search needs
+
+slice-aggregate-try-name-7 : tie.Need-slice-aggregate-try-name-7
+slice-aggregate-try-name-7 c = search needs
+
+try-name-requires-7 : tie.Need-try-name-requires-7
+try-name-requires-7 c κs = search needs
+
+slice-aggregate-try-name-8 : tie.Need-slice-aggregate-try-name-8
+slice-aggregate-try-name-8 c = search needs
+
+try-name-requires-8 : tie.Need-try-name-requires-8
+try-name-requires-8 c κs = search needs
+
+returns : tie.Need-returns
+returns c = rw (c .try-name8 .ensures, c .before .before .try-name7 .ensures, c .before .before .before .before .try-name6 .ensures, c .before .before .before .before .before .before .try-name5 .ensures, c .before .before .before .before .before .before .before .before .try-name4 .ensures, c .before .before .before .before .before .before .before .before .before .before .try-name3 .ensures, c .before .before .before .before .before .before .before .before .before .before .before .before .try-name2 .ensures, c .before .before .before .before .before .before .before .before .before .before .before .before .before .before .try-name .ensures)
+
+pub name-at-spec : {M : Type 1} → statement M
+name-at-spec =
+    tie.close
+    (tie.spec
+    slice-aggregate-try-name
+    try-name-requires
+    slice-aggregate-try-name-2
+    try-name-requires-2
+    slice-aggregate-try-name-3
+    try-name-requires-3
+    slice-aggregate-try-name-4
+    try-name-requires-4
+    slice-aggregate-try-name-5
+    try-name-requires-5
+    slice-aggregate-try-name-6
+    try-name-requires-6
+    slice-aggregate-try-name-7
+    try-name-requires-7
+    slice-aggregate-try-name-8
+    try-name-requires-8
+    returns)

@@ -1,0 +1,81 @@
+-- The ops of a trace: their names, and which fields they read. Assumes nothing.
+use Prim.Native.Nat.{ℕ, _+_}
+use mathlib.Core.Bool.{Bool, true, false, cond}
+use mathlib.Core.List.{List, [], _∷_, _++_}
+use lib.ListN.{length, drop}
+use Rattle.text.specs.Bytes.{starts}
+use Rattle.trace.specs.declared.Op.{Op}
+use Rattle.trace.specs.declared.Op.the-variants.{Begin, End, Snap, Own, Oldest, Vacuum, Stamp, Finish}
+use Rattle.trace.specs.declared.ops.OpAt.{OpAt}
+use Rattle.trace.specs.declared.ops.OpAt.the-variants.{Is, Unknown}
+
+-- begin, stamp and finish read `stamp`
+abbrev pub readsStamp : Op → Bool
+readsStamp Begin = true
+readsStamp Stamp = true
+readsStamp Finish = true
+readsStamp End = false
+readsStamp Snap = false
+readsStamp Own = false
+readsStamp Oldest = false
+readsStamp Vacuum = false
+
+-- end, own and finish read `slot` and `id`
+abbrev pub readsOwner : Op → Bool
+readsOwner End = true
+readsOwner Own = true
+readsOwner Finish = true
+readsOwner Begin = false
+readsOwner Snap = false
+readsOwner Oldest = false
+readsOwner Vacuum = false
+readsOwner Stamp = false
+
+-- snap, own, oldest and vacuum read `clock` and `sample`
+abbrev pub readsClock : Op → Bool
+readsClock Snap = true
+readsClock Own = true
+readsClock Oldest = true
+readsClock Vacuum = true
+readsClock Begin = false
+readsClock End = false
+readsClock Stamp = false
+readsClock Finish = false
+
+-- `op=`
+abbrev pub opKey : List ℕ
+opKey = 111 ∷ 112 ∷ 61 ∷ []
+
+-- the name of an op, with the newline that ends its line
+abbrev pub opName : Op → List ℕ
+opName Begin = 98 ∷ 101 ∷ 103 ∷ 105 ∷ 110 ∷ 10 ∷ []
+opName End = 101 ∷ 110 ∷ 100 ∷ 10 ∷ []
+opName Snap = 115 ∷ 110 ∷ 97 ∷ 112 ∷ 10 ∷ []
+opName Own = 111 ∷ 119 ∷ 110 ∷ 10 ∷ []
+opName Oldest = 111 ∷ 108 ∷ 100 ∷ 101 ∷ 115 ∷ 116 ∷ 10 ∷ []
+opName Vacuum = 118 ∷ 97 ∷ 99 ∷ 117 ∷ 117 ∷ 109 ∷ 10 ∷ []
+opName Stamp = 115 ∷ 116 ∷ 97 ∷ 109 ∷ 112 ∷ 10 ∷ []
+opName Finish = 102 ∷ 105 ∷ 110 ∷ 105 ∷ 115 ∷ 104 ∷ 10 ∷ []
+
+abbrev pub ops : List Op
+ops = Begin ∷ End ∷ Snap ∷ Own ∷ Oldest ∷ Vacuum ∷ Stamp ∷ Finish ∷ []
+
+-- the line of an op
+unfoldable pub opLine : Op → List ℕ
+opLine o = opKey ++ opName o
+
+-- o and the place past its name, where the name stands at `at`
+unfoldable pub tryName : List ℕ → ℕ → List ℕ → Op → OpAt → OpAt
+tryName s at name o other = cond (starts name (drop at s)) (Is o (at + length name)) other
+
+-- the first of some ops whose name stands at `at`
+abbrev pub firstNamed : List Op → List ℕ → ℕ → OpAt
+firstNamed [] s at = Unknown
+firstNamed (o ∷ os) s at = tryName s at (opName o) o (firstNamed os s at)
+
+abbrev pub nameAt : List ℕ → ℕ → OpAt
+nameAt s at = firstNamed ops s at
+
+-- the op whose line stands at `at`, and the place past that line
+unfoldable pub opAt : List ℕ → ℕ → OpAt
+opAt s at = cond (starts opKey (drop at s)) (nameAt s (at + length opKey)) Unknown

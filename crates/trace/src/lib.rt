@@ -1,0 +1,44 @@
+// Captured runs as text: a header and records of six lines, read and judged line by line.
+mod lines;
+mod ops;
+mod whole;
+
+pub use lines::record_at;
+pub use whole::first_record;
+pub use whole::read_trace;
+
+// The calls that a record can name.
+pub enum Op {
+    Begin,
+    End,
+    Snap,
+    Own,
+    Oldest,
+    Vacuum,
+    Stamp,
+    Finish,
+}
+
+// One call of a captured run. A field that the op doesn't read is 0.
+pub struct Record {
+    pub op: Op,
+    pub slot: u64,
+    pub id: u64,
+    pub stamp: u64,
+    pub clock: u64,
+    pub sample: u64,
+}
+
+// What stands at a place: a record, with the place past it, or the first of its six lines, from 1,
+// that breaks a rule.
+pub enum RecordAt {
+    Is(Record, usize),
+    Broken(usize),
+}
+
+// What a whole text is: so many records, or a trace that breaks a rule first at this line. Line 0
+// stands for an input that is too long.
+pub enum Reading {
+    Whole(usize),
+    Broken(usize),
+}

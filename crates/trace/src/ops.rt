@@ -1,0 +1,78 @@
+// The line of an op, and which fields an op reads.
+use crate::Op;
+ghost use Prim.Native.Nat.{_<_};
+ghost use mathlib.Core.Path.{_≡_};
+ghost use lib.ListN.{length};
+ghost use Rattle.trace.specs.Op.{readsStamp, readsOwner, readsClock, tryName, nameAt, opAt};
+
+// An op, with the place past its line, or none.
+pub enum OpAt {
+    Is(Op, usize),
+    Unknown,
+}
+
+// Begin, stamp and finish read `stamp`.
+pub fn reads_stamp(op: Op) -> bool
+    ensures { λ r. ⌜ r ≡ readsStamp op ⌝ }
+{
+    match op {
+        Op::Begin | Op::Stamp | Op::Finish => true,
+        _ => false,
+    }
+}
+
+// End, own and finish read `slot` and `id`.
+pub fn reads_owner(op: Op) -> bool
+    ensures { λ r. ⌜ r ≡ readsOwner op ⌝ }
+{
+    match op {
+        Op::End | Op::Own | Op::Finish => true,
+        _ => false,
+    }
+}
+
+// Snap, own, oldest and vacuum read `clock` and `sample`.
+pub fn reads_clock(op: Op) -> bool
+    ensures { λ r. ⌜ r ≡ readsClock op ⌝ }
+{
+    match op {
+        Op::Snap | Op::Own | Op::Oldest | Op::Vacuum => true,
+        _ => false,
+    }
+}
+
+// `op` and the place past its name, where the name stands at `at`, and `other` where it doesn't.
+fn try_name(s: &[u8], at: usize, name: &[u8], op: Op, other: OpAt) -> OpAt
+    requires { ⌜ 0 < length (now name) ⌝ }
+    ensures { λ r. ⌜ r ≡ tryName (now (s .entry)) at (now (name .entry)) op other ⌝ }
+{
+    if text::bytes_at(s, at, name) {
+        return OpAt::Is(op, at + name.len());
+    }
+    other
+}
+
+// The op whose name, with its newline, stands at `at`. The last is tried first, and the first
+// decides; at most one fits.
+fn name_at(s: &[u8], at: usize) -> OpAt
+    ensures { λ r. ⌜ r ≡ nameAt (now (s .entry)) at ⌝ }
+{
+    let finish = try_name(s, at, b"finish\n", Op::Finish, OpAt::Unknown);
+    let stamp = try_name(s, at, b"stamp\n", Op::Stamp, finish);
+    let vacuum = try_name(s, at, b"vacuum\n", Op::Vacuum, stamp);
+    let oldest = try_name(s, at, b"oldest\n", Op::Oldest, vacuum);
+    let own = try_name(s, at, b"own\n", Op::Own, oldest);
+    let snap = try_name(s, at, b"snap\n", Op::Snap, own);
+    let end = try_name(s, at, b"end\n", Op::End, snap);
+    try_name(s, at, b"begin\n", Op::Begin, end)
+}
+
+// The op whose line stands at `at`.
+pub fn op_at(s: &[u8], at: usize) -> OpAt
+    ensures { λ r. ⌜ r ≡ opAt (now (s .entry)) at ⌝ }
+{
+    if text::bytes_at(s, at, b"op=") {
+        return name_at(s, at + 3);
+    }
+    OpAt::Unknown
+}
