@@ -1,0 +1,107 @@
+-- What a record prints: document 01's eight lines, then a line for each listed id.
+use Prim.Native.Nat.{ℕ, _+_, _-_, _*_, _≤_}
+use mathlib.Core.Path.{_≡_}
+use mathlib.Core.Bool.{Bool, cond, _&&_}
+use mathlib.Core.List.{List, [], _∷_, _++_}
+use lib.Dec.{leb}
+use lib.ListN.{length, take}
+use Rattle.kinds.specs.Refusals.{told}
+use Rattle.rules.specs.Calls.{Answer, answerTold}
+use Rattle.decide.specs.declared.snapshot.Taken.{Taken}
+use Rattle.decide.specs.declared.snapshot.Taken.the-variants.{Accepted, Refused}
+use Rattle.text.specs.declared.Put.{Put}
+use Rattle.text.specs.declared.Put.the-variants.{Past, NoRoom}
+use Rattle.text.specs.Line.{lineText}
+use Rattle.text.specs.Write.{spliced}
+use Rattle.render.specs.declared.printed.Printed.{Printed}
+
+-- `answer=`
+abbrev pub answerKey : List ℕ
+answerKey = 97 ∷ 110 ∷ 115 ∷ 119 ∷ 101 ∷ 114 ∷ 61 ∷ []
+
+-- `slot=`
+abbrev pub slotKey : List ℕ
+slotKey = 115 ∷ 108 ∷ 111 ∷ 116 ∷ 61 ∷ []
+
+-- `id=`
+abbrev pub idKey : List ℕ
+idKey = 105 ∷ 100 ∷ 61 ∷ []
+
+-- `seen=`
+abbrev pub seenKey : List ℕ
+seenKey = 115 ∷ 101 ∷ 101 ∷ 110 ∷ 61 ∷ []
+
+-- `xmin=`
+abbrev pub xminKey : List ℕ
+xminKey = 120 ∷ 109 ∷ 105 ∷ 110 ∷ 61 ∷ []
+
+-- `xmax=`
+abbrev pub xmaxKey : List ℕ
+xmaxKey = 120 ∷ 109 ∷ 97 ∷ 120 ∷ 61 ∷ []
+
+-- `vacuum=`
+abbrev pub vacuumKey : List ℕ
+vacuumKey = 118 ∷ 97 ∷ 99 ∷ 117 ∷ 117 ∷ 109 ∷ 61 ∷ []
+
+-- `count=`
+abbrev pub countKey : List ℕ
+countKey = 99 ∷ 111 ∷ 117 ∷ 110 ∷ 116 ∷ 61 ∷ []
+
+-- `in=`
+abbrev pub inKey : List ℕ
+inKey = 105 ∷ 110 ∷ 61 ∷ []
+
+-- the first four, with no xmin and no xmax
+abbrev pub numbers : ℕ → ℕ → ℕ → ℕ → Printed
+numbers number slot id seen = record { number = number; slot = slot; id = id; seen = seen; xmin = 0; xmax = 0 }
+
+-- the numbers of an answer that stand in its own lines
+abbrev pub printedOf : Answer → Printed
+printedOf a =
+    record { number = a .number; slot = a .slot; id = a .id; seen = a .seen; xmin = a .xmin; xmax = a .xmax }
+
+-- of a snapshot call's answer, beside its snapshot's xmin and xmax
+abbrev pub printedTaken : Taken → ℕ → ℕ → Printed
+printedTaken Accepted xmin xmax = record { number = 0; slot = 0; id = 0; seen = 0; xmin = xmin; xmax = xmax }
+printedTaken (Refused r) xmin xmax = printedOf (answerTold (told r))
+
+unfoldable pub eightLines : Printed → ℕ → ℕ → List ℕ
+eightLines p line count =
+    lineText answerKey (p .number)
+    ++ lineText slotKey (p .slot)
+    ++ lineText idKey (p .id)
+    ++ lineText seenKey (p .seen)
+    ++ lineText xminKey (p .xmin)
+    ++ lineText xmaxKey (p .xmax)
+    ++ lineText vacuumKey line
+    ++ lineText countKey count
+
+unfoldable pub inLines : List ℕ → List ℕ
+inLines [] = []
+inLines (x ∷ xs) = lineText inKey x ++ inLines xs
+
+-- the text of a record: its answer, and the line after it
+unfoldable pub answerText : ℕ → Answer → List ℕ
+answerText line a = eightLines (printedOf a) line (length (a .ids)) ++ inLines (a .ids)
+
+-- the room that a record is given: 224 bytes hold eight lines, 24 hold an id's
+abbrev pub need : ℕ → ℕ
+need count = 224 + 24 * count
+
+-- a record with count ids goes into what is left of size bytes from `at` on, at n slots
+abbrev pub fits : ℕ → ℕ → ℕ → ℕ → Bool
+fits n size at count = leb count n && leb (need count) (size - at)
+
+-- what putting a text of count ids answers, and what it leaves
+unfoldable pub putText : ℕ → List ℕ → ℕ → ℕ → List ℕ → Put
+putText n xs at count t = cond (fits n (length xs) at count) (Past (at + length t)) NoRoom
+
+unfoldable pub leftText : ℕ → List ℕ → ℕ → ℕ → List ℕ → List ℕ
+leftText n xs at count t = cond (fits n (length xs) at count) (spliced xs at t) xs
+
+-- ys is xs with t at `at`, and past is the place after it, at most `most` bytes on
+pub record Wrote (xs : List ℕ) (at : ℕ) (t ys : List ℕ) (past most : ℕ) : Type 0 where
+  pub left : ys ≡ spliced xs at t
+  pub size : length ys ≡ length xs
+  pub end : past ≡ at + length t
+  pub short : past ≤ at + most
