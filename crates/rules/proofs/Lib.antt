@@ -2,3 +2,11 @@ pub mod Bools
 pub mod Places
 pub mod Tallies
 pub mod Tests
+pub mod Kept
+pub mod Steps
+pub mod Rising
+pub mod BelowTop
+pub mod Checked
+pub mod Snapshots
+pub mod Last
+pub mod Covered

@@ -70,8 +70,15 @@ lastFrom n slot id t (c ∷ cs) last =
 abbrev pub lastOwn : ℕ → SlotNo → Txid → List Call → Option Snapshot
 lastOwn n slot id cs = lastFrom n slot id (freshTable n) cs none
 
--- the same in words, for calls made on t: some calls before, an accepted transaction snapshot of (slot, id) that shows s,
--- and later calls all through which the transaction stays registered, with no other accepted snapshot of it
+-- all through the calls the transaction stays registered, and none of them is an accepted transaction snapshot of it
+pub record Quiet (n : ℕ) (t : Table) (slot : SlotNo) (id : Txid) (cs : List Call) : Type 0 where
+  pub alive : (p q : List Call) → cs ≡ p ++ q → Registered (run n t p) slot id
+  pub no-other :
+      (p q : List Call) (clock sample : ℕ) → cs ≡ p ++ own slot id clock sample ∷ q →
+      Accepts n (run n t p) (own slot id clock sample) → ⊥
+
+-- the last transaction snapshot in words, for calls made on t: the calls are some before, an accepted transaction
+-- snapshot of (slot, id), which shows s, and quiet ones
 pub record IsLast (n : ℕ) (t : Table) (slot : SlotNo) (id : Txid) (cs : List Call) (s : Snapshot) : Type 0 where
   pub before : List Call
   pub clock : ℕ
@@ -80,12 +87,7 @@ pub record IsLast (n : ℕ) (t : Table) (slot : SlotNo) (id : Txid) (cs : List C
   pub written : cs ≡ before ++ own slot id clock sample ∷ later
   pub accepted : Accepts n (run n t before) (own slot id clock sample)
   pub shows : s ≡ shown n (run n t before) (own slot id clock sample) sample
-  pub alive :
-      (p q : List Call) → later ≡ p ++ q →
-      Registered (run n t (before ++ own slot id clock sample ∷ p)) slot id
-  pub no-other :
-      (p q : List Call) (clock′ sample′ : ℕ) → later ≡ p ++ own slot id clock′ sample′ ∷ q →
-      Accepts n (run n t (before ++ own slot id clock sample ∷ p)) (own slot id clock′ sample′) → ⊥
+  pub quiet : Quiet n (after n (run n t before) (own slot id clock sample)) slot id later
 
 -- the numbers reserved: by an accepted begin, stamp or finish ..
 abbrev pub reservesAccepted : Call → List ℕ

@@ -1,0 +1,253 @@
+-- Demand 3: the promise holds, for every number of slots.
+use Prim.Native.Nat.{ℕ, _+_, _≤_, _<_, max}
+use mathlib.Core.Path.{_≡_, refl, sym, _∙_, ap}
+use mathlib.Core.Logic.{_≢_}
+use mathlib.Core.Bool.{Bool, true, false, _&&_}
+use mathlib.Core.List.{List, [], _∷_, _++_}
+use mathlib.Core.Option.{Option, none, some}
+use native.Mathlib.Nat.{le-refl, le-trans}
+use native.Mathlib.Decide.{decLt}
+use native.Mathlib.Omega.{arith}
+use lib.Dec.{eqb}
+use lib.ListN.{length, getD, set}
+use lib.Seq.{getD-set-same, getD-set-other}
+use borrow.Author.Tests.{eqb-true, eqb-false, eq-eqb, le-ltb, ne-eqb}
+use Rattle.kinds.specs.declared.Stamp.{Stamp}
+use Rattle.kinds.specs.declared.SlotNo.{SlotNo}
+use Rattle.kinds.specs.declared.Txid.{Txid}
+use Rattle.kinds.specs.declared.refusal.Refusal.{Refusal}
+use Rattle.kinds.specs.Pick.{pick}
+use Rattle.kinds.specs.Refusals.{accepted}
+use Rattle.kinds.proofs.Unique.{same-slot, same-txid}
+use Rattle.settled.specs.declared.Snapshot.{Snapshot}
+use Rattle.settled.specs.Settled.{SettledAnswer, settledIn, settledTest}
+use Rattle.rules.specs.declared.Table.{Table}
+use Rattle.rules.specs.Tally.{active, lowestEmpty, minimum, xminOf, snapshotOf, oldestOf}
+use Rattle.rules.specs.Tables.{freshTable, txidAt, xminAt, withSlot, withXmin, withClock, observed, withLine}
+use Rattle.rules.specs.Tests.{Verdict, pass, refuse}
+use Rattle.rules.specs.Calls.{Call, begin, end, snap, own, oldest, vacuum, stamp, finish, Answer, refusal, afterAccepted, afterRefused, afterBy, after, answerAccepted, answerBy, answer, shownBy, shown}
+use Rattle.rules.specs.Facts.{Good}
+use Rattle.rules.specs.History.{run, reached, Accepts, Registered, forgotten, replaced, notedAccepted, notedBy, lastFrom, lastOwn}
+use Rattle.rules.specs.Promise.{SettledBelow, lineAfter, Covered, of-transaction, Promise}
+use Rattle.rules.proofs.Places.{StoredBoth, both-new, both-before, stored-both}
+use Rattle.rules.proofs.Tallies.{minimum-member, taken-active, active-length}
+use Rattle.rules.proofs.Tests.{Owns, Reserves, Observes, Passed, accepted-passed, Refused, stays, spends, refused}
+use Rattle.rules.proofs.Kept.{is-taken, good-clock, good-observed, good-fresh}
+use Rattle.rules.proofs.Steps.{after-accepted, oldest-taken, good-after, good-reached, run-append}
+use Rattle.rules.proofs.Rising.{line-never-falls}
+use Rattle.rules.proofs.BelowTop.{BelowTop, below-fresh, below-after}
+use Rattle.rules.proofs.Last.{last-append, last-own}
+use Rattle.rules.proofs.Snapshots.{Settles, settled-in-own}
+
+-- what stays true of the last snapshot s of (slot, id): while the slot holds id it retains s's xmin, and ids below the line are settled in s
+pub record Keeps (n : ℕ) (t : Table) (slot : SlotNo) (id : Txid) (s : Snapshot) : Type 0 where
+  pub named : id .0 ≢ 0
+  pub few : s .count ≤ n
+  pub low : (x : ℕ) → x < s .xmin → Settles s x
+  pub retains : txidAt t (slot .0) ≡ id .0 → xminAt t (slot .0) ≡ s .xmin
+  pub settles : txidAt t (slot .0) ≡ id .0 → (x : ℕ) → x < t .line → Settles s x
+
+abbrev pub KeepsLast : ℕ → Table → SlotNo → Txid → Option Snapshot → Type 0
+KeepsLast n t slot id none = Unit
+KeepsLast n t slot id (some s) = Keeps n t slot id s
+
+-- for the same last snapshot, where each Keeps carries over
+carry :
+    (n : ℕ) (t u : Table) (slot : SlotNo) (id : Txid) (last : Option Snapshot) →
+    ((s : Snapshot) → Keeps n t slot id s → Keeps n u slot id s) → KeepsLast n t slot id last → KeepsLast n u slot id last
+carry n t u slot id none f k = tt
+carry n t u slot id (some s) f k = f s k
+
+-- a table with the same slot and the same line
+slot-unmoved :
+    (n : ℕ) (t u : Table) (slot : SlotNo) (id : Txid) → txidAt u (slot .0) ≡ txidAt t (slot .0) →
+    xminAt u (slot .0) ≡ xminAt t (slot .0) → u .line ≡ t .line → (s : Snapshot) → Keeps n t slot id s → Keeps n u slot id s
+slot-unmoved n t u slot id a b c s k =
+    record {
+      named = k .named;
+      few = k .few;
+      low = k .low;
+      retains = λ e. b ∙ k .retains (sym a ∙ e);
+      settles = λ e x h. k .settles (sym a ∙ e) x (rw (← c) h);
+    }
+
+-- a table whose slot holds another id, or none
+other-id :
+    (n : ℕ) (t u : Table) (slot : SlotNo) (id : Txid) → txidAt u (slot .0) ≢ id .0 → (s : Snapshot) →
+    Keeps n t slot id s → Keeps n u slot id s
+other-id n t u slot id d s k =
+    record { named = k .named; few = k .few; low = k .low; retains = λ e. absurd (d e); settles = λ e. absurd (d e) }
+
+-- some slot is emptied
+emptied :
+    (n : ℕ) (t : Table) (i : ℕ) (slot : SlotNo) (id : Txid) → Good n t → (s : Snapshot) → Keeps n t slot id s →
+    Keeps n (withSlot i 0 0 t) slot id s
+emptied n t i slot id g s k =
+    go (stored-both (t .txids) (t .«snapshot_xmins») i 0 0 (slot .0) (g .txid-column ∙ sym (g .xmin-column)))
+  where
+    go : StoredBoth (t .txids) (t .«snapshot_xmins») i 0 0 (slot .0) → Keeps n (withSlot i 0 0 t) slot id s
+    go (both-new p h a b) = other-id n t (withSlot i 0 0 t) slot id (λ e. k .named (sym e ∙ a)) s k
+    go (both-before d a b) = slot-unmoved n t (withSlot i 0 0 t) slot id a b refl s k
+
+-- the line rises to the oldest xmin
+raised :
+    (n : ℕ) (t : Table) (sample : ℕ) (slot : SlotNo) (id : Txid) → Good n t → (s : Snapshot) → Keeps n t slot id s →
+    Keeps n (withLine (max (t .line) (oldestOf (t .txids) (t .«snapshot_xmins») sample)) t) slot id s
+raised n t sample slot id g s k =
+    record {
+      named = k .named;
+      few = k .few;
+      low = k .low;
+      retains = k .retains;
+      settles = λ e x h. go e x h (decLt x (t .line));
+    }
+  where
+    go : txidAt t (slot .0) ≡ id .0 → (x : ℕ) →
+        x < max (t .line) (oldestOf (t .txids) (t .«snapshot_xmins») sample) → Dec (x < t .line) → Settles s x
+    go e x h (yes l) = k .settles e x l
+    go e x h (no l) =
+        let a = oldest-taken n t sample (slot .0) g (λ z. k .named (sym e ∙ z)) in
+        let b = k .retains e in
+        k .low x (omega arith)
+
+-- a new transaction snapshot
+taken-now :
+    (n : ℕ) (t : Table) (slot : SlotNo) (id : Txid) (clock sample : ℕ) → Good n t → BelowTop t → Owns n t slot id →
+    Keeps n (withXmin (slot .0) (xminOf sample (active (t .txids))) (observed clock sample t)) slot id
+    (snapshotOf n (t .txids) sample)
+unfolding snapshotOf
+taken-now n t slot id clock sample g b o =
+    record {
+      named = o .named;
+      few = rw (← g .txid-column) (active-length (t .txids));
+      low = λ x l. below x (xminOf sample (active (t .txids))) (λ j h. minimum-member sample (active (t .txids)) (txidAt t j) (taken-active (t .txids) j h)) l;
+      retains = λ e. getD-set-same (t .«snapshot_xmins») (slot .0) _ 0 (rw (g .xmin-column) (o .inside));
+      settles = λ e x l. below x (t .line) (λ j h. is-taken (g .each j) h .over) l;
+    }
+  where
+    below : (x bound : ℕ) → ((j : ℕ) → txidAt t j ≢ 0 → bound ≤ txidAt t j) → x < bound → Settles (snapshotOf n (t .txids) sample) x
+    below x bound under l =
+        settled-in-own n (t .txids) sample (slot .0) bound x (λ z. o .named (sym (o .holds) ∙ z)) (b (slot .0)) under l
+
+pub shown-accepted : (n : ℕ) (t : Table) (c : Call) (sample : ℕ) → Accepts n t c → shown n t c sample ≡ snapshotOf n (t .txids) sample
+unfolding shown
+shown-accepted n t c sample e = ap (λ (v : Verdict). shownBy v n t sample) e
+
+keeps-accepted :
+    (n : ℕ) (t : Table) (slot : SlotNo) (id : Txid) (c : Call) (last : Option Snapshot) → Good n t → BelowTop t →
+    Accepts n t c → Passed n t c → KeepsLast n t slot id last →
+    KeepsLast n (afterAccepted t c) slot id (notedAccepted n slot id t c last)
+unfolding afterAccepted
+keeps-accepted n t slot id (begin number) last g b e p k = go (eqb (lowestEmpty (t .txids)) (slot .0)) refl
+  where
+    u : Table
+    u = withSlot (lowestEmpty (t .txids)) (number .0) (number .0) (withClock (number .0 + 1) t)
+
+    go : (q : Bool) → eqb (lowestEmpty (t .txids)) (slot .0) ≡ q → KeepsLast n u slot id (pick q none last)
+    go true q = tt
+    go false q =
+        let d : slot .0 ≢ lowestEmpty (t .txids) = λ z. eqb-false (lowestEmpty (t .txids)) (slot .0) q (sym z) in
+        carry n t u slot id last
+        (slot-unmoved n t u slot id (getD-set-other (t .txids) _ (slot .0) _ 0 d) (getD-set-other (t .«snapshot_xmins») _ (slot .0) _ 0 d) refl) k
+keeps-accepted n t slot id (end slot′ id′) last g b e p k =
+    carry n t (withSlot (slot′ .0) 0 0 t) slot id last (emptied n t (slot′ .0) slot id g) k
+keeps-accepted n t slot id (snap clock sample) last g b e p k =
+    carry n t (observed clock sample t) slot id last (slot-unmoved n t (observed clock sample t) slot id refl refl refl) k
+keeps-accepted n t slot id (own slot′ id′ clock sample) last g b e (o, v) k =
+    go (eqb (slot′ .0) (slot .0)) refl (eqb (id′ .0) (id .0)) refl
+  where
+    u : Table
+    u = withXmin (slot′ .0) (xminOf sample (active (t .txids))) (observed clock sample t)
+
+    go : (p : Bool) → eqb (slot′ .0) (slot .0) ≡ p → (q : Bool) → eqb (id′ .0) (id .0) ≡ q →
+        KeepsLast n u slot id (pick (p && q) (some (shown n t (own slot′ id′ clock sample) sample)) last)
+    go true p true q =
+        let a : slot ≡ slot′ = same-slot slot slot′ (sym (eqb-true (slot′ .0) (slot .0) p)) in
+        let c : id ≡ id′ = same-txid id id′ (sym (eqb-true (id′ .0) (id .0) q)) in
+        rw (a, c, shown-accepted n t (own slot′ id′ clock sample) sample e) (taken-now n t slot′ id′ clock sample g b o)
+    go true p false q =
+        carry n t u slot id last
+        (other-id n t u slot id (λ z. eqb-false (id′ .0) (id .0) q (sym (o .holds) ∙ ap (λ (i : ℕ). txidAt t i) (eqb-true (slot′ .0) (slot .0) p) ∙ z))) k
+    go false p q r =
+        carry n t u slot id last
+        (slot-unmoved n t u slot id refl (getD-set-other (t .«snapshot_xmins») (slot′ .0) (slot .0) _ 0 (λ z. eqb-false (slot′ .0) (slot .0) p (sym z))) refl) k
+keeps-accepted n t slot id (oldest clock sample) last g b e p k =
+    carry n t (observed clock sample t) slot id last (slot-unmoved n t (observed clock sample t) slot id refl refl refl) k
+keeps-accepted n t slot id (vacuum clock sample) last g b e p k =
+    carry n t (afterAccepted t (vacuum clock sample)) slot id last
+    (λ s w. raised n u sample slot id (good-observed n t g clock sample p) s (slot-unmoved n t u slot id refl refl refl s w)) k
+  where
+    u : Table
+    u = observed clock sample t
+keeps-accepted n t slot id (stamp number) last g b e p k =
+    carry n t (withClock (number .0 + 1) t) slot id last (slot-unmoved n t (withClock (number .0 + 1) t) slot id refl refl refl) k
+keeps-accepted n t slot id (finish slot′ id′ number) last g b e (o, r) k =
+    carry n t (withSlot (slot′ .0) 0 0 u) slot id last
+    (λ s w. emptied n u (slot′ .0) slot id (good-clock n t g (number .0 + 1) (omega arith)) s (slot-unmoved n t u slot id refl refl refl s w)) k
+  where
+    u : Table
+    u = withClock (number .0 + 1) t
+
+keeps-after :
+    (n : ℕ) (t : Table) (slot : SlotNo) (id : Txid) (c : Call) (last : Option Snapshot) → Good n t → BelowTop t →
+    KeepsLast n t slot id last → KeepsLast n (after n t c) slot id (notedBy (refusal n t c) n slot id t c last)
+unfolding after afterRefused
+keeps-after n t slot id c last g b k = go (refusal n t c) refl
+  where
+    other : (r : Refusal) → Refused n t c r → KeepsLast n (afterRefused t r) slot id last
+    other r (stays p q) = rw p k
+    other r (spends number p q h f) =
+        rw q (carry n t (withClock (number .0 + 1) t) slot id last (slot-unmoved n t (withClock (number .0 + 1) t) slot id refl refl refl) k)
+
+    go : (v : Verdict) → refusal n t c ≡ v → KeepsLast n (afterBy v t c) slot id (notedBy v n slot id t c last)
+    go pass e = keeps-accepted n t slot id c last g b e (accepted-passed n t c e) k
+    go (refuse r) e = other r (refused n t c r e)
+
+keeps-run :
+    (n : ℕ) (t : Table) (slot : SlotNo) (id : Txid) (cs : List Call) (last : Option Snapshot) → Good n t → BelowTop t →
+    KeepsLast n t slot id last → KeepsLast n (run n t cs) slot id (lastFrom n slot id t cs last)
+unfolding run lastFrom
+keeps-run n t slot id [] last g b k = k
+keeps-run n t slot id (c ∷ cs) last g b k =
+    keeps-run n (after n t c) slot id cs (notedBy (refusal n t c) n slot id t c last) (good-after n t c g)
+    (below-after n t c b) (keeps-after n t slot id c last g b k)
+
+-- from fresh, of the last snapshot
+pub last-keeps :
+    (n : ℕ) (cs : List Call) (slot : SlotNo) (id : Txid) (s : Snapshot) → lastOwn n slot id cs ≡ some s →
+    Keeps n (reached n cs) slot id s
+last-keeps n cs slot id s e =
+    let k = keeps-run n (freshTable n) slot id cs none (good-fresh n) (below-fresh n) tt in
+    let w : KeepsLast n (reached n cs) slot id (some s) = rw e at k in
+    w
+
+pub covered-settled : (n : ℕ) (cs : List Call) (s : Snapshot) → Covered n cs s → SettledBelow (lineAfter n cs) s
+covered-settled n cs s (of-transaction slot id r e) x h l = last-keeps n cs slot id s e .settles (r .holds) x l
+
+pub covered-count : (n : ℕ) (cs : List Call) (s : Snapshot) → Covered n cs s → s .count ≤ n
+covered-count n cs s (of-transaction slot id r e) = last-keeps n cs slot id s e .few
+
+-- a transaction snapshot is covered from the call that takes it on
+pub own-covered :
+    (n : ℕ) (cs : List Call) (slot : SlotNo) (id : Txid) (clock sample : ℕ) →
+    Accepts n (reached n cs) (own slot id clock sample) →
+    Covered n (cs ++ own slot id clock sample ∷ []) (shown n (reached n cs) (own slot id clock sample) sample)
+unfolding run lastFrom afterAccepted
+own-covered n cs slot id clock sample e =
+    of-transaction slot id (record { named = o .named; holds = rw (run-append, after-accepted, e) (o .holds) })
+    (last-append n slot id (freshTable n) cs (own slot id clock sample ∷ []) none
+    ∙ last-own n slot id (reached n cs) clock sample (lastOwn n slot id cs) e)
+  where
+    o : Owns n (reached n cs) slot id
+    o = accepted-passed n (reached n cs) (own slot id clock sample) e .0
+
+pub promise : (n : ℕ) → Promise n
+promise n =
+    record {
+      never-falls = line-never-falls n;
+      held = covered-settled n;
+      later = λ before after slot id clock sample e x h l.
+          covered-settled n (before ++ after ++ own slot id clock sample ∷ []) _
+          (own-covered n (before ++ after) slot id clock sample e) x h
+          (le-trans l (le-trans (line-never-falls n before after) (line-never-falls n (before ++ after) (own slot id clock sample ∷ []))));
+    }

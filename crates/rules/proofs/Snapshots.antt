@@ -1,0 +1,60 @@
+-- Which ids are settled in the snapshot of a registered transaction: all below what bounds the taken txids.
+use Prim.Native.Nat.{ℕ, suc, _+_, _≤_, _<_, min, max}
+use mathlib.Core.Path.{_≡_, refl, sym, _∙_, ap}
+use mathlib.Core.Logic.{_≢_}
+use mathlib.Core.Bool.{Bool, true, false, _&&_, not}
+use mathlib.Core.List.{List, [], _∷_}
+use native.Mathlib.Nat.{suc-ne-zero}
+use native.Mathlib.Omega.{arith}
+use lib.Dec.{ltb, eqb}
+use lib.ListN.{length, getD, take}
+use borrow.Author.Tests.{eqb-true, lt-ltb}
+use Rattle.kinds.specs.Pick.{pick}
+use Rattle.kinds.specs.Kinds.{top, nextHeld}
+use Rattle.settled.specs.declared.Snapshot.{Snapshot}
+use Rattle.settled.specs.Settled.{listed, settledIn}
+use Rattle.rules.specs.Tally.{active, maximum, xmaxOf, snapshotOf}
+use Rattle.rules.proofs.Tallies.{listed-none, maximum-member, taken-active, active-taken, used-places}
+
+-- the settled test's definition, of a whole snapshot
+abbrev pub Settles : Snapshot → ℕ → Type 0
+Settles s x = settledIn (s .xmax) (s .ids) (s .count) x ≡ true
+
+listed-length : (y : ℕ) (ids : List ℕ) → listed y ids ≡ true → length ids ≢ 0
+listed-length y [] e z = listed-none y e
+listed-length y (x ∷ xs) e z = suc-ne-zero _ z
+
+-- an id below a listed one is below xmax, where no listed id is 2^64 − 1
+pub below-xmax : (sample : ℕ) (ids : List ℕ) (x y : ℕ) → listed y ids ≡ true → y < top → x < y → x < xmaxOf sample ids
+below-xmax sample ids x y e h l = go (eqb (length ids) 0) refl
+  where
+    go : (b : Bool) → eqb (length ids) 0 ≡ b → x < pick b sample (max sample (nextHeld (maximum 0 ids)))
+    go true p = absurd (listed-length y ids e (eqb-true (length ids) 0 p))
+    go false p = omega (arith, maximum-member 0 ids y e)
+
+-- an id below every taken txid is not active
+pub not-active :
+    (txids : List ℕ) (bound x : ℕ) → ((j : ℕ) → getD txids j 0 ≢ 0 → bound ≤ getD txids j 0) → x < bound →
+    listed x (active txids) ≡ false
+not-active txids bound x under l = go (listed x (active txids)) refl
+  where
+    clash : (i : ℕ) × (getD txids i 0 ≡ x) × (x ≢ 0) → ⊥
+    clash (i, p, q) =
+        let k = under i (λ z. q (sym p ∙ z)) in
+        omega arith
+
+    go : (b : Bool) → listed x (active txids) ≡ b → listed x (active txids) ≡ false
+    go true e = absurd (clash (active-taken txids x e))
+    go false e = e
+
+pub settled-in-own :
+    (n : ℕ) (txids : List ℕ) (sample i bound x : ℕ) → getD txids i 0 ≢ 0 → getD txids i 0 < top →
+    ((j : ℕ) → getD txids j 0 ≢ 0 → bound ≤ getD txids j 0) → x < bound → Settles (snapshotOf n txids sample) x
+unfolding snapshotOf
+settled-in-own n txids sample i bound x h t under l =
+    rw (
+      lt-ltb x (xmaxOf sample (active txids))
+          (below-xmax sample (active txids) x (getD txids i 0) (taken-active txids i h) t (omega (arith, under i h))),
+      used-places n (active txids),
+      not-active txids bound x under l,
+    )

@@ -1,0 +1,108 @@
+-- Each call, accepted or refused, on any arguments, keeps the facts of the table check.
+use Prim.Native.Nat.{ℕ, _+_, _≤_, max}
+use mathlib.Core.Path.{_≡_, refl, sym, _∙_, ap}
+use mathlib.Core.Logic.{_≢_}
+use mathlib.Core.List.{List, [], _∷_, _++_}
+use native.Mathlib.Omega.{arith}
+use Rattle.kinds.specs.declared.Stamp.{Stamp}
+use Rattle.kinds.specs.declared.SlotNo.{SlotNo}
+use Rattle.kinds.specs.declared.Txid.{Txid}
+use Rattle.kinds.specs.declared.refusal.Refusal.{Refusal}
+use Rattle.rules.specs.declared.Table.{Table}
+use Rattle.rules.specs.Tally.{active, retained, xminOf, oldestOf}
+use Rattle.rules.specs.Tables.{freshTable, txidAt, xminAt, withClock, observed}
+use Rattle.rules.specs.Tests.{Verdict, pass, refuse}
+use Rattle.rules.specs.Calls.{Call, begin, end, snap, own, oldest, vacuum, stamp, finish, refusal, afterAccepted, afterRefused, afterBy, after}
+use Rattle.rules.specs.Facts.{SlotGood, taken, Good}
+use Rattle.rules.specs.History.{run, reached, Accepts}
+use Rattle.rules.proofs.Tallies.{minimum-start, minimum-member, minimum-bound, taken-active, active-taken, taken-retained}
+use Rattle.rules.proofs.Tests.{Owns, Reserves, Passed, accepted-passed, Refused, stays, spends, refused}
+use Rattle.rules.proofs.Kept.{is-taken, good-clock, good-observed, good-xmin, good-line, good-cleared, good-entered, good-fresh}
+
+-- a fact of the table after a call: one of the accepted call, one of the table as it was, one of the clock past a spent number
+pub after-cases :
+    (n : ℕ) (t : Table) (c : Call) (P : Table → Type 0) → (Accepts n t c → P (afterAccepted t c)) → P t →
+    ((number : Stamp) → Reserves (t .clock) (number .0) → P (withClock (number .0 + 1) t)) → P (after n t c)
+unfolding after afterRefused
+after-cases n t c P a s w = go (refusal n t c) refl
+  where
+    other : (r : Refusal) → Refused n t c r → P (afterRefused t r)
+    other r (stays p q) = rw p s
+    other r (spends number p q h f) = rw q (w number h)
+
+    go : (v : Verdict) → refusal n t c ≡ v → P (afterBy v t c)
+    go pass e = a e
+    go (refuse r) e = other r (refused n t c r e)
+
+pub after-accepted : (n : ℕ) (t : Table) (c : Call) → Accepts n t c → after n t c ≡ afterAccepted t c
+unfolding after
+after-accepted n t c e = ap (λ (v : Verdict). afterBy v t c) e
+
+-- an own xmin is from 1 to the owner's txid
+own-low : (txids : List ℕ) (sample : ℕ) → 1 ≤ sample → 1 ≤ xminOf sample (active txids)
+own-low txids sample h = minimum-bound sample (active txids) 1 h (λ x e. positive x (active-taken txids x e .2))
+  where
+    positive : (x : ℕ) → x ≢ 0 → 1 ≤ x
+    positive x z = omega arith
+
+own-high :
+    (n : ℕ) (t : Table) (slot : SlotNo) (id : Txid) (sample : ℕ) → Owns n t slot id →
+    xminOf sample (active (t .txids)) ≤ txidAt t (slot .0)
+own-high n t slot id sample o =
+    minimum-member sample (active (t .txids)) (txidAt t (slot .0))
+    (taken-active (t .txids) (slot .0) (λ z. o .named (sym (o .holds) ∙ z)))
+
+-- the oldest xmin is at most the sample, and at most the snapshot_xmin of each taken slot
+pub oldest-sample : (t : Table) (sample : ℕ) → oldestOf (t .txids) (t .«snapshot_xmins») sample ≤ sample
+oldest-sample t sample = minimum-start sample (retained (t .txids) (t .«snapshot_xmins»))
+
+pub oldest-taken :
+    (n : ℕ) (t : Table) (sample i : ℕ) → Good n t → txidAt t i ≢ 0 →
+    oldestOf (t .txids) (t .«snapshot_xmins») sample ≤ xminAt t i
+oldest-taken n t sample i g h =
+    minimum-member sample (retained (t .txids) (t .«snapshot_xmins»)) (xminAt t i)
+    (taken-retained (t .txids) (t .«snapshot_xmins») i (g .txid-column ∙ sym (g .xmin-column)) h)
+
+good-accepted : (n : ℕ) (t : Table) (c : Call) → Good n t → Passed n t c → Good n (afterAccepted t c)
+unfolding afterAccepted
+good-accepted n t (begin number) g (r, f) = good-entered n t _ (number .0) g r
+good-accepted n t (end slot id) g o = good-cleared n t (slot .0) g
+good-accepted n t (snap clock sample) g o = good-observed n t g clock sample o
+good-accepted n t (own slot id clock sample) g (o, v) =
+    good-xmin n (observed clock sample t) (good-observed n t g clock sample v) (slot .0) _ fits
+  where
+    fits : SlotGood clock (t .line) (txidAt t (slot .0)) (xminOf sample (active (t .txids)))
+    fits =
+        let k = is-taken (g .each (slot .0)) (λ z. o .named (sym (o .holds) ∙ z)) in
+        taken (own-low (t .txids) sample (v .positive)) (own-high n t slot id sample o) (omega arith) (k .over)
+good-accepted n t (oldest clock sample) g o = good-observed n t g clock sample o
+good-accepted n t (vacuum clock sample) g o =
+    good-line n (observed clock sample t) (good-observed n t g clock sample o) _ (omega arith)
+    (omega (arith, oldest-sample t sample)) under
+  where
+    under : (i : ℕ) → txidAt t i ≢ 0 → max (t .line) (oldestOf (t .txids) (t .«snapshot_xmins») sample) ≤ txidAt t i
+    under i h =
+        let k = is-taken (g .each i) h in
+        omega (arith, oldest-taken n t sample i g h)
+good-accepted n t (stamp number) g r = good-clock n t g (number .0 + 1) (omega arith)
+good-accepted n t (finish slot id number) g (o, r) =
+    good-cleared n (withClock (number .0 + 1) t) (slot .0) (good-clock n t g (number .0 + 1) (omega arith))
+
+pub good-after : (n : ℕ) (t : Table) (c : Call) → Good n t → Good n (after n t c)
+good-after n t c g =
+    after-cases n t c (Good n) (λ e. good-accepted n t c g (accepted-passed n t c e)) g
+    (λ number r. good-clock n t g (number .0 + 1) (omega arith))
+
+pub good-run : (n : ℕ) (t : Table) (cs : List Call) → Good n t → Good n (run n t cs)
+unfolding run
+good-run n t [] g = g
+good-run n t (c ∷ cs) g = good-run n (after n t c) cs (good-after n t c g)
+
+pub good-reached : (n : ℕ) (cs : List Call) → Good n (reached n cs)
+good-reached n cs = good-run n (freshTable n) cs (good-fresh n)
+
+-- two parts of a history, one after the other
+pub run-append : (n : ℕ) (t : Table) (before later : List Call) → run n t (before ++ later) ≡ run n (run n t before) later
+unfolding run
+run-append n t [] later = refl
+run-append n t (c ∷ before) later = run-append n (after n t c) before later
