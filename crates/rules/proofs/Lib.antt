@@ -10,3 +10,7 @@ pub mod Checked
 pub mod Snapshots
 pub mod Last
 pub mod Covered
+pub mod Reserved
+pub mod WellFormed
+pub mod Counts
+pub mod Gone

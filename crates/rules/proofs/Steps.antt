@@ -106,3 +106,8 @@ pub run-append : (n : ℕ) (t : Table) (before later : List Call) → run n t (b
 unfolding run
 run-append n t [] later = refl
 run-append n t (c ∷ before) later = run-append n (after n t c) before later
+
+-- the last call of a history makes the step that the call's contract cites
+pub run-snoc : (n : ℕ) (t : Table) (cs : List Call) (c : Call) → run n t (cs ++ c ∷ []) ≡ after n (run n t cs) c
+unfolding run
+run-snoc n t cs c = run-append n t cs (c ∷ [])

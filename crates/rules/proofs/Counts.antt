@@ -1,0 +1,87 @@
+-- Over any calls from fresh, the taken slots are the accepted begins less the accepted ends and finishes.
+use Prim.Native.Nat.{ℕ, _+_, _<_}
+use mathlib.Core.Path.{_≡_, refl, sym, _∙_, ap}
+use mathlib.Core.Logic.{_≢_}
+use mathlib.Core.List.{List, [], _∷_}
+use native.Mathlib.Omega.{arith}
+use lib.ListN.{length, set, getD}
+use Rattle.kinds.specs.declared.SlotNo.{SlotNo}
+use Rattle.kinds.specs.declared.Txid.{Txid}
+use Rattle.kinds.specs.declared.refusal.Refusal.{Refusal}
+use Rattle.kinds.specs.Pick.{pick}
+use Rattle.rules.specs.declared.Table.{Table}
+use Rattle.rules.specs.Tally.{active, lowestEmpty}
+use Rattle.rules.specs.Tables.{freshTable, txidAt}
+use Rattle.rules.specs.Tests.{Verdict, pass, refuse}
+use Rattle.rules.specs.Calls.{Call, begin, end, snap, own, oldest, vacuum, stamp, finish, refusal, afterAccepted, afterRefused, afterBy, after}
+use Rattle.rules.specs.Facts.{Good}
+use Rattle.rules.specs.History.{run, reached, isBegin, isEnd, isFinish, counts, acceptedFrom, begins, ends, finishes, takenSlots}
+use Rattle.rules.proofs.Tallies.{takenOne, taken-empty, taken-one, active-set, active-zeros, lowest-empty}
+use Rattle.rules.proofs.Tests.{Owns, Reserves, Passed, accepted-passed, Refused, stays, spends, refused}
+use Rattle.rules.proofs.Kept.{good-fresh}
+use Rattle.rules.proofs.Steps.{good-after}
+
+one-less :
+    (n : ℕ) (t : Table) (slot : SlotNo) (id : Txid) → Good n t → Owns n t slot id →
+    length (active (set (t .txids) (slot .0) 0)) + 1 ≡ length (active (t .txids))
+one-less n t slot id g o =
+    omega (
+      arith,
+      active-set (t .txids) (slot .0) 0 (rw (g .txid-column) (o .inside)),
+      taken-one (txidAt t (slot .0)) (λ z. o .named (sym (o .holds) ∙ z)),
+    )
+
+one-more :
+    (n : ℕ) (t : Table) (number : ℕ) → Good n t → Reserves (t .clock) number → lowestEmpty (t .txids) < n →
+    length (active (set (t .txids) (lowestEmpty (t .txids)) number)) ≡ length (active (t .txids)) + 1
+one-more n t number g r f =
+    omega (
+      arith,
+      active-set (t .txids) (lowestEmpty (t .txids)) number (rw (g .txid-column) f),
+      taken-empty (txidAt t (lowestEmpty (t .txids))) (lowest-empty (t .txids)),
+      taken-one number (λ z. omega arith),
+    )
+
+count-accepted :
+    (n : ℕ) (t : Table) (c : Call) → Good n t → Passed n t c →
+    takenSlots (afterAccepted t c) + (counts pass (isEnd c) + counts pass (isFinish c)) ≡ takenSlots t + counts pass (isBegin c)
+unfolding afterAccepted
+count-accepted n t (begin number) g (r, f) = omega (arith, one-more n t (number .0) g r f)
+count-accepted n t (end slot id) g o = omega (arith, one-less n t slot id g o)
+count-accepted n t (snap clock sample) g o = refl
+count-accepted n t (own slot id clock sample) g o = refl
+count-accepted n t (oldest clock sample) g o = refl
+count-accepted n t (vacuum clock sample) g o = refl
+count-accepted n t (stamp number) g o = refl
+count-accepted n t (finish slot id number) g (o, r) = omega (arith, one-less n t slot id g o)
+
+count-after :
+    (n : ℕ) (t : Table) (c : Call) → Good n t →
+    takenSlots (after n t c) + (counts (refusal n t c) (isEnd c) + counts (refusal n t c) (isFinish c))
+    ≡ takenSlots t + counts (refusal n t c) (isBegin c)
+unfolding after afterRefused
+count-after n t c g = go (refusal n t c) refl
+  where
+    other : (r : Refusal) → Refused n t c r → takenSlots (afterRefused t r) ≡ takenSlots t
+    other r (stays p q) = rw p
+    other r (spends number p q h f) = rw q
+
+    go : (v : Verdict) → refusal n t c ≡ v →
+        takenSlots (afterBy v t c) + (counts v (isEnd c) + counts v (isFinish c)) ≡ takenSlots t + counts v (isBegin c)
+    go pass e = count-accepted n t c g (accepted-passed n t c e)
+    go (refuse r) e = omega (arith, other r (refused n t c r e))
+
+count-run :
+    (n : ℕ) (t : Table) (cs : List Call) → Good n t →
+    takenSlots (run n t cs) + (acceptedFrom isEnd n t cs + acceptedFrom isFinish n t cs)
+    ≡ takenSlots t + acceptedFrom isBegin n t cs
+unfolding run acceptedFrom
+count-run n t [] g = refl
+count-run n t (c ∷ cs) g = omega (arith, count-after n t c g, count-run n (after n t c) cs (good-after n t c g))
+
+fresh-none : (n : ℕ) → takenSlots (freshTable n) ≡ 0
+unfolding freshTable
+fresh-none n = ap length (active-zeros n)
+
+pub taken-counted : (n : ℕ) (cs : List Call) → takenSlots (reached n cs) + ends n cs + finishes n cs ≡ begins n cs
+taken-counted n cs = omega (arith, count-run n (freshTable n) cs (good-fresh n), fresh-none n)
