@@ -9,7 +9,8 @@ pub mod BelowTop
 pub mod Checked
 pub mod Snapshots
 pub mod Last
-pub mod Covered
+pub mod Keeps
+pub mod Promise
 pub mod Reserved
 pub mod WellFormed
 pub mod Counts

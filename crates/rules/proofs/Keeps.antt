@@ -1,4 +1,4 @@
--- Demand 3: the promise holds, for every number of slots.
+-- What every call keeps of a transaction's last snapshot: the slot retains its xmin, and ids below the line are settled in it.
 use Prim.Native.Nat.{ℕ, _+_, _≤_, _<_, max}
 use mathlib.Core.Path.{_≡_, refl, sym, _∙_, ap}
 use mathlib.Core.Logic.{_≢_}
@@ -220,34 +220,3 @@ last-keeps n cs slot id s e =
     let k = keeps-run n (freshTable n) slot id cs none (good-fresh n) (below-fresh n) tt in
     let w : KeepsLast n (reached n cs) slot id (some s) = rw e at k in
     w
-
-pub covered-settled : (n : ℕ) (cs : List Call) (s : Snapshot) → Covered n cs s → SettledBelow (lineAfter n cs) s
-covered-settled n cs s (of-transaction slot id r e) x h l = last-keeps n cs slot id s e .settles (r .holds) x l
-
-pub covered-count : (n : ℕ) (cs : List Call) (s : Snapshot) → Covered n cs s → s .count ≤ n
-covered-count n cs s (of-transaction slot id r e) = last-keeps n cs slot id s e .few
-
--- a transaction snapshot is covered from the call that takes it on
-pub own-covered :
-    (n : ℕ) (cs : List Call) (slot : SlotNo) (id : Txid) (clock sample : ℕ) →
-    Accepts n (reached n cs) (own slot id clock sample) →
-    Covered n (cs ++ own slot id clock sample ∷ []) (shown n (reached n cs) (own slot id clock sample) sample)
-unfolding run lastFrom afterAccepted
-own-covered n cs slot id clock sample e =
-    of-transaction slot id (record { named = o .named; holds = rw (run-append, after-accepted, e) (o .holds) })
-    (last-append n slot id (freshTable n) cs (own slot id clock sample ∷ []) none
-    ∙ last-own n slot id (reached n cs) clock sample (lastOwn n slot id cs) e)
-  where
-    o : Owns n (reached n cs) slot id
-    o = accepted-passed n (reached n cs) (own slot id clock sample) e .0
-
-pub promise : (n : ℕ) → Promise n
-promise n =
-    record {
-      never-falls = line-never-falls n;
-      held = covered-settled n;
-      later = λ before after slot id clock sample e x h l.
-          covered-settled n (before ++ after ++ own slot id clock sample ∷ []) _
-          (own-covered n (before ++ after) slot id clock sample e) x h
-          (le-trans l (le-trans (line-never-falls n before after) (line-never-falls n (before ++ after) (own slot id clock sample ∷ []))));
-    }
