@@ -15,3 +15,4 @@ pub mod Reserved
 pub mod WellFormed
 pub mod Counts
 pub mod Gone
+pub mod Examples
