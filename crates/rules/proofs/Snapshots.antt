@@ -24,11 +24,11 @@ listed-length : (y : ℕ) (ids : List ℕ) → listed y ids ≡ true → length 
 listed-length y [] e z = listed-none y e
 listed-length y (x ∷ xs) e z = suc-ne-zero _ z
 
--- an id below a listed one is below xmax, where no listed id is 2^64 − 1
-pub below-xmax : (sample : ℕ) (ids : List ℕ) (x y : ℕ) → listed y ids ≡ true → y < top → x < y → x < xmaxOf sample ids
-below-xmax sample ids x y e h l = go (eqb (length ids) 0) refl
+-- every listed id below 2^64 − 1 is below xmax
+pub listed-below-xmax : (sample : ℕ) (ids : List ℕ) (y : ℕ) → listed y ids ≡ true → y < top → y < xmaxOf sample ids
+listed-below-xmax sample ids y e h = go (eqb (length ids) 0) refl
   where
-    go : (b : Bool) → eqb (length ids) 0 ≡ b → x < pick b sample (max sample (nextHeld (maximum 0 ids)))
+    go : (b : Bool) → eqb (length ids) 0 ≡ b → y < pick b sample (max sample (nextHeld (maximum 0 ids)))
     go true p = absurd (listed-length y ids e (eqb-true (length ids) 0 p))
     go false p = omega (arith, maximum-member 0 ids y e)
 
@@ -53,8 +53,10 @@ pub settled-in-own :
 unfolding snapshotOf
 settled-in-own n txids sample i bound x h t under l =
     rw (
-      lt-ltb x (xmaxOf sample (active txids))
-          (below-xmax sample (active txids) x (getD txids i 0) (taken-active txids i h) t (omega (arith, under i h))),
+      lt-ltb x (xmaxOf sample (active txids)) below,
       used-places n (active txids),
       not-active txids bound x under l,
     )
+  where
+    below : x < xmaxOf sample (active txids)
+    below = omega (arith, under i h, listed-below-xmax sample (active txids) (getD txids i 0) (taken-active txids i h) t)

@@ -69,12 +69,10 @@ good-accepted n t (begin number) g (r, f) = good-entered n t _ (number .0) g r
 good-accepted n t (end slot id) g o = good-cleared n t (slot .0) g
 good-accepted n t (snap clock sample) g o = good-observed n t g clock sample o
 good-accepted n t (own slot id clock sample) g (o, v) =
-    good-xmin n (observed clock sample t) (good-observed n t g clock sample v) (slot .0) _ fits
-  where
-    fits : SlotGood clock (t .line) (txidAt t (slot .0)) (xminOf sample (active (t .txids)))
-    fits =
-        let k = is-taken (g .each (slot .0)) (λ z. o .named (sym (o .holds) ∙ z)) in
-        taken (own-low (t .txids) sample (v .positive)) (own-high n t slot id sample o) (omega arith) (k .over)
+    let k = is-taken (g .each (slot .0)) (λ z. o .named (sym (o .holds) ∙ z)) in
+    good-xmin n (observed clock sample t) (good-observed n t g clock sample v) (slot .0) _
+    (taken (omega (arith, own-low (t .txids) sample (v .positive))) (omega (arith, own-high n t slot id sample o))
+    (omega arith) (k .over))
 good-accepted n t (oldest clock sample) g o = good-observed n t g clock sample o
 good-accepted n t (vacuum clock sample) g o =
     good-line n (observed clock sample t) (good-observed n t g clock sample o) _ (omega arith)
