@@ -34,7 +34,7 @@ below-accepted n t (finish slot id number) b o = below-slot t (slot .0) 0 0 (ome
 
 pub below-after : (n : ℕ) (t : Table) (c : Call) → BelowTop t → BelowTop (after n t c)
 below-after n t c b =
-    after-cases n t c BelowTop (λ e. below-accepted n t c b (accepted-passed n t c e)) b (λ number r. b)
+    after-cases n t c BelowTop (λ e. below-accepted n t c b (accepted-passed n t c e)) b (λ clock h. b)
 
 pub below-run : (n : ℕ) (t : Table) (cs : List Call) → BelowTop t → BelowTop (run n t cs)
 unfolding run

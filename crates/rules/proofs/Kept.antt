@@ -1,5 +1,5 @@
 -- Each way in which a table moves keeps the facts of the table check.
-use Prim.Native.Nat.{ℕ, _+_, _≤_, _<_}
+use Prim.Native.Nat.{ℕ, _≤_, _<_}
 use mathlib.Core.Path.{_≡_, refl, sym, _∙_}
 use mathlib.Core.Logic.{_≢_}
 use mathlib.Core.List.{List}
@@ -11,7 +11,7 @@ use Rattle.rules.specs.declared.Table.{Table}
 use Rattle.rules.specs.Tables.{freshTable, txidAt, xminAt, withSlot, withXmin, withClock, observed, withLine}
 use Rattle.rules.specs.Facts.{SlotGood, empty, taken, Good}
 use Rattle.rules.proofs.Places.{Stored, new-here, as-before, stored, StoredBoth, both-new, both-before, stored-both, zeros-hold}
-use Rattle.rules.proofs.Tests.{Owns, Reserves, Observes}
+use Rattle.rules.proofs.Tests.{Owns, Observes}
 
 -- a taken slot's part of the facts
 pub record Taken (clock line txid xmin : ℕ) : Type 0 where
@@ -131,17 +131,6 @@ module _ (n : ℕ) (t : Table) (g : Good n t) where
   new-number number h z j e =
       let k = is-taken (g .each j) (λ (q : txidAt t j ≡ 0). z (sym e ∙ q)) in
       omega arith
-
--- a slot is emptied, or entered with a reserved number
-pub good-cleared : (n : ℕ) (t : Table) (i : ℕ) → Good n t → Good n (withSlot i 0 0 t)
-good-cleared n t i g = good-slot n t g i 0 0 (empty refl refl) (λ h. absurd (h refl))
-
-pub good-entered :
-    (n : ℕ) (t : Table) (i number : ℕ) → Good n t → Reserves (t .clock) number →
-    Good n (withSlot i number number (withClock (number + 1) t))
-good-entered n t i number g r =
-    good-slot n (withClock (number + 1) t) (good-clock n t g (number + 1) (omega arith)) i number number
-    (taken (r .positive) (omega arith) (omega arith) (omega arith)) (λ z j. new-number n t g number (r .from-clock) z j)
 
 pub good-fresh : (n : ℕ) → Good n (freshTable n)
 unfolding freshTable

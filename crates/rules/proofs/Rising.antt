@@ -23,7 +23,7 @@ line-accepted t (finish slot id number) = le-refl _
 
 pub line-after : (n : ℕ) (t : Table) (c : Call) → t .line ≤ after n t c .line
 line-after n t c =
-    after-cases n t c (λ u. t .line ≤ u .line) (λ e. line-accepted t c) (le-refl _) (λ number r. le-refl _)
+    after-cases n t c (λ u. t .line ≤ u .line) (λ e. line-accepted t c) (le-refl _) (λ clock h. le-refl _)
 
 pub line-run : (n : ℕ) (t : Table) (cs : List Call) → t .line ≤ run n t cs .line
 unfolding run
@@ -45,7 +45,7 @@ clock-accepted n t (finish slot id number) (o, r) = omega arith
 pub clock-after : (n : ℕ) (t : Table) (c : Call) → t .clock ≤ after n t c .clock
 clock-after n t c =
     after-cases n t c (λ u. t .clock ≤ u .clock) (λ e. clock-accepted n t c (accepted-passed n t c e)) (le-refl _)
-    (λ number r. omega arith)
+    (λ clock h. omega arith)
 
 pub clock-run : (n : ℕ) (t : Table) (cs : List Call) → t .clock ≤ run n t cs .clock
 unfolding run

@@ -8,7 +8,7 @@ use native.Mathlib.Nat.{suc-ne-zero}
 use native.Mathlib.Omega.{arith}
 use lib.Dec.{ltb, eqb}
 use lib.ListN.{length, getD, take}
-use borrow.Author.Tests.{eqb-true, lt-ltb}
+use borrow.Author.Tests.{lt-ltb, ne-eqb}
 use Rattle.kinds.specs.Pick.{pick}
 use Rattle.kinds.specs.Kinds.{top, nextHeld}
 use Rattle.settled.specs.declared.Snapshot.{Snapshot}
@@ -26,11 +26,8 @@ listed-length y (x ∷ xs) e z = suc-ne-zero _ z
 
 -- every listed id below 2^64 − 1 is below xmax
 pub listed-below-xmax : (sample : ℕ) (ids : List ℕ) (y : ℕ) → listed y ids ≡ true → y < top → y < xmaxOf sample ids
-listed-below-xmax sample ids y e h = go (eqb (length ids) 0) refl
-  where
-    go : (b : Bool) → eqb (length ids) 0 ≡ b → y < pick b sample (max sample (nextHeld (maximum 0 ids)))
-    go true p = absurd (listed-length y ids e (eqb-true (length ids) 0 p))
-    go false p = omega (arith, maximum-member 0 ids y e)
+listed-below-xmax sample ids y e h =
+    rw (ne-eqb (length ids) 0 (listed-length y ids e)) (omega (arith, maximum-member 0 ids y e))
 
 -- an id below every taken txid is not active
 pub not-active :

@@ -1,10 +1,9 @@
 -- Each call, accepted or refused, on any arguments, keeps the facts of the table check.
-use Prim.Native.Nat.{ℕ, _+_, _≤_, max}
+use Prim.Native.Nat.{ℕ, _≤_, _<_}
 use mathlib.Core.Path.{_≡_, refl, sym, _∙_, ap}
 use mathlib.Core.Logic.{_≢_}
 use mathlib.Core.List.{List, [], _∷_, _++_}
 use native.Mathlib.Omega.{arith}
-use Rattle.kinds.specs.declared.Stamp.{Stamp}
 use Rattle.kinds.specs.declared.SlotNo.{SlotNo}
 use Rattle.kinds.specs.declared.Txid.{Txid}
 use Rattle.kinds.specs.declared.refusal.Refusal.{Refusal}
@@ -13,22 +12,22 @@ use Rattle.rules.specs.Tally.{active, retained, xminOf, oldestOf}
 use Rattle.rules.specs.Tables.{freshTable, txidAt, xminAt, withClock, observed}
 use Rattle.rules.specs.Tests.{Verdict, pass, refuse}
 use Rattle.rules.specs.Calls.{Call, begin, end, snap, own, oldest, vacuum, stamp, finish, refusal, afterAccepted, afterRefused, afterBy, after}
-use Rattle.rules.specs.Facts.{SlotGood, taken, Good}
+use Rattle.rules.specs.Facts.{empty, taken, Good}
 use Rattle.rules.specs.History.{run, reached, Accepts}
 use Rattle.rules.proofs.Tallies.{minimum-start, minimum-member, minimum-bound, taken-active, active-taken, taken-retained}
-use Rattle.rules.proofs.Tests.{Owns, Reserves, Passed, accepted-passed, Refused, stays, spends, refused}
-use Rattle.rules.proofs.Kept.{is-taken, good-clock, good-observed, good-xmin, good-line, good-cleared, good-entered, good-fresh}
+use Rattle.rules.proofs.Tests.{Owns, Passed, accepted-passed, Refused, stays, spends, refused}
+use Rattle.rules.proofs.Kept.{is-taken, good-clock, good-observed, good-slot, good-xmin, good-line, new-number, good-fresh}
 
--- a fact of the table after a call: one of the accepted call, one of the table as it was, one of the clock past a spent number
+-- a fact of the table after a call: of the accepted call's table, of the table as it was, and of a table whose clock alone rose
 pub after-cases :
     (n : ℕ) (t : Table) (c : Call) (P : Table → Type 0) → (Accepts n t c → P (afterAccepted t c)) → P t →
-    ((number : Stamp) → Reserves (t .clock) (number .0) → P (withClock (number .0 + 1) t)) → P (after n t c)
+    ((clock : ℕ) → t .clock < clock → P (withClock clock t)) → P (after n t c)
 unfolding after afterRefused
 after-cases n t c P a s w = go (refusal n t c) refl
   where
     other : (r : Refusal) → Refused n t c r → P (afterRefused t r)
     other r (stays p q) = rw p s
-    other r (spends number p q h f) = rw q (w number h)
+    other r (spends number p q h f) = rw q (w _ (omega arith))
 
     go : (v : Verdict) → refusal n t c ≡ v → P (afterBy v t c)
     go pass e = a e
@@ -65,8 +64,10 @@ oldest-taken n t sample i g h =
 
 good-accepted : (n : ℕ) (t : Table) (c : Call) → Good n t → Passed n t c → Good n (afterAccepted t c)
 unfolding afterAccepted
-good-accepted n t (begin number) g (r, f) = good-entered n t _ (number .0) g r
-good-accepted n t (end slot id) g o = good-cleared n t (slot .0) g
+good-accepted n t (begin number) g (r, f) =
+    good-slot n _ (good-clock n t g _ (omega arith)) _ _ _
+    (taken (r .positive) (omega arith) (omega arith) (omega arith)) (new-number n t g (number .0) (r .from-clock))
+good-accepted n t (end slot id) g o = good-slot n t g (slot .0) _ _ (empty refl refl) (λ h. absurd (h refl))
 good-accepted n t (snap clock sample) g o = good-observed n t g clock sample o
 good-accepted n t (own slot id clock sample) g (o, v) =
     let k = is-taken (g .each (slot .0)) (λ z. o .named (sym (o .holds) ∙ z)) in
@@ -75,21 +76,20 @@ good-accepted n t (own slot id clock sample) g (o, v) =
     (omega arith) (k .over))
 good-accepted n t (oldest clock sample) g o = good-observed n t g clock sample o
 good-accepted n t (vacuum clock sample) g o =
-    good-line n (observed clock sample t) (good-observed n t g clock sample o) _ (omega arith)
-    (omega (arith, oldest-sample t sample)) under
+    good-line n _ (good-observed n t g clock sample o) _ (omega arith) (omega (arith, oldest-sample t sample)) under
   where
-    under : (i : ℕ) → txidAt t i ≢ 0 → max (t .line) (oldestOf (t .txids) (t .«snapshot_xmins») sample) ≤ txidAt t i
+    under : (i : ℕ) → txidAt t i ≢ 0 → afterAccepted t (vacuum clock sample) .line ≤ txidAt t i
     under i h =
         let k = is-taken (g .each i) h in
         omega (arith, oldest-taken n t sample i g h)
-good-accepted n t (stamp number) g r = good-clock n t g (number .0 + 1) (omega arith)
+good-accepted n t (stamp number) g r = good-clock n t g _ (omega arith)
 good-accepted n t (finish slot id number) g (o, r) =
-    good-cleared n (withClock (number .0 + 1) t) (slot .0) (good-clock n t g (number .0 + 1) (omega arith))
+    good-slot n _ (good-clock n t g _ (omega arith)) (slot .0) _ _ (empty refl refl) (λ h. absurd (h refl))
 
 pub good-after : (n : ℕ) (t : Table) (c : Call) → Good n t → Good n (after n t c)
 good-after n t c g =
     after-cases n t c (Good n) (λ e. good-accepted n t c g (accepted-passed n t c e)) g
-    (λ number r. good-clock n t g (number .0 + 1) (omega arith))
+    (λ clock h. good-clock n t g clock (omega arith))
 
 pub good-run : (n : ℕ) (t : Table) (cs : List Call) → Good n t → Good n (run n t cs)
 unfolding run
