@@ -24,14 +24,12 @@ use Rattle.rules.proofs.Steps.{good-after, good-reached}
 
 -- one slot
 slot-to : (clock line txid xmin : ℕ) → slotPasses clock line txid xmin ≡ true → SlotGood clock line txid xmin
-slot-to clock line txid xmin e = go (eqb txid 0) refl e
+slot-to clock line txid xmin e = go (eqb txid 0) refl
   where
-    go : (b : Bool) → eqb txid 0 ≡ b →
-        pick b (eqb xmin 0) (leb 1 xmin && (leb xmin txid && (ltb txid clock && leb line txid))) ≡ true →
-        SlotGood clock line txid xmin
-    go true q h = empty (eqb-true _ _ q) (eqb-true _ _ h)
-    go false q h =
-        let (h₁, r₁) = and-true (leb 1 xmin) _ h in
+    go : (b : Bool) → eqb txid 0 ≡ b → SlotGood clock line txid xmin
+    go true q = empty (eqb-true _ _ q) (eqb-true _ _ (rw q at e))
+    go false q =
+        let (h₁, r₁) = and-true (leb 1 xmin) _ (rw q at e) in
         let (h₂, r₂) = and-true (leb xmin txid) _ r₁ in
         let (h₃, h₄) = and-true (ltb txid clock) (leb line txid) r₂ in
         taken (leb-true 1 xmin h₁) (leb-true xmin txid h₂) (ltb-true txid clock h₃) (leb-true line txid h₄)

@@ -89,11 +89,12 @@ emptied n t i slot id g s k =
     go (both-new p h a b) = other-id n t (withSlot i 0 0 t) slot id (λ e. k .named (sym e ∙ a)) s k
     go (both-before d a b) = slot-unmoved n t (withSlot i 0 0 t) slot id a b refl s k
 
--- the line rises to the oldest xmin
+-- a vacuum raises the line to the oldest xmin at most
 raised :
-    (n : ℕ) (t : Table) (sample : ℕ) (slot : SlotNo) (id : Txid) → Good n t → (s : Snapshot) → Keeps n t slot id s →
-    Keeps n (withLine (max (t .line) (oldestOf (t .txids) (t .«snapshot_xmins») sample)) t) slot id s
-raised n t sample slot id g s k =
+    (n : ℕ) (t : Table) (slot : SlotNo) (id : Txid) (clock sample : ℕ) → Good n t → (s : Snapshot) → Keeps n t slot id s →
+    Keeps n (afterAccepted t (vacuum clock sample)) slot id s
+unfolding afterAccepted
+raised n t slot id clock sample g s k =
     record {
       named = k .named;
       few = k .few;
@@ -102,8 +103,7 @@ raised n t sample slot id g s k =
       settles = λ e x h. go e x h (decLt x (t .line));
     }
   where
-    go : txidAt t (slot .0) ≡ id .0 → (x : ℕ) →
-        x < max (t .line) (oldestOf (t .txids) (t .«snapshot_xmins») sample) → Dec (x < t .line) → Settles s x
+    go : txidAt t (slot .0) ≡ id .0 → (x : ℕ) → x < afterAccepted t (vacuum clock sample) .line → Dec (x < t .line) → Settles s x
     go e x h (yes l) = k .settles e x l
     go e x h (no l) =
         let a = oldest-taken n t sample (slot .0) g (λ z. k .named (sym e ∙ z)) in
@@ -113,14 +113,13 @@ raised n t sample slot id g s k =
 -- a new transaction snapshot
 taken-now :
     (n : ℕ) (t : Table) (slot : SlotNo) (id : Txid) (clock sample : ℕ) → Good n t → BelowTop t → Owns n t slot id →
-    Keeps n (withXmin (slot .0) (xminOf sample (active (t .txids))) (observed clock sample t)) slot id
-    (snapshotOf n (t .txids) sample)
-unfolding snapshotOf
+    Keeps n (afterAccepted t (own slot id clock sample)) slot id (snapshotOf n (t .txids) sample)
+unfolding afterAccepted snapshotOf
 taken-now n t slot id clock sample g b o =
     record {
       named = o .named;
       few = rw (← g .txid-column) (active-length (t .txids));
-      low = λ x l. below x (xminOf sample (active (t .txids))) (λ j h. minimum-member sample (active (t .txids)) (txidAt t j) (taken-active (t .txids) j h)) l;
+      low = λ x l. below x _ (λ j h. minimum-member sample (active (t .txids)) (txidAt t j) (taken-active (t .txids) j h)) l;
       retains = λ e. getD-set-same (t .«snapshot_xmins») (slot .0) _ 0 (rw (g .xmin-column) (o .inside));
       settles = λ e x l. below x (t .line) (λ j h. is-taken (g .each j) h .over) l;
     }
@@ -141,7 +140,7 @@ unfolding afterAccepted
 keeps-accepted n t slot id (begin number) last g b e p k = go (eqb (lowestEmpty (t .txids)) (slot .0)) refl
   where
     u : Table
-    u = withSlot (lowestEmpty (t .txids)) (number .0) (number .0) (withClock (number .0 + 1) t)
+    u = afterAccepted t (begin number)
 
     go : (q : Bool) → eqb (lowestEmpty (t .txids)) (slot .0) ≡ q → KeepsLast n u slot id (pick q none last)
     go true q = tt
@@ -150,14 +149,14 @@ keeps-accepted n t slot id (begin number) last g b e p k = go (eqb (lowestEmpty 
         carry n t u slot id last
         (slot-unmoved n t u slot id (getD-set-other (t .txids) _ (slot .0) _ 0 d) (getD-set-other (t .«snapshot_xmins») _ (slot .0) _ 0 d) refl) k
 keeps-accepted n t slot id (end slot′ id′) last g b e p k =
-    carry n t (withSlot (slot′ .0) 0 0 t) slot id last (emptied n t (slot′ .0) slot id g) k
+    carry n t (afterAccepted t (end slot′ id′)) slot id last (emptied n t (slot′ .0) slot id g) k
 keeps-accepted n t slot id (snap clock sample) last g b e p k =
-    carry n t (observed clock sample t) slot id last (slot-unmoved n t (observed clock sample t) slot id refl refl refl) k
+    carry n t (afterAccepted t (snap clock sample)) slot id last (slot-unmoved n t _ slot id refl refl refl) k
 keeps-accepted n t slot id (own slot′ id′ clock sample) last g b e (o, v) k =
     go (eqb (slot′ .0) (slot .0)) refl (eqb (id′ .0) (id .0)) refl
   where
     u : Table
-    u = withXmin (slot′ .0) (xminOf sample (active (t .txids))) (observed clock sample t)
+    u = afterAccepted t (own slot′ id′ clock sample)
 
     go : (p : Bool) → eqb (slot′ .0) (slot .0) ≡ p → (q : Bool) → eqb (id′ .0) (id .0) ≡ q →
         KeepsLast n u slot id (pick (p && q) (some (shown n t (own slot′ id′ clock sample) sample)) last)
@@ -172,21 +171,14 @@ keeps-accepted n t slot id (own slot′ id′ clock sample) last g b e (o, v) k 
         carry n t u slot id last
         (slot-unmoved n t u slot id refl (getD-set-other (t .«snapshot_xmins») (slot′ .0) (slot .0) _ 0 (λ z. eqb-false (slot′ .0) (slot .0) p (sym z))) refl) k
 keeps-accepted n t slot id (oldest clock sample) last g b e p k =
-    carry n t (observed clock sample t) slot id last (slot-unmoved n t (observed clock sample t) slot id refl refl refl) k
+    carry n t (afterAccepted t (oldest clock sample)) slot id last (slot-unmoved n t _ slot id refl refl refl) k
 keeps-accepted n t slot id (vacuum clock sample) last g b e p k =
-    carry n t (afterAccepted t (vacuum clock sample)) slot id last
-    (λ s w. raised n u sample slot id (good-observed n t g clock sample p) s (slot-unmoved n t u slot id refl refl refl s w)) k
-  where
-    u : Table
-    u = observed clock sample t
+    carry n t (afterAccepted t (vacuum clock sample)) slot id last (raised n t slot id clock sample g) k
 keeps-accepted n t slot id (stamp number) last g b e p k =
-    carry n t (withClock (number .0 + 1) t) slot id last (slot-unmoved n t (withClock (number .0 + 1) t) slot id refl refl refl) k
-keeps-accepted n t slot id (finish slot′ id′ number) last g b e (o, r) k =
-    carry n t (withSlot (slot′ .0) 0 0 u) slot id last
-    (λ s w. emptied n u (slot′ .0) slot id (good-clock n t g (number .0 + 1) (omega arith)) s (slot-unmoved n t u slot id refl refl refl s w)) k
-  where
-    u : Table
-    u = withClock (number .0 + 1) t
+    carry n t (afterAccepted t (stamp number)) slot id last (slot-unmoved n t _ slot id refl refl refl) k
+keeps-accepted n t slot id (finish slot′ id′ number) last g b e p k =
+    carry n t (afterAccepted t (finish slot′ id′ number)) slot id last
+    (λ s w. slot-unmoved n (withSlot (slot′ .0) 0 0 t) _ slot id refl refl refl s (emptied n t (slot′ .0) slot id g s w)) k
 
 keeps-after :
     (n : ℕ) (t : Table) (slot : SlotNo) (id : Txid) (c : Call) (last : Option Snapshot) → Good n t → BelowTop t →
@@ -197,7 +189,7 @@ keeps-after n t slot id c last g b k = go (refusal n t c) refl
     other : (r : Refusal) → Refused n t c r → KeepsLast n (afterRefused t r) slot id last
     other r (stays p q) = rw p k
     other r (spends number p q h f) =
-        rw q (carry n t (withClock (number .0 + 1) t) slot id last (slot-unmoved n t (withClock (number .0 + 1) t) slot id refl refl refl) k)
+        rw q (carry n t _ slot id last (slot-unmoved n t _ slot id refl refl refl) k)
 
     go : (v : Verdict) → refusal n t c ≡ v → KeepsLast n (afterBy v t c) slot id (notedBy v n slot id t c last)
     go pass e = keeps-accepted n t slot id c last g b e (accepted-passed n t c e) k
