@@ -1,25 +1,24 @@
 -- The computed table check says yes exactly where its named facts hold. So fresh passes, and every call keeps a yes.
-use Prim.Native.Nat.{ℕ, zero, suc, _≤_, _<_}
+use Prim.Native.Nat.{ℕ, zero, suc}
 use mathlib.Core.Path.{_≡_, refl, sym, _∙_, ap}
 use mathlib.Core.Logic.{_≢_, _⊎_, inl, inr, _↔_}
 use mathlib.Core.List.{List, [], _∷_}
-use mathlib.Core.Bool.{Bool, true, false, _&&_, _||_, not, true≢false, false≢true}
+use mathlib.Core.Bool.{Bool, true, false, _||_, not, true≢false, false≢true}
 use native.Mathlib.Nat.{suc-ne-zero, suc-inj}
 use native.Mathlib.Omega.{arith}
 use lib.Dec.{ltb, leb, eqb}
 use lib.ListN.{length, getD}
 use borrow.Author.Tests.{ltb-true, leb-true, eqb-true, eqb-false, lt-ltb, le-leb, eq-eqb, ne-eqb, not-true}
-use Rattle.kinds.specs.Pick.{pick}
 use Rattle.settled.specs.Settled.{listed}
 use Rattle.rules.specs.declared.Table.{Table}
 use Rattle.rules.specs.Tables.{freshTable}
 use Rattle.rules.specs.Calls.{Call, after}
 use Rattle.rules.specs.Check.{slotPasses, slotsPass, differ, numbersPass, passes, tablePasses}
 use Rattle.rules.specs.Facts.{SlotGood, empty, taken, Good}
-use Rattle.rules.specs.History.{run, reached}
+use Rattle.rules.specs.History.{reached}
 use Rattle.rules.proofs.Bools.{and-true, true-and}
 use Rattle.rules.proofs.Tallies.{listed-head, listed-tail, listed-none, listed-cases}
-use Rattle.rules.proofs.Kept.{good-fresh}
+use Rattle.rules.proofs.Moves.{good-fresh}
 use Rattle.rules.proofs.Steps.{good-after, good-reached}
 
 -- one slot

@@ -1,14 +1,12 @@
 -- Over any calls from fresh, the taken slots are the accepted begins less the accepted ends and finishes.
 use Prim.Native.Nat.{ℕ, _+_, _<_}
 use mathlib.Core.Path.{_≡_, refl, sym, _∙_, ap}
-use mathlib.Core.Logic.{_≢_}
 use mathlib.Core.List.{List, [], _∷_}
 use native.Mathlib.Omega.{arith}
-use lib.ListN.{length, set, getD}
+use lib.ListN.{length, set}
 use Rattle.kinds.specs.declared.SlotNo.{SlotNo}
 use Rattle.kinds.specs.declared.Txid.{Txid}
 use Rattle.kinds.specs.declared.refusal.Refusal.{Refusal}
-use Rattle.kinds.specs.Pick.{pick}
 use Rattle.rules.specs.declared.Table.{Table}
 use Rattle.rules.specs.Tally.{active, lowestEmpty}
 use Rattle.rules.specs.Tables.{freshTable, txidAt}
@@ -16,9 +14,9 @@ use Rattle.rules.specs.Tests.{Verdict, pass, refuse}
 use Rattle.rules.specs.Calls.{Call, begin, end, snap, own, oldest, vacuum, stamp, finish, refusal, afterAccepted, afterRefused, afterBy, after}
 use Rattle.rules.specs.Facts.{Good}
 use Rattle.rules.specs.History.{run, reached, isBegin, isEnd, isFinish, counts, acceptedFrom, begins, ends, finishes, takenSlots}
-use Rattle.rules.proofs.Tallies.{takenOne, taken-empty, taken-one, active-set, active-zeros, lowest-empty}
+use Rattle.rules.proofs.Tallies.{taken-empty, taken-one, active-set, active-zeros, lowest-empty}
 use Rattle.rules.proofs.Tests.{Owns, Reserves, Passed, accepted-passed, Refused, stays, spends, refused}
-use Rattle.rules.proofs.Kept.{good-fresh}
+use Rattle.rules.proofs.Moves.{good-fresh}
 use Rattle.rules.proofs.Steps.{good-after}
 
 one-less :

@@ -1,8 +1,7 @@
 -- Histories worked out by computing: what the promise does not cover, and that no theorem here supposes the impossible.
-use Prim.Native.Nat.{ℕ, _≤_, _<_}
-use mathlib.Core.Path.{_≡_, refl, sym, _∙_}
-use mathlib.Core.Logic.{_≢_}
-use mathlib.Core.Bool.{true, false, true≢false}
+use Prim.Native.Nat.{ℕ}
+use mathlib.Core.Path.{_≡_, refl, sym}
+use mathlib.Core.Bool.{true, true≢false}
 use mathlib.Core.List.{List, [], _∷_, _++_}
 use mathlib.Core.Option.{some}
 use native.Mathlib.Omega.{arith}
@@ -12,11 +11,10 @@ use Rattle.kinds.specs.declared.Txid.{Txid}
 use Rattle.kinds.specs.declared.refusal.Refusal.the-variants.{NoFreeSlot, BadReservation}
 use Rattle.settled.specs.declared.Snapshot.{Snapshot}
 use Rattle.settled.specs.Settled.{listed, settledIn}
-use Rattle.rules.specs.declared.Table.{Table}
 use Rattle.rules.specs.Tally.{active, retained, lowestEmpty, minimum, maximum, snapshotOf}
-use Rattle.rules.specs.Tables.{freshTable, txidAt}
-use Rattle.rules.specs.Tests.{pass, refuse}
-use Rattle.rules.specs.Calls.{Call, begin, end, snap, own, oldest, vacuum, stamp, finish, refusal, afterAccepted, afterRefused, after, answerAccepted, answer, shown}
+use Rattle.rules.specs.Tables.{freshTable}
+use Rattle.rules.specs.Tests.{refuse}
+use Rattle.rules.specs.Calls.{Call, begin, end, snap, own, vacuum, stamp, finish, refusal, afterAccepted, afterRefused, after, answerAccepted, answer, shown}
 use Rattle.rules.specs.Check.{slotsPass, differ, passes, tablePasses}
 use Rattle.rules.specs.History.{run, reached, Accepts, Registered, lastFrom, lastOwn, reservationsFrom, reservations, acceptedFrom, begins, ends, finishes, takenSlots}
 use Rattle.rules.specs.Promise.{SettledBelow, lineAfter, Covered, of-transaction, vacuumAnswer}

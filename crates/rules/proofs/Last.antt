@@ -1,27 +1,25 @@
 -- The last transaction snapshot that the walk over the calls finds is the last in words, and the other way round.
-use Prim.Native.Nat.{ℕ, _+_}
+use Prim.Native.Nat.{ℕ}
 use mathlib.Core.Path.{_≡_, refl, sym, _∙_, ap}
 use mathlib.Core.Logic.{_≢_, _↔_}
-use mathlib.Core.Bool.{Bool, true, false, _&&_, true≢false, false≢true}
-use mathlib.Core.List.{List, [], _∷_, _++_, nil≢cons, head-eq-of-cons-eq, tail-eq-of-cons-eq}
+use mathlib.Core.Bool.{Bool, true, false, _&&_, true≢false}
+use mathlib.Core.List.{List, [], _∷_, _++_, append-nil, nil≢cons, head-eq-of-cons-eq, tail-eq-of-cons-eq}
 use mathlib.Core.Option.{Option, none, some, Option·none-ne-some, Option·some-injective}
 use lib.Dec.{eqb}
-use lib.ListN.{length, getD, set}
+use lib.ListN.{getD, set}
 use lib.Seq.{getD-set-other}
 use borrow.Author.Tests.{eqb-true, eqb-false, eq-eqb}
-use Rattle.kinds.specs.declared.Stamp.{Stamp}
 use Rattle.kinds.specs.declared.SlotNo.{SlotNo}
 use Rattle.kinds.specs.declared.Txid.{Txid}
 use Rattle.kinds.specs.declared.refusal.Refusal.{Refusal}
-use Rattle.kinds.specs.Pick.{pick}
 use Rattle.kinds.proofs.Unique.{same-slot, same-txid}
 use Rattle.settled.specs.declared.Snapshot.{Snapshot}
 use Rattle.rules.specs.declared.Table.{Table}
 use Rattle.rules.specs.Tally.{lowestEmpty}
-use Rattle.rules.specs.Tables.{txidAt, withSlot, withClock}
+use Rattle.rules.specs.Tables.{txidAt}
 use Rattle.rules.specs.Tests.{Verdict, pass, refuse}
 use Rattle.rules.specs.Calls.{Call, begin, end, snap, own, oldest, vacuum, stamp, finish, refusal, afterAccepted, afterRefused, afterBy, after, shown}
-use Rattle.rules.specs.History.{run, Accepts, Registered, notedAccepted, notedBy, lastFrom, Quiet, IsLast}
+use Rattle.rules.specs.History.{run, Accepts, Registered, notedBy, lastFrom, Quiet, IsLast}
 use Rattle.rules.proofs.Places.{Stored, new-here, as-before, stored}
 use Rattle.rules.proofs.Tallies.{lowest-empty}
 use Rattle.rules.proofs.Tests.{refuse-not-pass, Refused, stays, spends, refused}
@@ -265,3 +263,12 @@ pub last-in-words :
     (n : ℕ) (t : Table) (slot : SlotNo) (id : Txid) (cs : List Call) (s : Snapshot) → Registered (run n t cs) slot id →
     (lastFrom n slot id t cs none ≡ some s) ↔ IsLast n t slot id cs s
 last-in-words n t slot id cs s r = (walk-words n t slot id cs s r, words-walk n t slot id cs s)
+
+-- one that is the last in words belongs to a transaction registered at the end
+pub words-registered :
+    (n : ℕ) (t : Table) (slot : SlotNo) (id : Txid) (cs : List Call) (s : Snapshot) → IsLast n t slot id cs s →
+    Registered (run n t cs) slot id
+unfolding run
+words-registered n t slot id cs s w =
+    rw (w .written, run-append n t (w .before) (own slot id (w .clock) (w .sample) ∷ w .later))
+    (w .quiet .alive (w .later) [] (sym (append-nil (w .later))))

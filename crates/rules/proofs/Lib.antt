@@ -2,14 +2,14 @@ pub mod Bools
 pub mod Places
 pub mod Tallies
 pub mod Tests
-pub mod Kept
+pub mod Moves
 pub mod Steps
 pub mod Rising
 pub mod BelowTop
 pub mod Checked
 pub mod Snapshots
 pub mod Last
-pub mod Keeps
+pub mod Retention
 pub mod Promise
 pub mod Reserved
 pub mod WellFormed

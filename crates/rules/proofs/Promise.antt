@@ -1,10 +1,10 @@
 -- Demand 3: the promise holds, for every number of slots.
 use Prim.Native.Nat.{ℕ, _≤_, _<_}
-use mathlib.Core.Path.{_≡_, refl, sym, _∙_, ap}
-use mathlib.Core.Logic.{_≢_}
+use mathlib.Core.Path.{_≡_, sym, _∙_, ap}
+use mathlib.Core.Logic.{_↔_}
 use mathlib.Core.Bool.{true}
 use mathlib.Core.List.{List, [], _∷_, _++_}
-use mathlib.Core.Option.{none, some}
+use mathlib.Core.Option.{none}
 use native.Mathlib.Nat.{le-trans}
 use native.Mathlib.Omega.{arith}
 use lib.Seq.{append-snoc}
@@ -13,18 +13,31 @@ use Rattle.kinds.specs.declared.SlotNo.{SlotNo}
 use Rattle.kinds.specs.declared.Txid.{Txid}
 use Rattle.kinds.specs.Refusals.{accepted}
 use Rattle.settled.specs.declared.Snapshot.{Snapshot}
-use Rattle.settled.specs.Settled.{SettledAnswer, settledTest}
+use Rattle.settled.specs.Settled.{settledTest}
 use Rattle.rules.specs.declared.Table.{Table}
 use Rattle.rules.specs.Tables.{freshTable}
 use Rattle.rules.specs.Tests.{Verdict}
-use Rattle.rules.specs.Calls.{Call, own, vacuum, Answer, refusal, afterAccepted, after, answerAccepted, answerBy, answer, shown}
-use Rattle.rules.specs.History.{run, reached, Accepts, Registered, lastFrom, lastOwn}
+use Rattle.rules.specs.Calls.{Call, own, vacuum, afterAccepted, after, answerAccepted, answerBy, answer, shown}
+use Rattle.rules.specs.History.{run, reached, Accepts, lastFrom, lastOwn, IsLast}
 use Rattle.rules.specs.Promise.{SettledBelow, lineAfter, Covered, of-transaction, Promise, vacuumAnswer, VacuumPromise}
 use Rattle.rules.proofs.Tests.{Owns, accepted-passed}
 use Rattle.rules.proofs.Steps.{after-accepted, run-append, run-snoc}
 use Rattle.rules.proofs.Rising.{line-after, line-never-falls}
-use Rattle.rules.proofs.Last.{last-append, last-own}
-use Rattle.rules.proofs.Keeps.{last-keeps}
+use Rattle.rules.proofs.Last.{last-append, last-own, walk-words, words-walk, words-registered}
+use Rattle.rules.proofs.Retention.{last-keeps}
+
+-- covered, in words: the last transaction snapshot of somebody, as the history is written
+pub covered-in-words :
+    (n : ℕ) (cs : List Call) (s : Snapshot) →
+    Covered n cs s ↔ ((slot : SlotNo) × (id : Txid) × IsLast n (freshTable n) slot id cs s)
+covered-in-words n cs s = (to, from)
+  where
+    to : Covered n cs s → (slot : SlotNo) × (id : Txid) × IsLast n (freshTable n) slot id cs s
+    to (of-transaction slot id r e) = (slot, id, walk-words n (freshTable n) slot id cs s r e)
+
+    from : (slot : SlotNo) × (id : Txid) × IsLast n (freshTable n) slot id cs s → Covered n cs s
+    from (slot, id, w) =
+        of-transaction slot id (words-registered n (freshTable n) slot id cs s w) (words-walk n (freshTable n) slot id cs s w)
 
 pub covered-settled : (n : ℕ) (cs : List Call) (s : Snapshot) → Covered n cs s → SettledBelow (lineAfter n cs) s
 covered-settled n cs s (of-transaction slot id r e) x h l = last-keeps n cs slot id s e .settles (r .holds) x l

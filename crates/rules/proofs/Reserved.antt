@@ -1,8 +1,8 @@
 -- The numbers reserved from fresh: in order, from 1 to below the clock, each above all before it.
 use Prim.Native.Nat.{ℕ, zero, suc, _+_, _≤_, _<_}
 use mathlib.Core.Path.{_≡_, refl, sym, _∙_, ap}
-use mathlib.Core.Logic.{_≢_, _⊎_, inl, inr}
-use mathlib.Core.Bool.{Bool, true, false}
+use mathlib.Core.Logic.{_⊎_, inl, inr}
+use mathlib.Core.Bool.{true}
 use mathlib.Core.List.{List, [], _∷_, _++_, append-assoc}
 use native.Mathlib.Nat.{le-refl, le-trans, not-suc-le-zero, le-of-suc-le-suc}
 use native.Mathlib.Omega.{arith}
@@ -18,8 +18,7 @@ use Rattle.rules.specs.Tests.{Verdict, pass, refuse}
 use Rattle.rules.specs.Calls.{Call, begin, end, snap, own, oldest, vacuum, stamp, finish, refusal, afterAccepted, afterRefused, afterBy, after}
 use Rattle.rules.specs.History.{run, reached, Accepts, reservesAccepted, reservesRefused, reservesBy, reservationsFrom, reservations}
 use Rattle.rules.proofs.Tallies.{listed-none, listed-cases, listed-head}
-use Rattle.rules.proofs.Tests.{Reserves, Passed, accepted-passed, Refused, stays, spends, refused}
-use Rattle.rules.proofs.Rising.{clock-after}
+use Rattle.rules.proofs.Tests.{Passed, accepted-passed, Refused, stays, spends, refused}
 
 -- what one call reserves: nothing, or one number from the clock on, which the clock then passes by one
 pub data Step (clock : ℕ) (ids : List ℕ) (clock′ : ℕ) : Type 0 where

@@ -1,24 +1,34 @@
 -- Which ids are settled in the snapshot of a registered transaction: all below what bounds the taken txids.
-use Prim.Native.Nat.{ℕ, suc, _+_, _≤_, _<_, min, max}
-use mathlib.Core.Path.{_≡_, refl, sym, _∙_, ap}
-use mathlib.Core.Logic.{_≢_}
-use mathlib.Core.Bool.{Bool, true, false, _&&_, not}
+use Prim.Native.Nat.{ℕ, _≤_, _<_}
+use mathlib.Core.Path.{_≡_, refl, sym, _∙_}
+use mathlib.Core.Logic.{_≢_, _↔_}
+use mathlib.Core.Bool.{Bool, true, false}
 use mathlib.Core.List.{List, [], _∷_}
 use native.Mathlib.Nat.{suc-ne-zero}
 use native.Mathlib.Omega.{arith}
-use lib.Dec.{ltb, eqb}
 use lib.ListN.{length, getD, take}
-use borrow.Author.Tests.{lt-ltb, ne-eqb}
-use Rattle.kinds.specs.Pick.{pick}
-use Rattle.kinds.specs.Kinds.{top, nextHeld}
+use lib.Dec.{ltb}
+use borrow.Author.Tests.{ltb-true, lt-ltb, ne-eqb, not-true}
+use Rattle.kinds.specs.Kinds.{top}
 use Rattle.settled.specs.declared.Snapshot.{Snapshot}
 use Rattle.settled.specs.Settled.{listed, settledIn}
-use Rattle.rules.specs.Tally.{active, maximum, xmaxOf, snapshotOf}
+use Rattle.rules.specs.Tally.{active, xmaxOf, snapshotOf}
+use Rattle.rules.proofs.Bools.{and-true}
 use Rattle.rules.proofs.Tallies.{listed-none, maximum-member, taken-active, active-taken, used-places}
 
 -- the settled test's definition, of a whole snapshot
 abbrev pub Settles : Snapshot → ℕ → Type 0
 Settles s x = settledIn (s .xmax) (s .ids) (s .count) x ≡ true
+
+-- below xmax, and not among the first count ids
+pub settled-exactly :
+    (s : Snapshot) (x : ℕ) → Settles s x ↔ ((x < s .xmax) × (listed x (take (s .count) (s .ids)) ≡ false))
+settled-exactly s x = (to, λ (h, e). rw (lt-ltb x (s .xmax) h, e))
+  where
+    to : Settles s x → (x < s .xmax) × (listed x (take (s .count) (s .ids)) ≡ false)
+    to e =
+        let (a, b) = and-true (ltb x (s .xmax)) _ e in
+        (ltb-true x (s .xmax) a, not-true (listed x (take (s .count) (s .ids))) b)
 
 listed-length : (y : ℕ) (ids : List ℕ) → listed y ids ≡ true → length ids ≢ 0
 listed-length y [] e z = listed-none y e

@@ -16,7 +16,7 @@ use Rattle.rules.specs.Facts.{empty, taken, Good}
 use Rattle.rules.specs.History.{run, reached, Accepts}
 use Rattle.rules.proofs.Tallies.{minimum-start, minimum-member, minimum-bound, taken-active, active-taken, taken-retained}
 use Rattle.rules.proofs.Tests.{Owns, Passed, accepted-passed, Refused, stays, spends, refused}
-use Rattle.rules.proofs.Kept.{is-taken, good-clock, good-observed, good-slot, good-xmin, good-line, new-number, good-fresh}
+use Rattle.rules.proofs.Moves.{is-taken, good-clock, good-observed, good-slot, good-xmin, good-line, new-number, good-fresh}
 
 -- a fact of the table after a call: of the accepted call's table, of the table as it was, and of a table whose clock alone rose
 pub after-cases :

@@ -1,16 +1,16 @@
 -- Upstream's `well_formed`: its table part from a yes of the check, its history part from fresh.
-use Prim.Native.Nat.{ℕ, _<_, _≤_, _+_}
-use mathlib.Core.Path.{_≡_, refl, sym, _∙_, ap}
+use Prim.Native.Nat.{ℕ, _<_}
+use mathlib.Core.Path.{_≡_, refl, sym, _∙_}
 use mathlib.Core.Logic.{_≢_, _⊎_, inl, inr}
-use mathlib.Core.Bool.{Bool, true, false, _||_}
+use mathlib.Core.Bool.{true, _||_}
 use mathlib.Core.List.{List, [], _∷_, _++_}
 use native.Mathlib.Omega.{arith}
-use lib.ListN.{length, getD, set}
+use lib.ListN.{getD, set}
 use Rattle.kinds.specs.declared.refusal.Refusal.{Refusal}
 use Rattle.settled.specs.Settled.{listed}
 use Rattle.settled.proofs.Listed.{listed-append}
 use Rattle.rules.specs.declared.Table.{Table}
-use Rattle.rules.specs.Tables.{freshTable, txidAt, xminAt, withSlot, withClock}
+use Rattle.rules.specs.Tables.{freshTable, txidAt}
 use Rattle.rules.specs.Tests.{Verdict, pass, refuse}
 use Rattle.rules.specs.Calls.{Call, begin, end, snap, own, oldest, vacuum, stamp, finish, refusal, afterAccepted, afterRefused, afterBy, after}
 use Rattle.rules.specs.Check.{tablePasses}
@@ -20,7 +20,7 @@ use Rattle.rules.proofs.Bools.{true-or-left, true-or-right}
 use Rattle.rules.proofs.Places.{Stored, new-here, as-before, stored, zeros-hold}
 use Rattle.rules.proofs.Tallies.{listed-head}
 use Rattle.rules.proofs.Tests.{Refused, stays, spends, refused}
-use Rattle.rules.proofs.Kept.{Taken, is-taken}
+use Rattle.rules.proofs.Moves.{is-taken}
 use Rattle.rules.proofs.Checked.{passes-good}
 use Rattle.rules.proofs.Reserved.{reserved-in-order, order-place, order-places}
 

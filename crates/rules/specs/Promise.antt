@@ -8,7 +8,6 @@ use Rattle.kinds.specs.declared.SlotNo.{SlotNo}
 use Rattle.kinds.specs.declared.Txid.{Txid}
 use Rattle.settled.specs.declared.Snapshot.{Snapshot}
 use Rattle.settled.specs.Settled.{settledIn}
-use Rattle.rules.specs.declared.Table.{Table}
 use Rattle.rules.specs.Calls.{Call, own, vacuum, answer, shown}
 use Rattle.rules.specs.History.{reached, Accepts, Registered, lastOwn}
 

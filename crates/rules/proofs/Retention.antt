@@ -1,42 +1,34 @@
 -- What every call keeps of a transaction's last snapshot: the slot retains its xmin, and ids below the line are settled in it.
-use Prim.Native.Nat.{ℕ, _+_, _≤_, _<_, max}
+use Prim.Native.Nat.{ℕ, _≤_, _<_}
 use mathlib.Core.Path.{_≡_, refl, sym, _∙_, ap}
 use mathlib.Core.Logic.{_≢_}
 use mathlib.Core.Bool.{Bool, true, false, _&&_}
-use mathlib.Core.List.{List, [], _∷_, _++_}
+use mathlib.Core.List.{List, [], _∷_}
 use mathlib.Core.Option.{Option, none, some}
-use native.Mathlib.Nat.{le-refl, le-trans}
 use native.Mathlib.Decide.{decLt}
 use native.Mathlib.Omega.{arith}
 use lib.Dec.{eqb}
-use lib.ListN.{length, getD, set}
 use lib.Seq.{getD-set-same, getD-set-other}
-use borrow.Author.Tests.{eqb-true, eqb-false, eq-eqb, le-ltb, ne-eqb}
-use Rattle.kinds.specs.declared.Stamp.{Stamp}
+use borrow.Author.Tests.{eqb-true, eqb-false}
 use Rattle.kinds.specs.declared.SlotNo.{SlotNo}
 use Rattle.kinds.specs.declared.Txid.{Txid}
 use Rattle.kinds.specs.declared.refusal.Refusal.{Refusal}
 use Rattle.kinds.specs.Pick.{pick}
-use Rattle.kinds.specs.Refusals.{accepted}
 use Rattle.kinds.proofs.Unique.{same-slot, same-txid}
 use Rattle.settled.specs.declared.Snapshot.{Snapshot}
-use Rattle.settled.specs.Settled.{SettledAnswer, settledIn, settledTest}
 use Rattle.rules.specs.declared.Table.{Table}
-use Rattle.rules.specs.Tally.{active, lowestEmpty, minimum, xminOf, snapshotOf, oldestOf}
-use Rattle.rules.specs.Tables.{freshTable, txidAt, xminAt, withSlot, withXmin, withClock, observed, withLine}
+use Rattle.rules.specs.Tally.{active, lowestEmpty, snapshotOf}
+use Rattle.rules.specs.Tables.{freshTable, txidAt, xminAt, withSlot}
 use Rattle.rules.specs.Tests.{Verdict, pass, refuse}
-use Rattle.rules.specs.Calls.{Call, begin, end, snap, own, oldest, vacuum, stamp, finish, Answer, refusal, afterAccepted, afterRefused, afterBy, after, answerAccepted, answerBy, answer, shownBy, shown}
+use Rattle.rules.specs.Calls.{Call, begin, end, snap, own, oldest, vacuum, stamp, finish, refusal, afterAccepted, afterRefused, afterBy, after, shownBy, shown}
 use Rattle.rules.specs.Facts.{Good}
-use Rattle.rules.specs.History.{run, reached, Accepts, Registered, forgotten, replaced, notedAccepted, notedBy, lastFrom, lastOwn}
-use Rattle.rules.specs.Promise.{SettledBelow, lineAfter, Covered, of-transaction, Promise}
+use Rattle.rules.specs.History.{run, reached, Accepts, notedAccepted, notedBy, lastFrom, lastOwn}
 use Rattle.rules.proofs.Places.{StoredBoth, both-new, both-before, stored-both}
 use Rattle.rules.proofs.Tallies.{minimum-member, taken-active, active-length}
-use Rattle.rules.proofs.Tests.{Owns, Reserves, Observes, Passed, accepted-passed, Refused, stays, spends, refused}
-use Rattle.rules.proofs.Kept.{is-taken, good-clock, good-observed, good-fresh}
-use Rattle.rules.proofs.Steps.{after-accepted, oldest-taken, good-after, good-reached, run-append}
-use Rattle.rules.proofs.Rising.{line-never-falls}
+use Rattle.rules.proofs.Tests.{Owns, Passed, accepted-passed, Refused, stays, spends, refused}
+use Rattle.rules.proofs.Moves.{is-taken, good-fresh}
+use Rattle.rules.proofs.Steps.{oldest-taken, good-after}
 use Rattle.rules.proofs.BelowTop.{BelowTop, below-fresh, below-after}
-use Rattle.rules.proofs.Last.{last-append, last-own}
 use Rattle.rules.proofs.Snapshots.{Settles, settled-in-own}
 
 -- what stays true of the last snapshot s of (slot, id): while the slot holds id it retains s's xmin, and ids below the line are settled in s

@@ -1,10 +1,9 @@
 -- Each way in which a table moves keeps the facts of the table check.
 use Prim.Native.Nat.{ℕ, _≤_, _<_}
-use mathlib.Core.Path.{_≡_, refl, sym, _∙_}
+use mathlib.Core.Path.{_≡_, sym, _∙_}
 use mathlib.Core.Logic.{_≢_}
-use mathlib.Core.List.{List}
 use native.Mathlib.Omega.{arith}
-use lib.ListN.{length, getD, set, length-set, length-replicate}
+use lib.ListN.{getD, set, length-set, length-replicate}
 use Rattle.kinds.specs.declared.SlotNo.{SlotNo}
 use Rattle.kinds.specs.declared.Txid.{Txid}
 use Rattle.rules.specs.declared.Table.{Table}
@@ -121,10 +120,6 @@ module _ (n : ℕ) (t : Table) (g : Good n t) where
           SlotGood (t .clock) line (txidAt t i) (xminAt t i)
       raised i (empty p q) f = empty p q
       raised i (taken p q r s) f = taken p q r (f (omega arith))
-
-  -- the facts of the slot that a registration holds
-  pub owner-taken : (slot : SlotNo) (id : Txid) → Owns n t slot id → Taken (t .clock) (t .line) (id .0) (xminAt t (slot .0))
-  owner-taken slot id o = rw (o .holds) at (is-taken (g .each (slot .0)) (λ z. o .named (sym (o .holds) ∙ z)))
 
   -- a number from the clock on is held by no slot
   pub new-number : (number : ℕ) → t .clock ≤ number → number ≢ 0 → (j : ℕ) → txidAt t j ≢ number
