@@ -8,6 +8,7 @@ pub mod Rising
 pub mod BelowTop
 pub mod Checked
 pub mod Snapshots
+pub mod Registered
 pub mod Last
 pub mod Retention
 pub mod Promise

@@ -7,6 +7,7 @@ use mathlib.Core.Option.{Option, none, some}
 use mathlib.Core.Bool.{Bool, true, false, _&&_}
 use lib.Dec.{eqb}
 use lib.ListN.{length}
+use Rattle.kinds.specs.declared.Stamp.{Stamp}
 use Rattle.kinds.specs.declared.SlotNo.{SlotNo}
 use Rattle.kinds.specs.declared.Txid.{Txid}
 use Rattle.kinds.specs.declared.refusal.Refusal.{Refusal}
@@ -17,7 +18,7 @@ use Rattle.rules.specs.declared.Table.{Table}
 use Rattle.rules.specs.Tally.{active, lowestEmpty}
 use Rattle.rules.specs.Tables.{freshTable, txidAt}
 use Rattle.rules.specs.Tests.{Verdict, pass, refuse}
-use Rattle.rules.specs.Calls.{Call, begin, end, snap, own, oldest, vacuum, stamp, finish, refusal, after, shown}
+use Rattle.rules.specs.Calls.{Call, begin, end, snap, own, oldest, vacuum, stamp, finish, Answer, refusal, after, answer, shown}
 
 -- the table after the calls, one after the other
 unfoldable pub run : ℕ → Table → List Call → Table
@@ -36,6 +37,26 @@ Accepts n t c = refusal n t c ≡ pass
 pub record Registered (t : Table) (slot : SlotNo) (id : Txid) : Type 0 where
   pub named : id .0 ≢ 0
   pub holds : txidAt t (slot .0) ≡ id .0
+
+-- none of the calls is an accepted end or finish of (slot, id)
+pub record NotEnded (n : ℕ) (t : Table) (slot : SlotNo) (id : Txid) (cs : List Call) : Type 0 where
+  pub no-end :
+      (p q : List Call) → cs ≡ p ++ end slot id ∷ q → Accepts n (run n t p) (end slot id) → ⊥
+  pub no-finish :
+      (p q : List Call) (number : Stamp) → cs ≡ p ++ finish slot id number ∷ q →
+      Accepts n (run n t p) (finish slot id number) → ⊥
+
+-- registered in words, for calls made on t: the calls are some before, an accepted begin, which answers slot and id, and
+-- later ones of which none is an accepted end or finish of (slot, id)
+pub record IsRegistered (n : ℕ) (t : Table) (slot : SlotNo) (id : Txid) (cs : List Call) : Type 0 where
+  pub before : List Call
+  pub number : Stamp
+  pub later : List Call
+  pub written : cs ≡ before ++ begin number ∷ later
+  pub accepted : Accepts n (run n t before) (begin number)
+  pub answers-slot : answer n (run n t before) (begin number) .slot ≡ slot .0
+  pub answers-id : answer n (run n t before) (begin number) .id ≡ id .0
+  pub not-ended : NotEnded n (after n (run n t before) (begin number)) slot id later
 
 -- the last transaction snapshot of (slot, id), by walking the calls: the begin of a transaction in the slot forgets it ..
 abbrev pub forgotten : ℕ → SlotNo → Option Snapshot → Option Snapshot
