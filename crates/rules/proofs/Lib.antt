@@ -8,7 +8,9 @@ pub mod Rising
 pub mod BelowTop
 pub mod Checked
 pub mod Snapshots
+pub mod Holders
 pub mod Registered
+pub mod Noted
 pub mod Last
 pub mod Retention
 pub mod Promise

@@ -1,28 +1,27 @@
 -- Upstream's `well_formed`: its table part from a yes of the check, its history part from fresh.
 use Prim.Native.Nat.{ℕ, _<_}
-use mathlib.Core.Path.{_≡_, refl, sym, _∙_}
-use mathlib.Core.Logic.{_≢_, _⊎_, inl, inr}
-use mathlib.Core.Bool.{true, _||_}
-use mathlib.Core.List.{List, [], _∷_, _++_}
+use mathlib.Core.Path.{_≡_, refl, sym, _∙_, ap}
+use mathlib.Core.Logic.{_≢_}
+use mathlib.Core.Bool.{true}
+use mathlib.Core.List.{List, _∷_, _++_}
 use native.Mathlib.Omega.{arith}
-use lib.ListN.{getD, set}
-use Rattle.kinds.specs.declared.refusal.Refusal.{Refusal}
+use Rattle.kinds.specs.declared.Stamp.{Stamp}
+use Rattle.kinds.specs.declared.SlotNo.{SlotNo}
+use Rattle.kinds.specs.declared.Txid.{Txid}
 use Rattle.settled.specs.Settled.{listed}
 use Rattle.settled.proofs.Listed.{listed-append}
 use Rattle.rules.specs.declared.Table.{Table}
 use Rattle.rules.specs.Tables.{freshTable, txidAt}
-use Rattle.rules.specs.Tests.{Verdict, pass, refuse}
-use Rattle.rules.specs.Calls.{Call, begin, end, snap, own, oldest, vacuum, stamp, finish, refusal, afterAccepted, afterRefused, afterBy, after}
+use Rattle.rules.specs.Calls.{Call, begin}
 use Rattle.rules.specs.Check.{tablePasses}
 use Rattle.rules.specs.Facts.{SlotGood, empty, taken, Good, WellFormedTable, WellFormedHistory}
-use Rattle.rules.specs.History.{run, reached, reservesAccepted, reservesBy, reservationsFrom, reservations}
-use Rattle.rules.proofs.Bools.{true-or-left, true-or-right}
-use Rattle.rules.proofs.Places.{Stored, new-here, as-before, stored, zeros-hold}
+use Rattle.rules.specs.History.{reached, Accepts, IsRegistered, reservationsFrom, reservations}
+use Rattle.rules.proofs.Bools.{true-or-right}
 use Rattle.rules.proofs.Tallies.{listed-head}
-use Rattle.rules.proofs.Tests.{Refused, stays, spends, refused}
 use Rattle.rules.proofs.Moves.{is-taken}
 use Rattle.rules.proofs.Checked.{passes-good}
-use Rattle.rules.proofs.Reserved.{reserved-in-order, order-place, order-places}
+use Rattle.rules.proofs.Registered.{begin-answers, registered-in-words}
+use Rattle.rules.proofs.Reserved.{reserved-in-order, order-place, order-places, reservations-append}
 
 empty-xmin : {clock line txid xmin : ℕ} → SlotGood clock line txid xmin → txid ≡ 0 → xmin ≡ 0
 empty-xmin (empty a b) e = b
@@ -45,87 +44,37 @@ passes-well-formed n t e =
     before-not-same : {i j : ℕ} → i < j → i ≡ j → ⊥
     before-not-same l q = omega arith
 
--- who holds a slot after a call held it before, or is reserved by the call
-entered-from :
-    (txids : List ℕ) (i a j x : ℕ) → getD (set txids i a) j 0 ≡ x → (a ≡ x) ⊎ (getD txids j 0 ≡ x)
-entered-from txids i a j x e = go (stored txids i a j)
-  where
-    go : Stored txids i a j → (a ≡ x) ⊎ (getD txids j 0 ≡ x)
-    go (new-here p l q) = inl (sym q ∙ e)
-    go (as-before d q) = inr (sym q ∙ e)
-
-held-accepted :
-    (t : Table) (c : Call) (i x : ℕ) → x ≢ 0 → txidAt (afterAccepted t c) i ≡ x →
-    (txidAt t i ≡ x) ⊎ (listed x (reservesAccepted c) ≡ true)
-unfolding afterAccepted
-held-accepted t (begin number) i x z e = go (entered-from (t .txids) _ (number .0) i x e)
-  where
-    go : (number .0 ≡ x) ⊎ (txidAt t i ≡ x) → (txidAt t i ≡ x) ⊎ (listed x (number .0 ∷ []) ≡ true)
-    go (inl p) = inr (rw p (listed-head x []))
-    go (inr p) = inl p
-held-accepted t (end slot id) i x z e = go (entered-from (t .txids) (slot .0) 0 i x e)
-  where
-    go : (0 ≡ x) ⊎ (txidAt t i ≡ x) → (txidAt t i ≡ x) ⊎ (listed x [] ≡ true)
-    go (inl p) = absurd (z (sym p))
-    go (inr p) = inl p
-held-accepted t (snap clock sample) i x z e = inl e
-held-accepted t (own slot id clock sample) i x z e = inl e
-held-accepted t (oldest clock sample) i x z e = inl e
-held-accepted t (vacuum clock sample) i x z e = inl e
-held-accepted t (stamp number) i x z e = inl e
-held-accepted t (finish slot id number) i x z e = go (entered-from (t .txids) (slot .0) 0 i x e)
-  where
-    go : (0 ≡ x) ⊎ (txidAt t i ≡ x) → (txidAt t i ≡ x) ⊎ (listed x (number .0 ∷ []) ≡ true)
-    go (inl p) = absurd (z (sym p))
-    go (inr p) = inl p
-
-held-after :
-    (n : ℕ) (t : Table) (c : Call) (i x : ℕ) → x ≢ 0 → txidAt (after n t c) i ≡ x →
-    (txidAt t i ≡ x) ⊎ (listed x (reservesBy (refusal n t c) c) ≡ true)
-unfolding after afterRefused
-held-after n t c i x z e = go (refusal n t c) refl e
-  where
-    other : (r : Refusal) → Refused n t c r → txidAt (afterRefused t r) i ≡ x → txidAt t i ≡ x
-    other r (stays p q) h = rw p at h
-    other r (spends number p q k f) h = rw q at h
-
-    go : (v : Verdict) → refusal n t c ≡ v → txidAt (afterBy v t c) i ≡ x →
-        (txidAt t i ≡ x) ⊎ (listed x (reservesBy v c) ≡ true)
-    go pass p h = held-accepted t c i x z h
-    go (refuse r) p h = inl (other r (refused n t c r p) h)
-
-held-run :
-    (n : ℕ) (t : Table) (cs : List Call) (i x : ℕ) → x ≢ 0 → txidAt (run n t cs) i ≡ x →
-    (txidAt t i ≡ x) ⊎ (listed x (reservationsFrom n t cs) ≡ true)
-unfolding run reservationsFrom
-held-run n t [] i x z e = inl e
-held-run n t (c ∷ cs) i x z e = go (held-run n (after n t c) cs i x z e)
-  where
-    joined : listed x (reservesBy (refusal n t c) c) || listed x (reservationsFrom n (after n t c) cs) ≡ true →
-        listed x (reservesBy (refusal n t c) c ++ reservationsFrom n (after n t c) cs) ≡ true
-    joined p = listed-append x (reservesBy (refusal n t c) c) (reservationsFrom n (after n t c) cs) ∙ p
-
-    first : (txidAt t i ≡ x) ⊎ (listed x (reservesBy (refusal n t c) c) ≡ true) →
-        (txidAt t i ≡ x) ⊎ (listed x (reservesBy (refusal n t c) c ++ reservationsFrom n (after n t c) cs) ≡ true)
-    first (inl p) = inl p
-    first (inr p) = inr (joined (true-or-left (listed x (reservesBy (refusal n t c) c)) _ p))
-
-    go : (txidAt (after n t c) i ≡ x) ⊎ (listed x (reservationsFrom n (after n t c) cs) ≡ true) →
-        (txidAt t i ≡ x) ⊎ (listed x (reservesBy (refusal n t c) c ++ reservationsFrom n (after n t c) cs) ≡ true)
-    go (inl p) = first (held-after n t c i x z p)
-    go (inr p) = inr (joined (true-or-right (listed x (reservesBy (refusal n t c) c)) _ p))
+-- what an accepted begin of the history reserved is among its reservations
+begin-listed :
+    (n : ℕ) (before later : List Call) (number : Stamp) → Accepts n (reached n before) (begin number) →
+    listed (number .0) (reservations n (before ++ begin number ∷ later)) ≡ true
+unfolding reservationsFrom
+begin-listed n before later number a =
+    rw (
+      reservations-append n (freshTable n) before (begin number ∷ later),
+      a,
+      listed-append (number .0) (reservations n before) _,
+    )
+    (true-or-right (listed (number .0) (reservations n before)) _ (listed-head (number .0) _))
 
 -- every taken txid is among the reservations
 pub taken-reserved :
     (n : ℕ) (cs : List Call) (i : ℕ) → txidAt (reached n cs) i ≢ 0 →
     listed (txidAt (reached n cs) i) (reservations n cs) ≡ true
-unfolding freshTable
-taken-reserved n cs i h = go (held-run n (freshTable n) cs i (txidAt (reached n cs) i) h refl)
+taken-reserved n cs i h = go (registered-in-words n cs slot id .0 (record { named = h; holds = refl }))
   where
-    go : (txidAt (freshTable n) i ≡ txidAt (reached n cs) i) ⊎ (listed (txidAt (reached n cs) i) (reservations n cs) ≡ true) →
-        listed (txidAt (reached n cs) i) (reservations n cs) ≡ true
-    go (inl p) = absurd (h (sym p ∙ zeros-hold n i))
-    go (inr p) = p
+    slot : SlotNo
+    slot = record { 0 = i }
+
+    id : Txid
+    id = record { 0 = txidAt (reached n cs) i }
+
+    go : IsRegistered n (freshTable n) slot id cs → listed (txidAt (reached n cs) i) (reservations n cs) ≡ true
+    go w =
+        let same = sym (begin-answers n (reached n (w .before)) (w .number) (w .accepted) .1) ∙ w .answers-id in
+        ap (λ (l : List Call). listed (txidAt (reached n cs) i) (reservations n l)) (w .written)
+        ∙ ap (λ (x : ℕ). listed x (reservations n (w .before ++ begin (w .number) ∷ w .later))) (sym same)
+        ∙ begin-listed n (w .before) (w .later) (w .number) (w .accepted)
 
 pub reached-well-formed : (n : ℕ) (cs : List Call) → WellFormedHistory (reached n cs) (reservations n cs)
 reached-well-formed n cs =
