@@ -13,7 +13,8 @@ use Rattle.rules.specs.Tables.{freshTable, txidAt}
 use Rattle.rules.specs.Tests.{Verdict, pass, refuse}
 use Rattle.rules.specs.Calls.{Call, begin, end, snap, own, oldest, vacuum, stamp, finish, refusal, afterAccepted, afterRefused, afterBy, after}
 use Rattle.rules.specs.Facts.{Good}
-use Rattle.rules.specs.History.{run, reached, isBegin, isEnd, isFinish, counts, acceptedFrom, begins, ends, finishes, takenSlots}
+use Rattle.rules.specs.History.{run, reached}
+use Rattle.rules.specs.Counts.{isBegin, isEnd, isFinish, counts, acceptedFrom, begins, ends, finishes, takenSlots}
 use Rattle.rules.proofs.Tallies.{taken-empty, taken-one, active-set, active-zeros, lowest-empty}
 use Rattle.rules.proofs.Tests.{Owns, Reserves, Passed, accepted-passed, Refused, stays, spends, refused}
 use Rattle.rules.proofs.Moves.{good-fresh}

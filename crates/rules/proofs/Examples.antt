@@ -16,7 +16,9 @@ use Rattle.rules.specs.Tables.{freshTable}
 use Rattle.rules.specs.Tests.{refuse}
 use Rattle.rules.specs.Calls.{Call, begin, end, snap, own, vacuum, stamp, finish, refusal, afterAccepted, afterRefused, after, answerAccepted, answer, shown}
 use Rattle.rules.specs.Check.{slotsPass, differ, passes, tablePasses}
-use Rattle.rules.specs.History.{run, reached, Accepts, Registered, lastFrom, lastOwn, reservationsFrom, reservations, acceptedFrom, begins, ends, finishes, takenSlots}
+use Rattle.rules.specs.History.{run, reached, Accepts, Registered, lastFrom, lastOwn}
+use Rattle.rules.specs.Reservations.{reservationsFrom, reservations}
+use Rattle.rules.specs.Counts.{acceptedFrom, begins, ends, finishes, takenSlots}
 use Rattle.rules.specs.Promise.{SettledBelow, lineAfter, Covered, of-transaction, vacuumAnswer}
 use Rattle.rules.proofs.Promise.{covered-settled, own-covered}
 

@@ -16,7 +16,8 @@ use Rattle.rules.specs.declared.Table.{Table}
 use Rattle.rules.specs.Tables.{freshTable}
 use Rattle.rules.specs.Tests.{Verdict, pass, refuse}
 use Rattle.rules.specs.Calls.{Call, begin, end, snap, own, oldest, vacuum, stamp, finish, refusal, afterAccepted, afterRefused, afterBy, after}
-use Rattle.rules.specs.History.{run, reached, Accepts, reservesAccepted, reservesRefused, reservesBy, reservationsFrom, reservations}
+use Rattle.rules.specs.History.{run, reached, Accepts}
+use Rattle.rules.specs.Reservations.{reservesAccepted, reservesRefused, reservesBy, reservationsFrom, reservations}
 use Rattle.rules.proofs.Tallies.{listed-none, listed-cases, listed-head}
 use Rattle.rules.proofs.Tests.{Passed, accepted-passed, Refused, stays, spends, refused}
 

@@ -20,7 +20,8 @@ use Rattle.rules.specs.Tally.{lowestEmpty}
 use Rattle.rules.specs.Tables.{txidAt}
 use Rattle.rules.specs.Tests.{Verdict, pass, refuse, then, slotTest, zeroTest, holderTest, ownerTest, reservationTest, fullTest, observationTest}
 use Rattle.rules.specs.Calls.{Call, begin, end, snap, own, oldest, vacuum, stamp, finish, refusal, afterRefused}
-use Rattle.rules.specs.History.{Accepts, reservesRefused}
+use Rattle.rules.specs.History.{Accepts}
+use Rattle.rules.specs.Reservations.{reservesRefused}
 use Rattle.rules.proofs.Bools.{or-false}
 
 -- a registration that holds its slot

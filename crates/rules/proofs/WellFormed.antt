@@ -15,7 +15,8 @@ use Rattle.rules.specs.Tables.{freshTable, txidAt}
 use Rattle.rules.specs.Calls.{Call, begin}
 use Rattle.rules.specs.Check.{tablePasses}
 use Rattle.rules.specs.Facts.{SlotGood, empty, taken, Good, WellFormedTable, WellFormedHistory}
-use Rattle.rules.specs.History.{reached, Accepts, IsRegistered, reservationsFrom, reservations}
+use Rattle.rules.specs.History.{reached, Accepts, IsRegistered}
+use Rattle.rules.specs.Reservations.{reservationsFrom, reservations}
 use Rattle.rules.proofs.Bools.{true-or-right}
 use Rattle.rules.proofs.Tallies.{listed-head}
 use Rattle.rules.proofs.Moves.{is-taken}

@@ -1,24 +1,21 @@
 -- Histories: lists of the eight calls with any arguments, refused ones included, and what is read off them.
-use Prim.Native.Nat.{ℕ, _+_}
+use Prim.Native.Nat.{ℕ}
 use mathlib.Core.Path.{_≡_}
 use mathlib.Core.Logic.{_≢_}
 use mathlib.Core.List.{List, [], _∷_, _++_}
 use mathlib.Core.Option.{Option, none, some}
-use mathlib.Core.Bool.{Bool, true, false, _&&_}
+use mathlib.Core.Bool.{_&&_}
 use lib.Dec.{eqb}
-use lib.ListN.{length}
 use Rattle.kinds.specs.declared.Stamp.{Stamp}
 use Rattle.kinds.specs.declared.SlotNo.{SlotNo}
 use Rattle.kinds.specs.declared.Txid.{Txid}
-use Rattle.kinds.specs.declared.refusal.Refusal.{Refusal}
-use Rattle.kinds.specs.declared.refusal.Refusal.the-variants.{NoFreeSlot, InvalidSlot, SlotOwnershipMismatch, ZeroTxid, ClockExhausted, BadReservation, BadClock, BadSample, BadTrace, BadSnapshot}
 use Rattle.kinds.specs.Pick.{pick}
 use Rattle.settled.specs.declared.Snapshot.{Snapshot}
 use Rattle.rules.specs.declared.Table.{Table}
-use Rattle.rules.specs.Tally.{active, lowestEmpty}
+use Rattle.rules.specs.Tally.{lowestEmpty}
 use Rattle.rules.specs.Tables.{freshTable, txidAt}
 use Rattle.rules.specs.Tests.{Verdict, pass, refuse}
-use Rattle.rules.specs.Calls.{Call, begin, end, snap, own, oldest, vacuum, stamp, finish, Answer, refusal, after, answer, shown}
+use Rattle.rules.specs.Calls.{Call, begin, end, snap, own, oldest, vacuum, stamp, finish, refusal, after, answer, shown}
 
 -- the table after the calls, one after the other
 unfoldable pub run : ℕ → Table → List Call → Table
@@ -108,92 +105,3 @@ pub record IsLast (n : ℕ) (t : Table) (slot : SlotNo) (id : Txid) (cs : List C
   pub accepted : Accepts n (run n t before) (own slot id clock sample)
   pub shows : s ≡ shown n (run n t before) (own slot id clock sample) sample
   pub quiet : Quiet n (after n (run n t before) (own slot id clock sample)) slot id later
-
--- the numbers reserved: by an accepted begin, stamp or finish ..
-abbrev pub reservesAccepted : Call → List ℕ
-reservesAccepted (begin number) = number .0 ∷ []
-reservesAccepted (end slot id) = []
-reservesAccepted (snap clock sample) = []
-reservesAccepted (own slot id clock sample) = []
-reservesAccepted (oldest clock sample) = []
-reservesAccepted (vacuum clock sample) = []
-reservesAccepted (stamp number) = number .0 ∷ []
-reservesAccepted (finish slot id number) = number .0 ∷ []
-
--- .. and by refusal 1, which consumes the txid that it carries
-abbrev pub reservesRefused : Refusal → List ℕ
-reservesRefused (NoFreeSlot txid) = txid .0 ∷ []
-reservesRefused (InvalidSlot slot) = []
-reservesRefused (SlotOwnershipMismatch slot expected observed) = []
-reservesRefused ZeroTxid = []
-reservesRefused ClockExhausted = []
-reservesRefused BadReservation = []
-reservesRefused BadClock = []
-reservesRefused BadSample = []
-reservesRefused (BadTrace line) = []
-reservesRefused BadSnapshot = []
-
-abbrev pub reservesBy : Verdict → Call → List ℕ
-reservesBy pass c = reservesAccepted c
-reservesBy (refuse r) c = reservesRefused r
-
-unfoldable pub reservationsFrom : ℕ → Table → List Call → List ℕ
-reservationsFrom n t [] = []
-reservationsFrom n t (c ∷ cs) = reservesBy (refusal n t c) c ++ reservationsFrom n (after n t c) cs
-
--- in the order reserved
-abbrev pub reservations : ℕ → List Call → List ℕ
-reservations n cs = reservationsFrom n (freshTable n) cs
-
-abbrev pub isBegin : Call → Bool
-isBegin (begin number) = true
-isBegin (end slot id) = false
-isBegin (snap clock sample) = false
-isBegin (own slot id clock sample) = false
-isBegin (oldest clock sample) = false
-isBegin (vacuum clock sample) = false
-isBegin (stamp number) = false
-isBegin (finish slot id number) = false
-
-abbrev pub isEnd : Call → Bool
-isEnd (begin number) = false
-isEnd (end slot id) = true
-isEnd (snap clock sample) = false
-isEnd (own slot id clock sample) = false
-isEnd (oldest clock sample) = false
-isEnd (vacuum clock sample) = false
-isEnd (stamp number) = false
-isEnd (finish slot id number) = false
-
-abbrev pub isFinish : Call → Bool
-isFinish (begin number) = false
-isFinish (end slot id) = false
-isFinish (snap clock sample) = false
-isFinish (own slot id clock sample) = false
-isFinish (oldest clock sample) = false
-isFinish (vacuum clock sample) = false
-isFinish (stamp number) = false
-isFinish (finish slot id number) = true
-
--- 1 for an accepted call of the kind, 0 for any other
-abbrev pub counts : Verdict → Bool → ℕ
-counts pass kind = pick kind 1 0
-counts (refuse r) kind = 0
-
--- how many calls of the kind were accepted
-unfoldable pub acceptedFrom : (Call → Bool) → ℕ → Table → List Call → ℕ
-acceptedFrom kind n t [] = 0
-acceptedFrom kind n t (c ∷ cs) = counts (refusal n t c) (kind c) + acceptedFrom kind n (after n t c) cs
-
-abbrev pub begins : ℕ → List Call → ℕ
-begins n cs = acceptedFrom isBegin n (freshTable n) cs
-
-abbrev pub ends : ℕ → List Call → ℕ
-ends n cs = acceptedFrom isEnd n (freshTable n) cs
-
-abbrev pub finishes : ℕ → List Call → ℕ
-finishes n cs = acceptedFrom isFinish n (freshTable n) cs
-
--- the number of taken slots
-abbrev pub takenSlots : Table → ℕ
-takenSlots t = length (active (t .txids))

@@ -6,4 +6,6 @@ pub mod Check
 pub mod Rows
 pub mod Facts
 pub mod History
+pub mod Reservations
+pub mod Counts
 pub mod Promise
