@@ -3,7 +3,7 @@ use Prim.Native.Nat.{ℕ, zero, suc, _+_, _≤_, _<_}
 use mathlib.Core.Path.{_≡_, refl, sym, _∙_, ap}
 use mathlib.Core.Logic.{_⊎_, inl, inr}
 use mathlib.Core.Bool.{true}
-use mathlib.Core.List.{List, [], _∷_, _++_, append-assoc}
+use mathlib.Core.List.{List, [], _∷_, _++_, append-assoc, append-nil, cons≢nil}
 use native.Mathlib.Nat.{le-refl, le-trans, not-suc-le-zero, le-of-suc-le-suc}
 use native.Mathlib.Omega.{arith}
 use lib.ListN.{length, getD}
@@ -123,6 +123,28 @@ reservations-append n t [] later = refl
 reservations-append n t (c ∷ before) later =
     ap (λ (l : List ℕ). reservesBy (refusal n t c) c ++ l) (reservations-append n (after n t c) before later)
     ∙ sym (append-assoc (reservesBy (refusal n t c) c) _ _)
+
+-- one more call adds what it reserves at the end, and nothing else moves
+pub reservations-snoc :
+    (n : ℕ) (cs : List Call) (c : Call) →
+    reservations n (cs ++ c ∷ []) ≡ reservations n cs ++ reservesBy (refusal n (reached n cs) c) c
+unfolding reservationsFrom
+reservations-snoc n cs c =
+    reservations-append n (freshTable n) cs (c ∷ [])
+    ∙ ap (λ (l : List ℕ). reservations n cs ++ l) (append-nil (reservesBy (refusal n (reached n cs) c) c))
+
+-- end, snap, own, oldest and vacuum reserve nothing, accepted or refused
+pub reserves-nothing :
+    (n : ℕ) (t : Table) (c : Call) → reservesAccepted c ≡ [] → reservesBy (refusal n t c) c ≡ []
+reserves-nothing n t c e = go (refusal n t c) refl
+  where
+    other : (r : Refusal) → Refused n t c r → reservesRefused r ≡ []
+    other r (stays p q) = q
+    other r (spends number p q h f) = absurd (cons≢nil (rw p at e))
+
+    go : (v : Verdict) → refusal n t c ≡ v → reservesBy v c ≡ []
+    go pass p = e
+    go (refuse r) p = other r (refused n t c r p)
 
 -- what a call reserves is above every number reserved before it, those of refusal 1 included
 pub reserves-above :
