@@ -6,17 +6,17 @@ use native.Mathlib.Omega.{arith}
 use lib.ListN.{length, set}
 use Rattle.kinds.specs.declared.SlotNo.{SlotNo}
 use Rattle.kinds.specs.declared.Txid.{Txid}
-use Rattle.kinds.specs.declared.refusal.Refusal.{Refusal}
 use Rattle.rules.specs.declared.Table.{Table}
 use Rattle.rules.specs.Tally.{active, lowestEmpty}
 use Rattle.rules.specs.Tables.{freshTable, txidAt}
-use Rattle.rules.specs.Tests.{Verdict, pass, refuse}
-use Rattle.rules.specs.Calls.{Call, begin, end, snap, own, oldest, vacuum, stamp, finish, refusal, afterAccepted, afterRefused, afterBy, after}
+use Rattle.rules.specs.Tests.{pass}
+use Rattle.rules.specs.Calls.{Call, begin, end, snap, own, oldest, vacuum, stamp, finish, refusal, afterAccepted, after}
 use Rattle.rules.specs.Facts.{Good}
 use Rattle.rules.specs.History.{run, reached}
 use Rattle.rules.specs.Counts.{isBegin, isEnd, isFinish, counts, acceptedFrom, begins, ends, finishes, takenSlots}
 use Rattle.rules.proofs.Tallies.{taken-empty, taken-one, active-set, active-zeros, lowest-empty}
-use Rattle.rules.proofs.Tests.{Owns, Reserves, Passed, accepted-passed, Refused, stays, spends, refused}
+use Rattle.rules.proofs.Tests.{Owns, Reserves, Passed, accepted-passed}
+use Rattle.rules.proofs.Refused.{refused-txids, by-verdict}
 use Rattle.rules.proofs.Moves.{good-fresh}
 use Rattle.rules.proofs.Steps.{good-after}
 
@@ -58,17 +58,11 @@ count-after :
     (n : ℕ) (t : Table) (c : Call) → Good n t →
     takenSlots (after n t c) + (counts (refusal n t c) (isEnd c) + counts (refusal n t c) (isFinish c))
     ≡ takenSlots t + counts (refusal n t c) (isBegin c)
-unfolding after afterRefused
-count-after n t c g = go (refusal n t c) refl
-  where
-    other : (r : Refusal) → Refused n t c r → takenSlots (afterRefused t r) ≡ takenSlots t
-    other r (stays p q) = rw p
-    other r (spends number p q h f) = rw q
-
-    go : (v : Verdict) → refusal n t c ≡ v →
-        takenSlots (afterBy v t c) + (counts v (isEnd c) + counts v (isFinish c)) ≡ takenSlots t + counts v (isBegin c)
-    go pass e = count-accepted n t c g (accepted-passed n t c e)
-    go (refuse r) e = omega (arith, other r (refused n t c r e))
+count-after n t c g =
+    by-verdict n t c
+    (λ v u. takenSlots u + (counts v (isEnd c) + counts v (isFinish c)) ≡ takenSlots t + counts v (isBegin c))
+    (λ e. count-accepted n t c g (accepted-passed n t c e))
+    (λ r f. omega (arith, ap (λ (l : List ℕ). length (active l)) (refused-txids n t c r f)))
 
 count-run :
     (n : ℕ) (t : Table) (cs : List Call) → Good n t →

@@ -3,6 +3,7 @@ use Prim.Native.Nat.{ℕ}
 use mathlib.Core.Path.{_≡_, refl, sym, _∙_, ap}
 use mathlib.Core.Logic.{_≢_}
 use mathlib.Core.Bool.{Bool, true, false, _&&_, true≢false}
+use mathlib.Core.List.{List}
 use lib.Dec.{eqb}
 use lib.ListN.{getD, set}
 use lib.Seq.{getD-set-other}
@@ -10,16 +11,16 @@ use borrow.Author.Tests.{eqb-true, eqb-false, eq-eqb}
 use Rattle.kinds.specs.declared.Stamp.{Stamp}
 use Rattle.kinds.specs.declared.SlotNo.{SlotNo}
 use Rattle.kinds.specs.declared.Txid.{Txid}
-use Rattle.kinds.specs.declared.refusal.Refusal.{Refusal}
 use Rattle.rules.specs.declared.Table.{Table}
 use Rattle.rules.specs.Tally.{lowestEmpty}
 use Rattle.rules.specs.Tables.{txidAt}
-use Rattle.rules.specs.Tests.{Verdict, pass, refuse}
-use Rattle.rules.specs.Calls.{Call, begin, end, snap, own, oldest, vacuum, stamp, finish, refusal, afterAccepted, afterRefused, afterBy, after}
+use Rattle.rules.specs.Tests.{Verdict, pass}
+use Rattle.rules.specs.Calls.{Call, begin, end, snap, own, oldest, vacuum, stamp, finish, refusal, afterAccepted, after}
 use Rattle.rules.specs.History.{Registered}
 use Rattle.rules.proofs.Places.{Stored, new-here, as-before, stored, inside-of-ne}
 use Rattle.rules.proofs.Tallies.{lowest-empty}
-use Rattle.rules.proofs.Tests.{Owns, Passed, accepted-passed, refuse-not-pass, Refused, stays, spends, refused}
+use Rattle.rules.proofs.Tests.{Owns, Passed, accepted-passed, refuse-not-pass}
+use Rattle.rules.proofs.Refused.{refused-txids, by-verdict}
 
 -- the call is an end or a finish of (slot, id)
 abbrev pub is-end-of : SlotNo → Txid → Call → Bool
@@ -78,16 +79,11 @@ was-accepted t slot id (finish slot′ id′ number) r =
     not-emptied t slot slot′ id id′ (finish slot′ id′ number) (r .named) refl (r .holds)
 
 pub was : (n : ℕ) (t : Table) (slot : SlotNo) (id : Txid) (c : Call) → Registered (after n t c) slot id → Was t slot id c (refusal n t c)
-unfolding after afterRefused
-was n t slot id c r = go (refusal n t c) refl r
-  where
-    other : (x : Refusal) → Refused n t c x → Registered (afterRefused t x) slot id → Registered t slot id
-    other x (stays p q) h = rw p at h
-    other x (spends number p q k f) h = record { named = h .named; holds = rw q at (h .holds) }
-
-    go : (v : Verdict) → refusal n t c ≡ v → Registered (afterBy v t c) slot id → Was t slot id c v
-    go pass e h = was-accepted t slot id c h
-    go (refuse x) e h = before-it (other x (refused n t c x e) h) (λ p. absurd (refuse-not-pass x p))
+was n t slot id c =
+    by-verdict n t c (λ v u. Registered u slot id → Was t slot id c v) (λ e. was-accepted t slot id c)
+    (λ r f h. before-it
+    (record { named = h .named; holds = sym (ap (λ (l : List ℕ). getD l (slot .0) 0) (refused-txids n t c r f)) ∙ h .holds })
+    (λ p. absurd (refuse-not-pass r p)))
 
 -- who is registered before a call that does not end it is so after it
 unmoved-slot :
@@ -120,13 +116,11 @@ stays-accepted n t slot id (finish slot′ id′ number) r (o, v) e = unmoved-sl
 pub stays-after :
     (n : ℕ) (t : Table) (slot : SlotNo) (id : Txid) (c : Call) → Registered t slot id →
     (refusal n t c ≡ pass → is-end-of slot id c ≡ false) → Registered (after n t c) slot id
-unfolding after afterRefused
-stays-after n t slot id c r f = record { named = r .named; holds = go (refusal n t c) refl }
-  where
-    other : (x : Refusal) → Refused n t c x → txidAt (afterRefused t x) (slot .0) ≡ id .0
-    other x (stays p q) = rw p (r .holds)
-    other x (spends number p q k h) = rw q (r .holds)
-
-    go : (v : Verdict) → refusal n t c ≡ v → txidAt (afterBy v t c) (slot .0) ≡ id .0
-    go pass e = stays-accepted n t slot id c r (accepted-passed n t c e) (f e)
-    go (refuse x) e = other x (refused n t c x e)
+stays-after n t slot id c r f =
+    record {
+      named = r .named;
+      holds =
+          by-verdict n t c (λ v u. (v ≡ pass → is-end-of slot id c ≡ false) → txidAt u (slot .0) ≡ id .0)
+          (λ e h. stays-accepted n t slot id c r (accepted-passed n t c e) (h refl))
+          (λ x g h. ap (λ (l : List ℕ). getD l (slot .0) 0) (refused-txids n t c x g) ∙ r .holds) f;
+    }

@@ -55,7 +55,7 @@ quiet-kept n slot id t (c ∷ cs) last k =
     here : Registered t slot id
     here = k .alive [] (c ∷ cs) refl
 
-    one : Noted n t slot id c last (refusal n t c) → notedBy (refusal n t c) n slot id t c last ≡ last
+    one : Noted n t slot id c last (refusal n t c) (after n t c) → notedBy (refusal n t c) n slot id t c last ≡ last
     one (now-taken clock sample p v e) =
         absurd (k .no-other [] cs clock sample (ap (λ (d : Call). d ∷ cs) p) (rw (← p) v))
     one (now-forgotten p e) = absurd (here .named (sym (here .holds) ∙ p))
@@ -150,7 +150,7 @@ found n slot id t (c ∷ cs) last s e r =
     go (found n slot id (after n t c) cs (notedBy (refusal n t c) n slot id t c last) s e r)
   where
     one : notedBy (refusal n t c) n slot id t c last ≡ some s → Quiet n (after n t c) slot id cs →
-        Noted n t slot id c last (refusal n t c) → Found n slot id t (c ∷ cs) last s
+        Noted n t slot id c last (refusal n t c) (after n t c) → Found n slot id t (c ∷ cs) last s
     one p k (now-taken clock sample q v w) =
         on-the-way (first n slot id t c cs clock sample s q v (Option·some-injective s _ (sym p ∙ w)) k)
     one p k (now-forgotten q w) = absurd (Option·none-ne-some s (sym w ∙ p))

@@ -2,6 +2,7 @@ pub mod Bools
 pub mod Places
 pub mod Tallies
 pub mod Tests
+pub mod Refused
 pub mod Moves
 pub mod Steps
 pub mod Rising

@@ -14,12 +14,12 @@ use Rattle.kinds.specs.declared.refusal.Refusal.{Refusal}
 use Rattle.settled.specs.Settled.{listed}
 use Rattle.rules.specs.declared.Table.{Table}
 use Rattle.rules.specs.Tables.{freshTable}
-use Rattle.rules.specs.Tests.{Verdict, pass, refuse}
-use Rattle.rules.specs.Calls.{Call, begin, end, snap, own, oldest, vacuum, stamp, finish, refusal, afterAccepted, afterRefused, afterBy, after}
+use Rattle.rules.specs.Calls.{Call, begin, end, snap, own, oldest, vacuum, stamp, finish, refusal, afterAccepted, afterRefused, after}
 use Rattle.rules.specs.History.{run, reached, Accepts}
 use Rattle.rules.specs.Reservations.{reservesAccepted, reservesRefused, reservesBy, reservationsFrom, reservations}
 use Rattle.rules.proofs.Tallies.{listed-none, listed-cases, listed-head}
-use Rattle.rules.proofs.Tests.{Passed, accepted-passed, Refused, stays, spends, refused}
+use Rattle.rules.proofs.Tests.{Passed, accepted-passed}
+use Rattle.rules.proofs.Refused.{Refused, stays, spends, by-verdict}
 
 -- what one call reserves: nothing, or one number from the clock on, which the clock then passes by one
 pub data Step (clock : ℕ) (ids : List ℕ) (clock′ : ℕ) : Type 0 where
@@ -38,16 +38,14 @@ step-accepted n t (stamp number) r = one (number .0) refl (r .positive) (r .from
 step-accepted n t (finish slot id number) (o, r) = one (number .0) refl (r .positive) (r .from-clock) refl
 
 pub reserve-step : (n : ℕ) (t : Table) (c : Call) → Step (t .clock) (reservesBy (refusal n t c) c) (after n t c .clock)
-unfolding after afterRefused
-reserve-step n t c = go (refusal n t c) refl
+unfolding afterRefused
+reserve-step n t c =
+    by-verdict n t c (λ v u. Step (t .clock) (reservesBy v c) (u .clock))
+    (λ e. step-accepted n t c (accepted-passed n t c e)) other
   where
     other : (r : Refusal) → Refused n t c r → Step (t .clock) (reservesRefused r) (afterRefused t r .clock)
     other r (stays p q) = nothing q (rw p (le-refl _))
     other r (spends number p q h f) = rw q (one (number .0) refl (h .positive) (h .from-clock) refl)
-
-    go : (v : Verdict) → refusal n t c ≡ v → Step (t .clock) (reservesBy v c) (afterBy v t c .clock)
-    go pass e = step-accepted n t c (accepted-passed n t c e)
-    go (refuse r) e = other r (refused n t c r e)
 
 -- numbers in order, each from 1 and from low on, all below high
 abbrev pub InOrder : ℕ → List ℕ → ℕ → Type 0
@@ -136,15 +134,11 @@ reservations-snoc n cs c =
 -- end, snap, own, oldest and vacuum reserve nothing, accepted or refused
 pub reserves-nothing :
     (n : ℕ) (t : Table) (c : Call) → reservesAccepted c ≡ [] → reservesBy (refusal n t c) c ≡ []
-reserves-nothing n t c e = go (refusal n t c) refl
+reserves-nothing n t c e = by-verdict n t c (λ v u. reservesBy v c ≡ []) (λ a. e) other
   where
     other : (r : Refusal) → Refused n t c r → reservesRefused r ≡ []
     other r (stays p q) = q
     other r (spends number p q h f) = absurd (cons≢nil (rw p at e))
-
-    go : (v : Verdict) → refusal n t c ≡ v → reservesBy v c ≡ []
-    go pass p = e
-    go (refuse r) p = other r (refused n t c r p)
 
 -- what a call reserves is above every number reserved before it, those of refusal 1 included
 pub reserves-above :

@@ -19,13 +19,14 @@ use Rattle.settled.specs.declared.Snapshot.{Snapshot}
 use Rattle.rules.specs.declared.Table.{Table}
 use Rattle.rules.specs.Tally.{active, lowestEmpty, snapshotOf}
 use Rattle.rules.specs.Tables.{freshTable, txidAt, xminAt, withSlot}
-use Rattle.rules.specs.Tests.{Verdict, pass, refuse}
-use Rattle.rules.specs.Calls.{Call, begin, end, snap, own, oldest, vacuum, stamp, finish, refusal, afterAccepted, afterRefused, afterBy, after, shownBy, shown}
+use Rattle.rules.specs.Tests.{Verdict}
+use Rattle.rules.specs.Calls.{Call, begin, end, snap, own, oldest, vacuum, stamp, finish, refusal, afterAccepted, afterRefused, after, shownBy, shown}
 use Rattle.rules.specs.Facts.{Good}
 use Rattle.rules.specs.History.{run, reached, Accepts, notedAccepted, notedBy, lastFrom, lastOwn}
 use Rattle.rules.proofs.Places.{StoredBoth, both-new, both-before, stored-both}
 use Rattle.rules.proofs.Tallies.{minimum-member, taken-active, active-length}
-use Rattle.rules.proofs.Tests.{Owns, Passed, accepted-passed, Refused, stays, spends, refused}
+use Rattle.rules.proofs.Tests.{Owns, Passed, accepted-passed}
+use Rattle.rules.proofs.Refused.{Refused, stays, spends, by-verdict}
 use Rattle.rules.proofs.Moves.{is-taken, good-fresh}
 use Rattle.rules.proofs.Steps.{oldest-taken, good-after}
 use Rattle.rules.proofs.BelowTop.{BelowTop, below-fresh, below-after}
@@ -175,17 +176,14 @@ keeps-accepted n t slot id (finish slot′ id′ number) last g b e p k =
 keeps-after :
     (n : ℕ) (t : Table) (slot : SlotNo) (id : Txid) (c : Call) (last : Option Snapshot) → Good n t → BelowTop t →
     KeepsLast n t slot id last → KeepsLast n (after n t c) slot id (notedBy (refusal n t c) n slot id t c last)
-unfolding after afterRefused
-keeps-after n t slot id c last g b k = go (refusal n t c) refl
+unfolding afterRefused
+keeps-after n t slot id c last g b k =
+    by-verdict n t c (λ v u. KeepsLast n u slot id (notedBy v n slot id t c last))
+    (λ e. keeps-accepted n t slot id c last g b e (accepted-passed n t c e) k) other
   where
     other : (r : Refusal) → Refused n t c r → KeepsLast n (afterRefused t r) slot id last
     other r (stays p q) = rw p k
-    other r (spends number p q h f) =
-        rw q (carry n t _ slot id last (slot-unmoved n t _ slot id refl refl refl) k)
-
-    go : (v : Verdict) → refusal n t c ≡ v → KeepsLast n (afterBy v t c) slot id (notedBy v n slot id t c last)
-    go pass e = keeps-accepted n t slot id c last g b e (accepted-passed n t c e) k
-    go (refuse r) e = other r (refused n t c r e)
+    other r (spends number p q h f) = rw q (carry n t _ slot id last (slot-unmoved n t _ slot id refl refl refl) k)
 
 keeps-run :
     (n : ℕ) (t : Table) (slot : SlotNo) (id : Txid) (cs : List Call) (last : Option Snapshot) → Good n t → BelowTop t →

@@ -10,28 +10,25 @@ use Rattle.kinds.specs.declared.refusal.Refusal.{Refusal}
 use Rattle.rules.specs.declared.Table.{Table}
 use Rattle.rules.specs.Tally.{active, retained, xminOf, oldestOf}
 use Rattle.rules.specs.Tables.{freshTable, txidAt, xminAt, withClock, observed}
-use Rattle.rules.specs.Tests.{Verdict, pass, refuse}
-use Rattle.rules.specs.Calls.{Call, begin, end, snap, own, oldest, vacuum, stamp, finish, refusal, afterAccepted, afterRefused, afterBy, after}
+use Rattle.rules.specs.Tests.{Verdict}
+use Rattle.rules.specs.Calls.{Call, begin, end, snap, own, oldest, vacuum, stamp, finish, afterAccepted, afterRefused, afterBy, after}
 use Rattle.rules.specs.Facts.{empty, taken, Good}
 use Rattle.rules.specs.History.{run, reached, Accepts}
 use Rattle.rules.proofs.Tallies.{minimum-start, minimum-member, minimum-bound, taken-active, active-taken, taken-retained}
-use Rattle.rules.proofs.Tests.{Owns, Passed, accepted-passed, Refused, stays, spends, refused}
+use Rattle.rules.proofs.Tests.{Owns, Passed, accepted-passed}
+use Rattle.rules.proofs.Refused.{Refused, stays, spends, by-verdict}
 use Rattle.rules.proofs.Moves.{is-taken, good-clock, good-observed, good-slot, good-xmin, good-line, new-number, good-fresh}
 
 -- a fact of the table after a call: of the accepted call's table, of the table as it was, and of a table whose clock alone rose
 pub after-cases :
     (n : ℕ) (t : Table) (c : Call) (P : Table → Type 0) → (Accepts n t c → P (afterAccepted t c)) → P t →
     ((clock : ℕ) → t .clock < clock → P (withClock clock t)) → P (after n t c)
-unfolding after afterRefused
-after-cases n t c P a s w = go (refusal n t c) refl
+unfolding afterRefused
+after-cases n t c P a s w = by-verdict n t c (λ v u. P u) a other
   where
     other : (r : Refusal) → Refused n t c r → P (afterRefused t r)
     other r (stays p q) = rw p s
     other r (spends number p q h f) = rw q (w _ (omega arith))
-
-    go : (v : Verdict) → refusal n t c ≡ v → P (afterBy v t c)
-    go pass e = a e
-    go (refuse r) e = other r (refused n t c r e)
 
 pub after-accepted : (n : ℕ) (t : Table) (c : Call) → Accepts n t c → after n t c ≡ afterAccepted t c
 unfolding after

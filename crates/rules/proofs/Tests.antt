@@ -1,27 +1,23 @@
--- What a passed test tells, and what an accepted and a refused call tell.
+-- What a passed test tells, and so an accepted call.
 use Prim.Native.Nat.{ℕ, _≤_, _<_}
-use mathlib.Core.Path.{_≡_, refl, sym, ap, _∙_}
+use mathlib.Core.Path.{_≡_, refl, ap}
 use mathlib.Core.Logic.{_≢_}
-use mathlib.Core.Bool.{Bool, true, false, _||_, true≢false, false≢true}
-use mathlib.Core.List.{List, []}
+use mathlib.Core.Bool.{Bool, true, false, _||_, true≢false}
 use native.Mathlib.Omega.{arith}
 use lib.Dec.{ltb, leb, eqb}
-use lib.ListN.{getD}
-use borrow.Author.Tests.{ltb-false, leb-true, leb-false, eqb-true, eqb-false}
+use borrow.Author.Tests.{ltb-false, leb-false, eqb-true, eqb-false}
 use Rattle.kinds.specs.declared.Stamp.{Stamp}
 use Rattle.kinds.specs.declared.SlotNo.{SlotNo}
 use Rattle.kinds.specs.declared.Txid.{Txid}
 use Rattle.kinds.specs.declared.refusal.Refusal.{Refusal}
-use Rattle.kinds.specs.declared.refusal.Refusal.the-variants.{NoFreeSlot, InvalidSlot, SlotOwnershipMismatch, ZeroTxid, ClockExhausted, BadReservation, BadClock, BadSample, BadTrace, BadSnapshot}
 use Rattle.kinds.specs.Pick.{pick}
-use Rattle.kinds.specs.Kinds.{top, txidOf}
+use Rattle.kinds.specs.Kinds.{top}
 use Rattle.rules.specs.declared.Table.{Table}
 use Rattle.rules.specs.Tally.{lowestEmpty}
 use Rattle.rules.specs.Tables.{txidAt}
 use Rattle.rules.specs.Tests.{Verdict, pass, refuse, then, slotTest, zeroTest, holderTest, ownerTest, reservationTest, fullTest, observationTest}
-use Rattle.rules.specs.Calls.{Call, begin, end, snap, own, oldest, vacuum, stamp, finish, refusal, afterRefused}
+use Rattle.rules.specs.Calls.{Call, begin, end, snap, own, oldest, vacuum, stamp, finish, refusal}
 use Rattle.rules.specs.History.{Accepts}
-use Rattle.rules.specs.Reservations.{reservesRefused}
 use Rattle.rules.proofs.Bools.{or-false}
 
 -- a registration that holds its slot
@@ -124,113 +120,3 @@ accepted-passed n t (stamp number) e = reserves (t .clock) number e
 accepted-passed n t (finish slot id number) e =
     let (a, b) = then-pass (ownerTest n (t .txids) slot id) (reservationTest (t .clock) number) e in
     (owns n t slot id a, reserves (t .clock) number b)
-
--- refusal 1, and no other
-is-full : Verdict → Bool
-is-full pass = false
-is-full (refuse (NoFreeSlot txid)) = true
-is-full (refuse (InvalidSlot slot)) = false
-is-full (refuse (SlotOwnershipMismatch slot expected observed)) = false
-is-full (refuse ZeroTxid) = false
-is-full (refuse ClockExhausted) = false
-is-full (refuse BadReservation) = false
-is-full (refuse BadClock) = false
-is-full (refuse BadSample) = false
-is-full (refuse (BadTrace line)) = false
-is-full (refuse BadSnapshot) = false
-
-then-full : (v w : Verdict) → is-full v ≡ false → is-full w ≡ false → is-full (then v w) ≡ false
-then-full pass w p q = q
-then-full (refuse r) w p q = p
-
-pick-full : (b : Bool) (v w : Verdict) → is-full v ≡ false → is-full w ≡ false → is-full (pick b v w) ≡ false
-pick-full true v w p q = p
-pick-full false v w p q = q
-
-owner-full : (n : ℕ) (txids : List ℕ) (slot : SlotNo) (id : Txid) → is-full (ownerTest n txids slot id) ≡ false
-unfolding is-full
-owner-full n txids slot id =
-    then-full (slotTest n slot) _ (pick-full (leb n (slot .0)) _ _ refl refl)
-    (then-full (zeroTest id) (holderTest txids slot id) (pick-full (eqb (id .0) 0) _ _ refl refl)
-    (pick-full (eqb (getD txids (slot .0) 0) (id .0)) _ _ refl refl))
-
-reservation-full : (clock : ℕ) (number : Stamp) → is-full (reservationTest clock number) ≡ false
-unfolding is-full
-reservation-full clock number =
-    pick-full (leb top clock) _ _ refl
-    (pick-full (eqb (number .0) 0 || (ltb (number .0) clock || leb top (number .0))) _ _ refl refl)
-
-observation-full : (former clock sample : ℕ) → is-full (observationTest former clock sample) ≡ false
-unfolding is-full
-observation-full former clock sample =
-    pick-full (ltb clock former) _ _ refl (pick-full (eqb sample 0 || ltb clock sample) _ _ refl refl)
-
--- a refused call leaves the table and reserves nothing; or it is a begin on a full table, which spends its number
-pub data Refused (n : ℕ) (t : Table) (c : Call) (r : Refusal) : Type 0 where
-  stays : afterRefused t r ≡ t → reservesRefused r ≡ [] → Refused n t c r
-  spends :
-      (number : Stamp) → c ≡ begin number → r ≡ NoFreeSlot (txidOf number) → Reserves (t .clock) (number .0) →
-      n ≤ lowestEmpty (t .txids) → Refused n t c r
-
-carried : Verdict → Txid → Txid
-carried pass x = x
-carried (refuse (NoFreeSlot txid)) x = txid
-carried (refuse (InvalidSlot slot)) x = x
-carried (refuse (SlotOwnershipMismatch slot expected observed)) x = x
-carried (refuse ZeroTxid) x = x
-carried (refuse ClockExhausted) x = x
-carried (refuse BadReservation) x = x
-carried (refuse BadClock) x = x
-carried (refuse BadSample) x = x
-carried (refuse (BadTrace line)) x = x
-carried (refuse BadSnapshot) x = x
-
-full-spends :
-    (n : ℕ) (t : Table) (number : Stamp) (x : Txid) →
-    then (reservationTest (t .clock) number) (fullTest n (t .txids) number) ≡ refuse (NoFreeSlot x) →
-    Refused n t (begin number) (NoFreeSlot x)
-unfolding is-full carried
-full-spends n t number x e =
-    first (reservationTest (t .clock) number) refl (reservation-full (t .clock) number) e
-  where
-    second : reservationTest (t .clock) number ≡ pass → (b : Bool) → leb n (lowestEmpty (t .txids)) ≡ b →
-        pick b (refuse (NoFreeSlot (txidOf number))) pass ≡ refuse (NoFreeSlot x) → Refused n t (begin number) (NoFreeSlot x)
-    second p true q h =
-        spends number refl (ap NoFreeSlot (sym (ap (λ (v : Verdict). carried v x) h))) (reserves (t .clock) number p)
-        (leb-true n (lowestEmpty (t .txids)) q)
-    second p false q h = absurd (false≢true (ap is-full h))
-
-    first : (v : Verdict) → reservationTest (t .clock) number ≡ v → is-full v ≡ false →
-        then v (fullTest n (t .txids) number) ≡ refuse (NoFreeSlot x) → Refused n t (begin number) (NoFreeSlot x)
-    first pass p f h = second p (leb n (lowestEmpty (t .txids))) refl h
-    first (refuse r) p f h = absurd (false≢true (sym f ∙ ap is-full h))
-
-only-begin : (v : Verdict) (x : Txid) → is-full v ≡ false → v ≡ refuse (NoFreeSlot x) → ⊥
-unfolding is-full
-only-begin v x f e = false≢true (sym f ∙ ap is-full e)
-
-full-refused : (n : ℕ) (t : Table) (c : Call) (x : Txid) → refusal n t c ≡ refuse (NoFreeSlot x) → Refused n t c (NoFreeSlot x)
-unfolding refusal
-full-refused n t (begin number) x e = full-spends n t number x e
-full-refused n t (end slot id) x e = absurd (only-begin _ x (owner-full n (t .txids) slot id) e)
-full-refused n t (snap clock sample) x e = absurd (only-begin _ x (observation-full (t .clock) clock sample) e)
-full-refused n t (own slot id clock sample) x e =
-    absurd (only-begin _ x (then-full _ _ (owner-full n (t .txids) slot id) (observation-full (t .clock) clock sample)) e)
-full-refused n t (oldest clock sample) x e = absurd (only-begin _ x (observation-full (t .clock) clock sample) e)
-full-refused n t (vacuum clock sample) x e = absurd (only-begin _ x (observation-full (t .clock) clock sample) e)
-full-refused n t (stamp number) x e = absurd (only-begin _ x (reservation-full (t .clock) number) e)
-full-refused n t (finish slot id number) x e =
-    absurd (only-begin _ x (then-full _ _ (owner-full n (t .txids) slot id) (reservation-full (t .clock) number)) e)
-
-pub refused : (n : ℕ) (t : Table) (c : Call) (r : Refusal) → refusal n t c ≡ refuse r → Refused n t c r
-unfolding afterRefused
-refused n t c (NoFreeSlot x) e = full-refused n t c x e
-refused n t c (InvalidSlot slot) e = stays refl refl
-refused n t c (SlotOwnershipMismatch slot expected observed) e = stays refl refl
-refused n t c ZeroTxid e = stays refl refl
-refused n t c ClockExhausted e = stays refl refl
-refused n t c BadReservation e = stays refl refl
-refused n t c BadClock e = stays refl refl
-refused n t c BadSample e = stays refl refl
-refused n t c (BadTrace line) e = stays refl refl
-refused n t c BadSnapshot e = stays refl refl
