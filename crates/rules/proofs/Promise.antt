@@ -18,10 +18,11 @@ use Rattle.rules.specs.declared.Table.{Table}
 use Rattle.rules.specs.Tables.{freshTable}
 use Rattle.rules.specs.Tests.{Verdict}
 use Rattle.rules.specs.Calls.{Call, own, vacuum, afterAccepted, after, answerAccepted, answerBy, answer, shown}
-use Rattle.rules.specs.History.{run, reached, Accepts, lastFrom, lastOwn, IsLast}
+use Rattle.rules.specs.History.{run, reached, Accepts, Registered, lastFrom, lastOwn, IsLast}
 use Rattle.rules.specs.Promise.{SettledBelow, lineAfter, Covered, of-transaction, Promise, vacuumAnswer, VacuumPromise}
 use Rattle.rules.proofs.Tests.{Owns, accepted-passed}
-use Rattle.rules.proofs.Steps.{after-accepted, run-append, run-snoc}
+use Rattle.rules.proofs.Moves.{is-taken}
+use Rattle.rules.proofs.Steps.{after-accepted, good-reached, run-append, run-snoc}
 use Rattle.rules.proofs.Rising.{line-after, line-never-falls}
 use Rattle.rules.proofs.Last.{last-append, last-own, walk-words, words-walk, words-registered}
 use Rattle.rules.proofs.Retention.{last-keeps}
@@ -76,6 +77,14 @@ promise n =
       later = λ before after slot id clock sample e x h l.
           own-settled n (before ++ after) slot id clock sample e x h (le-trans l (line-never-falls n before after));
     }
+
+-- whoever is registered from then on has an id from the line on
+pub registered-from-line :
+    (n : ℕ) (before after : List Call) (slot : SlotNo) (id : Txid) → Registered (reached n (before ++ after)) slot id →
+    lineAfter n before ≤ id .0
+registered-from-line n before after slot id r =
+    let k = is-taken (good-reached n (before ++ after) .each (slot .0)) (λ z. r .named (sym (r .holds) ∙ z)) in
+    omega (arith, line-never-falls n before after, r .holds)
 
 -- the settled test itself answers yes
 pub covered-test-yes :
