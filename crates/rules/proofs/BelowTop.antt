@@ -6,9 +6,10 @@ use Rattle.kinds.specs.Kinds.{top}
 use Rattle.rules.specs.declared.Table.{Table}
 use Rattle.rules.specs.Tables.{freshTable, txidAt, withSlot}
 use Rattle.rules.specs.Calls.{Call, begin, end, snap, own, oldest, vacuum, stamp, finish, afterAccepted, after}
+use Rattle.rules.specs.Accepted.{Acceptable}
 use Rattle.rules.specs.History.{run, reached}
 use Rattle.rules.proofs.Places.{Stored, new-here, as-before, stored, zeros-hold}
-use Rattle.rules.proofs.Tests.{Passed, accepted-passed}
+use Rattle.rules.proofs.Tests.{accepted-acceptable}
 use Rattle.rules.proofs.Steps.{after-cases}
 
 abbrev pub BelowTop : Table → Type 0
@@ -21,7 +22,7 @@ below-slot t i txid xmin h b j = go (stored (t .txids) i txid j)
     go (new-here p l e) = rw e h
     go (as-before d e) = rw e (b j)
 
-below-accepted : (n : ℕ) (t : Table) (c : Call) → BelowTop t → Passed n t c → BelowTop (afterAccepted t c)
+below-accepted : (n : ℕ) (t : Table) (c : Call) → BelowTop t → Acceptable n t c → BelowTop (afterAccepted t c)
 unfolding afterAccepted
 below-accepted n t (begin number) b (r, f) = below-slot t _ (number .0) (number .0) (r .below-top) b
 below-accepted n t (end slot id) b o = below-slot t (slot .0) 0 0 (omega arith) b
@@ -34,7 +35,7 @@ below-accepted n t (finish slot id number) b o = below-slot t (slot .0) 0 0 (ome
 
 pub below-after : (n : ℕ) (t : Table) (c : Call) → BelowTop t → BelowTop (after n t c)
 below-after n t c b =
-    after-cases n t c BelowTop (λ e. below-accepted n t c b (accepted-passed n t c e)) b (λ clock h. b)
+    after-cases n t c BelowTop (λ e. below-accepted n t c b (accepted-acceptable n t c e)) b (λ clock h. b)
 
 pub below-run : (n : ℕ) (t : Table) (cs : List Call) → BelowTop t → BelowTop (run n t cs)
 unfolding run

@@ -11,11 +11,12 @@ use Rattle.rules.specs.Tally.{active, lowestEmpty}
 use Rattle.rules.specs.Tables.{freshTable, txidAt}
 use Rattle.rules.specs.Tests.{pass}
 use Rattle.rules.specs.Calls.{Call, begin, end, snap, own, oldest, vacuum, stamp, finish, refusal, afterAccepted, after}
+use Rattle.rules.specs.Accepted.{Owns, Reserves, Acceptable}
 use Rattle.rules.specs.Facts.{Good}
 use Rattle.rules.specs.History.{run, reached}
 use Rattle.rules.specs.Counts.{isBegin, isEnd, isFinish, counts, acceptedFrom, begins, ends, finishes, takenSlots}
 use Rattle.rules.proofs.Tallies.{taken-empty, taken-one, active-set, active-zeros, lowest-empty}
-use Rattle.rules.proofs.Tests.{Owns, Reserves, Passed, accepted-passed}
+use Rattle.rules.proofs.Tests.{accepted-acceptable}
 use Rattle.rules.proofs.Refused.{refused-txids, by-verdict}
 use Rattle.rules.proofs.Moves.{good-fresh}
 use Rattle.rules.proofs.Steps.{good-after}
@@ -42,7 +43,7 @@ one-more n t number g r f =
     )
 
 count-accepted :
-    (n : ℕ) (t : Table) (c : Call) → Good n t → Passed n t c →
+    (n : ℕ) (t : Table) (c : Call) → Good n t → Acceptable n t c →
     takenSlots (afterAccepted t c) + (counts pass (isEnd c) + counts pass (isFinish c)) ≡ takenSlots t + counts pass (isBegin c)
 unfolding afterAccepted
 count-accepted n t (begin number) g (r, f) = omega (arith, one-more n t (number .0) g r f)
@@ -61,7 +62,7 @@ count-after :
 count-after n t c g =
     by-verdict n t c
     (λ v u. takenSlots u + (counts v (isEnd c) + counts v (isFinish c)) ≡ takenSlots t + counts v (isBegin c))
-    (λ e. count-accepted n t c g (accepted-passed n t c e))
+    (λ e. count-accepted n t c g (accepted-acceptable n t c e))
     (λ r f. omega (arith, ap (λ (l : List ℕ). length (active l)) (refused-txids n t c r f)))
 
 count-run :

@@ -10,11 +10,12 @@ use Rattle.kinds.specs.declared.Txid.{Txid}
 use Rattle.rules.specs.declared.Table.{Table}
 use Rattle.rules.specs.Tables.{txidAt}
 use Rattle.rules.specs.Calls.{end, finish, afterAccepted, after}
+use Rattle.rules.specs.Accepted.{Owns}
 use Rattle.rules.specs.Check.{tablePasses}
 use Rattle.rules.specs.Facts.{Good}
 use Rattle.rules.specs.History.{Accepts}
 use Rattle.rules.proofs.Places.{Stored, new-here, as-before, stored}
-use Rattle.rules.proofs.Tests.{Owns, accepted-passed}
+use Rattle.rules.proofs.Tests.{accepted-acceptable}
 use Rattle.rules.proofs.Steps.{after-accepted}
 use Rattle.rules.proofs.Checked.{passes-good}
 
@@ -34,11 +35,11 @@ pub end-gone :
     txidAt (after n t (end slot id)) i ≢ id .0
 unfolding afterAccepted
 end-gone n t slot id p a i =
-    rw (after-accepted, a) (emptied-gone n t slot id (passes-good n t p) (accepted-passed n t (end slot id) a) i)
+    rw (after-accepted, a) (emptied-gone n t slot id (passes-good n t p) (accepted-acceptable n t (end slot id) a) i)
 
 pub finish-gone :
     (n : ℕ) (t : Table) (slot : SlotNo) (id : Txid) (number : Stamp) → tablePasses n t ≡ true →
     Accepts n t (finish slot id number) → (i : ℕ) → txidAt (after n t (finish slot id number)) i ≢ id .0
 unfolding afterAccepted
 finish-gone n t slot id number p a i =
-    rw (after-accepted, a) (emptied-gone n t slot id (passes-good n t p) (accepted-passed n t (finish slot id number) a .0) i)
+    rw (after-accepted, a) (emptied-gone n t slot id (passes-good n t p) (accepted-acceptable n t (finish slot id number) a .0) i)

@@ -16,10 +16,11 @@ use Rattle.rules.specs.Tally.{lowestEmpty}
 use Rattle.rules.specs.Tables.{txidAt}
 use Rattle.rules.specs.Tests.{Verdict, pass}
 use Rattle.rules.specs.Calls.{Call, begin, end, snap, own, oldest, vacuum, stamp, finish, refusal, afterAccepted, after}
+use Rattle.rules.specs.Accepted.{Owns, Acceptable}
 use Rattle.rules.specs.History.{Registered}
 use Rattle.rules.proofs.Places.{Stored, new-here, as-before, stored, inside-of-ne}
 use Rattle.rules.proofs.Tallies.{lowest-empty}
-use Rattle.rules.proofs.Tests.{Owns, Passed, accepted-passed, refuse-not-pass}
+use Rattle.rules.proofs.Tests.{accepted-acceptable, refuse-not-pass}
 use Rattle.rules.proofs.Refused.{refused-txids, by-verdict}
 
 -- the call is an end or a finish of (slot, id)
@@ -98,7 +99,7 @@ unmoved-slot t slot slot′ id id′ n r o e = go (eqb (slot′ .0) (slot .0)) r
     go false p = getD-set-other (t .txids) (slot′ .0) (slot .0) 0 0 (λ q. eqb-false (slot′ .0) (slot .0) p (sym q)) ∙ r .holds
 
 stays-accepted :
-    (n : ℕ) (t : Table) (slot : SlotNo) (id : Txid) (c : Call) → Registered t slot id → Passed n t c →
+    (n : ℕ) (t : Table) (slot : SlotNo) (id : Txid) (c : Call) → Registered t slot id → Acceptable n t c →
     is-end-of slot id c ≡ false → txidAt (afterAccepted t c) (slot .0) ≡ id .0
 unfolding afterAccepted
 stays-accepted n t slot id (begin number) r p e =
@@ -121,6 +122,6 @@ stays-after n t slot id c r f =
       named = r .named;
       holds =
           by-verdict n t c (λ v u. (v ≡ pass → is-end-of slot id c ≡ false) → txidAt u (slot .0) ≡ id .0)
-          (λ e h. stays-accepted n t slot id c r (accepted-passed n t c e) (h refl))
+          (λ e h. stays-accepted n t slot id c r (accepted-acceptable n t c e) (h refl))
           (λ x g h. ap (λ (l : List ℕ). getD l (slot .0) 0) (refused-txids n t c x g) ∙ r .holds) f;
     }

@@ -7,8 +7,8 @@ use lib.ListN.{getD, set, length-set, length-replicate}
 use Rattle.rules.specs.declared.Table.{Table}
 use Rattle.rules.specs.Tables.{freshTable, txidAt, xminAt, withSlot, withXmin, withClock, observed, withLine}
 use Rattle.rules.specs.Facts.{SlotGood, empty, taken, Good}
+use Rattle.rules.specs.Accepted.{Observes}
 use Rattle.rules.proofs.Places.{Stored, new-here, as-before, stored, StoredBoth, both-new, both-before, stored-both, zeros-hold}
-use Rattle.rules.proofs.Tests.{Observes}
 
 -- a taken slot's part of the facts
 pub record Taken (clock line txid xmin : ℕ) : Type 0 where

@@ -18,9 +18,10 @@ use Rattle.rules.specs.declared.Table.{Table}
 use Rattle.rules.specs.Tables.{freshTable}
 use Rattle.rules.specs.Tests.{Verdict}
 use Rattle.rules.specs.Calls.{Call, own, vacuum, afterAccepted, after, answerAccepted, answerBy, answer, shown}
+use Rattle.rules.specs.Accepted.{Owns}
 use Rattle.rules.specs.History.{run, reached, Accepts, Registered, lastFrom, lastOwn, IsLast}
 use Rattle.rules.specs.Promise.{SettledBelow, lineAfter, Covered, of-transaction, Promise, vacuumAnswer, VacuumPromise}
-use Rattle.rules.proofs.Tests.{Owns, accepted-passed}
+use Rattle.rules.proofs.Tests.{accepted-acceptable}
 use Rattle.rules.proofs.Moves.{is-taken}
 use Rattle.rules.proofs.Steps.{after-accepted, good-reached, run-append, run-snoc}
 use Rattle.rules.proofs.Rising.{line-after, line-never-falls}
@@ -58,7 +59,7 @@ own-covered n cs slot id clock sample e =
     ∙ last-own n slot id (reached n cs) clock sample (lastOwn n slot id cs) e)
   where
     o : Owns n (reached n cs) slot id
-    o = accepted-passed n (reached n cs) (own slot id clock sample) e .0
+    o = accepted-acceptable n (reached n cs) (own slot id clock sample) e .0
 
 -- so the ids below the line of that moment are settled in it
 pub own-settled :

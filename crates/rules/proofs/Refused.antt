@@ -19,9 +19,10 @@ use Rattle.rules.specs.declared.Table.{Table}
 use Rattle.rules.specs.Tally.{lowestEmpty}
 use Rattle.rules.specs.Tests.{Verdict, pass, refuse, then, slotTest, zeroTest, holderTest, ownerTest, reservationTest, fullTest, observationTest}
 use Rattle.rules.specs.Calls.{Call, begin, end, snap, own, oldest, vacuum, stamp, finish, refusal, afterAccepted, afterRefused, afterBy, after}
+use Rattle.rules.specs.Accepted.{Reserves}
 use Rattle.rules.specs.History.{Accepts}
 use Rattle.rules.specs.Reservations.{reservesRefused}
-use Rattle.rules.proofs.Tests.{Reserves, reserves}
+use Rattle.rules.proofs.Tests.{reserves}
 
 -- a refused call leaves the table and reserves nothing; or it is a begin on a full table, which spends its number
 pub data Refused (n : ℕ) (t : Table) (c : Call) (r : Refusal) : Type 0 where

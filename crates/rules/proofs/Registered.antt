@@ -20,7 +20,7 @@ use Rattle.rules.specs.Calls.{Call, begin, end, snap, own, oldest, vacuu
 use Rattle.rules.specs.Facts.{Good}
 use Rattle.rules.specs.History.{run, reached, Accepts, Registered, NotEnded, IsRegistered}
 use Rattle.rules.proofs.Places.{zeros-hold}
-use Rattle.rules.proofs.Tests.{accepted-passed}
+use Rattle.rules.proofs.Tests.{accepted-acceptable}
 use Rattle.rules.proofs.Holders.{is-end-of, same-of, Was, before-it, begun-by-it, was, stays-after}
 use Rattle.rules.proofs.Steps.{after-accepted, good-reached, run-append}
 
@@ -167,7 +167,7 @@ pub begin-registers :
     Registered (after n t (begin number)) slot id
 unfolding afterAccepted
 begin-registers n t slot id number g a s i =
-    let (r, f) = accepted-passed n t (begin number) a in
+    let (r, f) = accepted-acceptable n t (begin number) a in
     let (p, q) = begin-answers n t number a in
     let same : number .0 ≡ id .0 = sym q ∙ i in
     let place : slot .0 ≡ lowestEmpty (t .txids) = sym s ∙ p in

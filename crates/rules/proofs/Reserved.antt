@@ -15,10 +15,11 @@ use Rattle.settled.specs.Settled.{listed}
 use Rattle.rules.specs.declared.Table.{Table}
 use Rattle.rules.specs.Tables.{freshTable}
 use Rattle.rules.specs.Calls.{Call, begin, end, snap, own, oldest, vacuum, stamp, finish, refusal, afterAccepted, afterRefused, after}
+use Rattle.rules.specs.Accepted.{Acceptable}
 use Rattle.rules.specs.History.{run, reached, Accepts}
 use Rattle.rules.specs.Reservations.{reservesAccepted, reservesRefused, reservesBy, reservationsFrom, reservations}
 use Rattle.rules.proofs.Tallies.{listed-none, listed-cases, listed-head}
-use Rattle.rules.proofs.Tests.{Passed, accepted-passed}
+use Rattle.rules.proofs.Tests.{accepted-acceptable}
 use Rattle.rules.proofs.Refused.{Refused, stays, spends, by-verdict}
 
 -- what one call reserves: nothing, or one number from the clock on, which the clock then passes by one
@@ -26,7 +27,7 @@ pub data Step (clock : ℕ) (ids : List ℕ) (clock′ : ℕ) : Type 0 where
   nothing : ids ≡ [] → clock ≤ clock′ → Step clock ids clock′
   one : (x : ℕ) → ids ≡ x ∷ [] → 1 ≤ x → clock ≤ x → clock′ ≡ x + 1 → Step clock ids clock′
 
-step-accepted : (n : ℕ) (t : Table) (c : Call) → Passed n t c → Step (t .clock) (reservesAccepted c) (afterAccepted t c .clock)
+step-accepted : (n : ℕ) (t : Table) (c : Call) → Acceptable n t c → Step (t .clock) (reservesAccepted c) (afterAccepted t c .clock)
 unfolding afterAccepted
 step-accepted n t (begin number) (r, f) = one (number .0) refl (r .positive) (r .from-clock) refl
 step-accepted n t (end slot id) o = nothing refl (le-refl _)
@@ -41,7 +42,7 @@ pub reserve-step : (n : ℕ) (t : Table) (c : Call) → Step (t .clock) (reserve
 unfolding afterRefused
 reserve-step n t c =
     by-verdict n t c (λ v u. Step (t .clock) (reservesBy v c) (u .clock))
-    (λ e. step-accepted n t c (accepted-passed n t c e)) other
+    (λ e. step-accepted n t c (accepted-acceptable n t c e)) other
   where
     other : (r : Refusal) → Refused n t c r → Step (t .clock) (reservesRefused r) (afterRefused t r .clock)
     other r (stays p q) = nothing q (rw p (le-refl _))

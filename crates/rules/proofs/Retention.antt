@@ -21,11 +21,12 @@ use Rattle.rules.specs.Tally.{active, lowestEmpty, snapshotOf}
 use Rattle.rules.specs.Tables.{freshTable, txidAt, xminAt, withSlot}
 use Rattle.rules.specs.Tests.{Verdict}
 use Rattle.rules.specs.Calls.{Call, begin, end, snap, own, oldest, vacuum, stamp, finish, refusal, afterAccepted, afterRefused, after, shownBy, shown}
+use Rattle.rules.specs.Accepted.{Owns, Acceptable}
 use Rattle.rules.specs.Facts.{Good}
 use Rattle.rules.specs.History.{run, reached, Accepts, notedAccepted, notedBy, lastFrom, lastOwn}
 use Rattle.rules.proofs.Places.{StoredBoth, both-new, both-before, stored-both}
 use Rattle.rules.proofs.Tallies.{minimum-member, taken-active, active-length}
-use Rattle.rules.proofs.Tests.{Owns, Passed, accepted-passed}
+use Rattle.rules.proofs.Tests.{accepted-acceptable}
 use Rattle.rules.proofs.Refused.{Refused, stays, spends, by-verdict}
 use Rattle.rules.proofs.Moves.{is-taken, good-fresh}
 use Rattle.rules.proofs.Steps.{oldest-taken, good-after}
@@ -127,7 +128,7 @@ shown-accepted n t c sample e = ap (λ (v : Verdict). shownBy v n t sample) e
 
 keeps-accepted :
     (n : ℕ) (t : Table) (slot : SlotNo) (id : Txid) (c : Call) (last : Option Snapshot) → Good n t → BelowTop t →
-    Accepts n t c → Passed n t c → KeepsLast n t slot id last →
+    Accepts n t c → Acceptable n t c → KeepsLast n t slot id last →
     KeepsLast n (afterAccepted t c) slot id (notedAccepted n slot id t c last)
 unfolding afterAccepted
 keeps-accepted n t slot id (begin number) last g b e p k = go (eqb (lowestEmpty (t .txids)) (slot .0)) refl
@@ -179,7 +180,7 @@ keeps-after :
 unfolding afterRefused
 keeps-after n t slot id c last g b k =
     by-verdict n t c (λ v u. KeepsLast n u slot id (notedBy v n slot id t c last))
-    (λ e. keeps-accepted n t slot id c last g b e (accepted-passed n t c e) k) other
+    (λ e. keeps-accepted n t slot id c last g b e (accepted-acceptable n t c e) k) other
   where
     other : (r : Refusal) → Refused n t c r → KeepsLast n (afterRefused t r) slot id last
     other r (stays p q) = rw p k

@@ -5,8 +5,9 @@ use native.Mathlib.Nat.{le-refl, le-trans}
 use native.Mathlib.Omega.{arith}
 use Rattle.rules.specs.declared.Table.{Table}
 use Rattle.rules.specs.Calls.{Call, begin, end, snap, own, oldest, vacuum, stamp, finish, afterAccepted, after}
+use Rattle.rules.specs.Accepted.{Acceptable}
 use Rattle.rules.specs.History.{run, reached}
-use Rattle.rules.proofs.Tests.{Passed, accepted-passed}
+use Rattle.rules.proofs.Tests.{accepted-acceptable}
 use Rattle.rules.proofs.Steps.{after-cases, run-append}
 
 -- the line
@@ -31,7 +32,7 @@ line-run n t [] = le-refl _
 line-run n t (c ∷ cs) = le-trans (line-after n t c) (line-run n (after n t c) cs)
 
 -- the clock
-clock-accepted : (n : ℕ) (t : Table) (c : Call) → Passed n t c → t .clock ≤ afterAccepted t c .clock
+clock-accepted : (n : ℕ) (t : Table) (c : Call) → Acceptable n t c → t .clock ≤ afterAccepted t c .clock
 unfolding afterAccepted
 clock-accepted n t (begin number) (r, f) = omega arith
 clock-accepted n t (end slot id) o = le-refl _
@@ -44,7 +45,7 @@ clock-accepted n t (finish slot id number) (o, r) = omega arith
 
 pub clock-after : (n : ℕ) (t : Table) (c : Call) → t .clock ≤ after n t c .clock
 clock-after n t c =
-    after-cases n t c (λ u. t .clock ≤ u .clock) (λ e. clock-accepted n t c (accepted-passed n t c e)) (le-refl _)
+    after-cases n t c (λ u. t .clock ≤ u .clock) (λ e. clock-accepted n t c (accepted-acceptable n t c e)) (le-refl _)
     (λ clock h. omega arith)
 
 pub clock-run : (n : ℕ) (t : Table) (cs : List Call) → t .clock ≤ run n t cs .clock

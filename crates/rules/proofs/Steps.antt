@@ -12,10 +12,11 @@ use Rattle.rules.specs.Tally.{active, retained, xminOf, oldestOf}
 use Rattle.rules.specs.Tables.{freshTable, txidAt, xminAt, withClock, observed}
 use Rattle.rules.specs.Tests.{Verdict}
 use Rattle.rules.specs.Calls.{Call, begin, end, snap, own, oldest, vacuum, stamp, finish, afterAccepted, afterRefused, afterBy, after}
+use Rattle.rules.specs.Accepted.{Owns, Acceptable}
 use Rattle.rules.specs.Facts.{empty, taken, Good}
 use Rattle.rules.specs.History.{run, reached, Accepts}
 use Rattle.rules.proofs.Tallies.{minimum-start, minimum-member, minimum-bound, taken-active, active-taken, taken-retained}
-use Rattle.rules.proofs.Tests.{Owns, Passed, accepted-passed}
+use Rattle.rules.proofs.Tests.{accepted-acceptable}
 use Rattle.rules.proofs.Refused.{Refused, stays, spends, by-verdict}
 use Rattle.rules.proofs.Moves.{is-taken, good-clock, good-observed, good-slot, good-xmin, good-line, new-number, good-fresh}
 
@@ -59,7 +60,7 @@ oldest-taken n t sample i g h =
     minimum-member sample (retained (t .txids) (t .«snapshot_xmins»)) (xminAt t i)
     (taken-retained (t .txids) (t .«snapshot_xmins») i (g .txid-column ∙ sym (g .xmin-column)) h)
 
-good-accepted : (n : ℕ) (t : Table) (c : Call) → Good n t → Passed n t c → Good n (afterAccepted t c)
+good-accepted : (n : ℕ) (t : Table) (c : Call) → Good n t → Acceptable n t c → Good n (afterAccepted t c)
 unfolding afterAccepted
 good-accepted n t (begin number) g (r, f) =
     good-slot n _ (good-clock n t g _ (omega arith)) _ _ _
@@ -85,7 +86,7 @@ good-accepted n t (finish slot id number) g (o, r) =
 
 pub good-after : (n : ℕ) (t : Table) (c : Call) → Good n t → Good n (after n t c)
 good-after n t c g =
-    after-cases n t c (Good n) (λ e. good-accepted n t c g (accepted-passed n t c e)) g
+    after-cases n t c (Good n) (λ e. good-accepted n t c g (accepted-acceptable n t c e)) g
     (λ clock h. good-clock n t g clock (omega arith))
 
 pub good-run : (n : ℕ) (t : Table) (cs : List Call) → Good n t → Good n (run n t cs)

@@ -1,11 +1,11 @@
--- What a passed test tells, and so an accepted call.
-use Prim.Native.Nat.{ℕ, _≤_, _<_}
+-- What each test asks for, and so when a call is accepted.
+use Prim.Native.Nat.{ℕ, _<_}
 use mathlib.Core.Path.{_≡_, refl, ap}
-use mathlib.Core.Logic.{_≢_}
+use mathlib.Core.Logic.{_≢_, _↔_}
 use mathlib.Core.Bool.{Bool, true, false, _||_, true≢false}
 use native.Mathlib.Omega.{arith}
 use lib.Dec.{ltb, leb, eqb}
-use borrow.Author.Tests.{ltb-false, leb-false, eqb-true, eqb-false}
+use borrow.Author.Tests.{ltb-false, leb-false, eqb-true, eqb-false, le-ltb, lt-leb, eq-eqb, ne-eqb}
 use Rattle.kinds.specs.declared.Stamp.{Stamp}
 use Rattle.kinds.specs.declared.SlotNo.{SlotNo}
 use Rattle.kinds.specs.declared.Txid.{Txid}
@@ -17,26 +17,9 @@ use Rattle.rules.specs.Tally.{lowestEmpty}
 use Rattle.rules.specs.Tables.{txidAt}
 use Rattle.rules.specs.Tests.{Verdict, pass, refuse, then, slotTest, zeroTest, holderTest, ownerTest, reservationTest, fullTest, observationTest}
 use Rattle.rules.specs.Calls.{Call, begin, end, snap, own, oldest, vacuum, stamp, finish, refusal}
+use Rattle.rules.specs.Accepted.{Owns, Reserves, Observes, Acceptable}
 use Rattle.rules.specs.History.{Accepts}
 use Rattle.rules.proofs.Bools.{or-false}
-
--- a registration that holds its slot
-pub record Owns (n : ℕ) (t : Table) (slot : SlotNo) (id : Txid) : Type 0 where
-  pub inside : slot .0 < n
-  pub named : id .0 ≢ 0
-  pub holds : txidAt t (slot .0) ≡ id .0
-
--- a number that the clock allows to be reserved
-pub record Reserves (clock number : ℕ) : Type 0 where
-  pub positive : 1 ≤ number
-  pub from-clock : clock ≤ number
-  pub below-top : number < top
-
--- a clock and a sample of it that may be observed
-pub record Observes (former clock sample : ℕ) : Type 0 where
-  pub onward : former ≤ clock
-  pub positive : 1 ≤ sample
-  pub within : sample ≤ clock
 
 is-refused : Verdict → Bool
 is-refused pass = false
@@ -93,30 +76,62 @@ pub room : (n : ℕ) (t : Table) (number : Stamp) → fullTest n (t .txids) numb
 room n t number e =
     leb-false n (lowestEmpty (t .txids)) (refused-first (leb n (lowestEmpty (t .txids))) _ pass e .0)
 
--- what holds of the arguments of an accepted call
-abbrev pub Passed : ℕ → Table → Call → Type 0
-Passed n t (begin number) = Reserves (t .clock) (number .0) × (lowestEmpty (t .txids) < n)
-Passed n t (end slot id) = Owns n t slot id
-Passed n t (snap clock sample) = Observes (t .clock) clock sample
-Passed n t (own slot id clock sample) = Owns n t slot id × Observes (t .clock) clock sample
-Passed n t (oldest clock sample) = Observes (t .clock) clock sample
-Passed n t (vacuum clock sample) = Observes (t .clock) clock sample
-Passed n t (stamp number) = Reserves (t .clock) (number .0)
-Passed n t (finish slot id number) = Owns n t slot id × Reserves (t .clock) (number .0)
-
-pub accepted-passed : (n : ℕ) (t : Table) (c : Call) → Accepts n t c → Passed n t c
+pub accepted-acceptable : (n : ℕ) (t : Table) (c : Call) → Accepts n t c → Acceptable n t c
 unfolding refusal
-accepted-passed n t (begin number) e =
+accepted-acceptable n t (begin number) e =
     let (a, b) = then-pass (reservationTest (t .clock) number) (fullTest n (t .txids) number) e in
     (reserves (t .clock) number a, room n t number b)
-accepted-passed n t (end slot id) e = owns n t slot id e
-accepted-passed n t (snap clock sample) e = observes (t .clock) clock sample e
-accepted-passed n t (own slot id clock sample) e =
+accepted-acceptable n t (end slot id) e = owns n t slot id e
+accepted-acceptable n t (snap clock sample) e = observes (t .clock) clock sample e
+accepted-acceptable n t (own slot id clock sample) e =
     let (a, b) = then-pass (ownerTest n (t .txids) slot id) (observationTest (t .clock) clock sample) e in
     (owns n t slot id a, observes (t .clock) clock sample b)
-accepted-passed n t (oldest clock sample) e = observes (t .clock) clock sample e
-accepted-passed n t (vacuum clock sample) e = observes (t .clock) clock sample e
-accepted-passed n t (stamp number) e = reserves (t .clock) number e
-accepted-passed n t (finish slot id number) e =
+accepted-acceptable n t (oldest clock sample) e = observes (t .clock) clock sample e
+accepted-acceptable n t (vacuum clock sample) e = observes (t .clock) clock sample e
+accepted-acceptable n t (stamp number) e = reserves (t .clock) number e
+accepted-acceptable n t (finish slot id number) e =
     let (a, b) = then-pass (ownerTest n (t .txids) slot id) (reservationTest (t .clock) number) e in
     (owns n t slot id a, reserves (t .clock) number b)
+
+-- and the other way round: each test passes on what it asks for
+owner-passes : (n : ℕ) (t : Table) (slot : SlotNo) (id : Txid) → Owns n t slot id → ownerTest n (t .txids) slot id ≡ pass
+owner-passes n t slot id o =
+    rw (
+      lt-leb n (slot .0) (o .inside),
+      ne-eqb (id .0) 0 (o .named),
+      eq-eqb (txidAt t (slot .0)) (id .0) (o .holds),
+    )
+
+reservation-passes : (clock : ℕ) (number : Stamp) → Reserves clock (number .0) → reservationTest clock number ≡ pass
+reservation-passes clock number r =
+    rw (
+      lt-leb top clock (omega arith),
+      ne-eqb (number .0) 0 (λ z. omega arith),
+      le-ltb (number .0) clock (r .from-clock),
+      lt-leb top (number .0) (r .below-top),
+    )
+
+observation-passes : (former clock sample : ℕ) → Observes former clock sample → observationTest former clock sample ≡ pass
+observation-passes former clock sample o =
+    rw (
+      le-ltb clock former (o .onward),
+      ne-eqb sample 0 (λ z. omega arith),
+      le-ltb clock sample (o .within),
+    )
+
+pub acceptable-accepted : (n : ℕ) (t : Table) (c : Call) → Acceptable n t c → Accepts n t c
+unfolding refusal
+acceptable-accepted n t (begin number) (r, f) =
+    rw (reservation-passes (t .clock) number r, lt-leb n (lowestEmpty (t .txids)) f)
+acceptable-accepted n t (end slot id) o = owner-passes n t slot id o
+acceptable-accepted n t (snap clock sample) o = observation-passes (t .clock) clock sample o
+acceptable-accepted n t (own slot id clock sample) (o, v) =
+    rw (owner-passes n t slot id o) (observation-passes (t .clock) clock sample v)
+acceptable-accepted n t (oldest clock sample) o = observation-passes (t .clock) clock sample o
+acceptable-accepted n t (vacuum clock sample) o = observation-passes (t .clock) clock sample o
+acceptable-accepted n t (stamp number) r = reservation-passes (t .clock) number r
+acceptable-accepted n t (finish slot id number) (o, r) =
+    rw (owner-passes n t slot id o) (reservation-passes (t .clock) number r)
+
+pub accepted-exactly : (n : ℕ) (t : Table) (c : Call) → Accepts n t c ↔ Acceptable n t c
+accepted-exactly n t c = (accepted-acceptable n t c, acceptable-accepted n t c)

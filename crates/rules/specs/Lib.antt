@@ -4,6 +4,7 @@ pub mod Tests
 pub mod Calls
 pub mod Check
 pub mod Rows
+pub mod Accepted
 pub mod Facts
 pub mod History
 pub mod Reservations
