@@ -105,7 +105,8 @@ listed-place : (x : ℕ) (txids : List ℕ) → listed x txids ≡ true → (i :
 listed-place x [] e = absurd (listed-none x e)
 listed-place x (y ∷ ys) e = go (listed-cases x y ys e) (listed-place x ys)
   where
-    go : (y ≡ x) ⊎ (listed x ys ≡ true) → (listed x ys ≡ true → (i : ℕ) × (getD ys i 0 ≡ x)) → (i : ℕ) × (getD (y ∷ ys) i 0 ≡ x)
+    go : (y ≡ x) ⊎ (listed x ys ≡ true) → (listed x ys ≡ true → (i : ℕ) × (getD ys i 0 ≡ x)) →
+        (i : ℕ) × (getD (y ∷ ys) i 0 ≡ x)
     go (inl q) ih = (0, q)
     go (inr q) ih = let (i, p) = ih q in (suc i, p)
 

@@ -39,7 +39,9 @@ pub own-is-own : (slot : SlotNo) (id : Txid) (clock sample : ℕ) → is-own-of 
 own-is-own slot id clock sample = rw (eq-eqb (slot .0) (slot .0) refl, eq-eqb (id .0) (id .0) refl)
 
 -- what one call does to the last snapshot of (slot, id)
-pub data Noted (n : ℕ) (t : Table) (slot : SlotNo) (id : Txid) (c : Call) (last : Option Snapshot) (v : Verdict) (u : Table) : Type 0 where
+pub data Noted
+    (n : ℕ) (t : Table) (slot : SlotNo) (id : Txid) (c : Call) (last : Option Snapshot) (v : Verdict) (u : Table)
+    : Type 0 where
   now-taken :
       (clock sample : ℕ) → c ≡ own slot id clock sample → v ≡ pass →
       notedBy v n slot id t c last ≡ some (shown n t c sample) → Noted n t slot id c last v u
@@ -58,17 +60,21 @@ emptied-from txids i j x h e = go (stored txids i 0 j)
     go (as-before d q) = sym q ∙ e
 
 noted-accepted :
-    (n : ℕ) (t : Table) (slot : SlotNo) (id : Txid) (c : Call) (last : Option Snapshot) → id .0 ≢ 0 → Noted n t slot id c last pass (afterAccepted t c)
+    (n : ℕ) (t : Table) (slot : SlotNo) (id : Txid) (c : Call) (last : Option Snapshot) → id .0 ≢ 0 →
+    Noted n t slot id c last pass (afterAccepted t c)
 unfolding afterAccepted
-noted-accepted n t slot id (begin number) last z = go (eqb (lowestEmpty (t .txids)) (slot .0)) refl
+noted-accepted n t slot id (begin number) last z = go (eqb entered (slot .0)) refl
   where
-    go : (b : Bool) → eqb (lowestEmpty (t .txids)) (slot .0) ≡ b → Noted n t slot id (begin number) last pass (afterAccepted t (begin number))
-    go true e =
-        now-forgotten (rw (← eqb-true (lowestEmpty (t .txids)) (slot .0) e) (lowest-empty (t .txids))) (rw e)
+    entered : ℕ
+    entered = lowestEmpty (t .txids)
+
+    go : (b : Bool) → eqb entered (slot .0) ≡ b →
+        Noted n t slot id (begin number) last pass (afterAccepted t (begin number))
+    go true e = now-forgotten (rw (← eqb-true entered (slot .0) e) (lowest-empty (t .txids))) (rw e)
     go false e =
-        not-moved (rw e)
-        (λ h. sym (getD-set-other (t .txids) (lowestEmpty (t .txids)) (slot .0) (number .0) 0 (λ q. eqb-false (lowestEmpty (t .txids)) (slot .0) e (sym q))) ∙ h)
-        (λ p. refl)
+        let d : slot .0 ≢ entered = λ q. eqb-false entered (slot .0) e (sym q) in
+        let same-id = getD-set-other (t .txids) entered (slot .0) (number .0) 0 d in
+        not-moved (rw e) (λ h. sym same-id ∙ h) (λ p. refl)
 noted-accepted n t slot id (end slot′ id′) last z =
     not-moved refl (λ h. emptied-from (t .txids) (slot′ .0) (slot .0) (id .0) z h) (λ p. refl)
 noted-accepted n t slot id (snap clock sample) last z = not-moved refl (λ h. h) (λ p. refl)

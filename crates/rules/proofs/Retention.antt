@@ -10,6 +10,7 @@ use native.Mathlib.Omega.{arith}
 use lib.Dec.{eqb}
 use lib.Seq.{getD-set-same, getD-set-other}
 use borrow.Author.Tests.{eqb-true, eqb-false}
+use Rattle.kinds.specs.declared.Stamp.{Stamp}
 use Rattle.kinds.specs.declared.SlotNo.{SlotNo}
 use Rattle.kinds.specs.declared.Txid.{Txid}
 use Rattle.kinds.specs.declared.refusal.Refusal.{Refusal}
@@ -17,7 +18,7 @@ use Rattle.kinds.specs.Pick.{pick}
 use Rattle.kinds.proofs.Unique.{same-slot, same-txid}
 use Rattle.settled.specs.declared.Snapshot.{Snapshot}
 use Rattle.rules.specs.declared.Table.{Table}
-use Rattle.rules.specs.Tally.{active, lowestEmpty, snapshotOf}
+use Rattle.rules.specs.Tally.{lowestEmpty, snapshotOf}
 use Rattle.rules.specs.Tables.{freshTable, txidAt, xminAt, withSlot}
 use Rattle.rules.specs.Tests.{Verdict}
 use Rattle.rules.specs.Calls.{Call, begin, end, snap, own, oldest, vacuum, stamp, finish, refusal, afterAccepted, afterRefused, after, shownBy, shown}
@@ -97,7 +98,8 @@ raised n t slot id clock sample g s k =
       settles = λ e x h. go e x h (decLt x (t .line));
     }
   where
-    go : txidAt t (slot .0) ≡ id .0 → (x : ℕ) → x < afterAccepted t (vacuum clock sample) .line → Dec (x < t .line) → Settles s x
+    go : txidAt t (slot .0) ≡ id .0 → (x : ℕ) → x < afterAccepted t (vacuum clock sample) .line → Dec (x < t .line) →
+        Settles s x
     go e x h (yes l) = k .settles e x l
     go e x h (no l) =
         let a = oldest-taken n t sample (slot .0) g (λ z. k .named (sym e ∙ z)) in
@@ -113,57 +115,84 @@ taken-now n t slot id clock sample g b o =
     record {
       named = o .named;
       few = rw (← g .txid-column) (active-length (t .txids));
-      low = λ x l. below x _ (λ j h. minimum-member sample (active (t .txids)) (txidAt t j) (taken-active (t .txids) j h)) l;
+      low = λ x l. below x _ (λ j h. minimum-member sample _ (txidAt t j) (taken-active (t .txids) j h)) l;
       retains = λ e. getD-set-same (t .«snapshot_xmins») (slot .0) _ 0 (rw (g .xmin-column) (o .inside));
       settles = λ e x l. below x (t .line) (λ j h. is-taken (g .each j) h .over) l;
     }
   where
-    below : (x bound : ℕ) → ((j : ℕ) → txidAt t j ≢ 0 → bound ≤ txidAt t j) → x < bound → Settles (snapshotOf n (t .txids) sample) x
+    below : (x bound : ℕ) → ((j : ℕ) → txidAt t j ≢ 0 → bound ≤ txidAt t j) → x < bound →
+        Settles (snapshotOf n (t .txids) sample) x
     below x bound under l =
         settled-in-own n (t .txids) sample (slot .0) bound x (λ z. o .named (sym (o .holds) ∙ z)) (b (slot .0)) under l
 
-pub shown-accepted : (n : ℕ) (t : Table) (c : Call) (sample : ℕ) → Accepts n t c → shown n t c sample ≡ snapshotOf n (t .txids) sample
+pub shown-accepted :
+    (n : ℕ) (t : Table) (c : Call) (sample : ℕ) → Accepts n t c → shown n t c sample ≡ snapshotOf n (t .txids) sample
 unfolding shown
 shown-accepted n t c sample e = ap (λ (v : Verdict). shownBy v n t sample) e
+
+-- a begin in the slot forgets its last snapshot, one in another slot leaves it
+keeps-begin :
+    (n : ℕ) (t : Table) (slot : SlotNo) (id : Txid) (number : Stamp) (last : Option Snapshot) → KeepsLast n t slot id last →
+    KeepsLast n (afterAccepted t (begin number)) slot id (notedAccepted n slot id t (begin number) last)
+unfolding afterAccepted
+keeps-begin n t slot id number last k = go (eqb entered (slot .0)) refl
+  where
+    entered : ℕ
+    entered = lowestEmpty (t .txids)
+
+    u : Table
+    u = afterAccepted t (begin number)
+
+    go : (b : Bool) → eqb entered (slot .0) ≡ b → KeepsLast n u slot id (pick b none last)
+    go true e = tt
+    go false e =
+        let d : slot .0 ≢ entered = λ z. eqb-false entered (slot .0) e (sym z) in
+        let same-id = getD-set-other (t .txids) entered (slot .0) (number .0) 0 d in
+        let same-xmin = getD-set-other (t .«snapshot_xmins») entered (slot .0) _ 0 d in
+        carry n t u slot id last (slot-unmoved n t u slot id same-id same-xmin refl) k
+
+-- an own of (slot, id) takes the place of the last snapshot, one of another transaction leaves it
+keeps-own :
+    (n : ℕ) (t : Table) (slot slot′ : SlotNo) (id id′ : Txid) (clock sample : ℕ) (last : Option Snapshot) → Good n t →
+    BelowTop t → Accepts n t (own slot′ id′ clock sample) → Owns n t slot′ id′ → KeepsLast n t slot id last →
+    KeepsLast n (afterAccepted t (own slot′ id′ clock sample)) slot id
+    (notedAccepted n slot id t (own slot′ id′ clock sample) last)
+unfolding afterAccepted
+keeps-own n t slot slot′ id id′ clock sample last g b a o k =
+    go (eqb (slot′ .0) (slot .0)) refl (eqb (id′ .0) (id .0)) refl
+  where
+    c : Call
+    c = own slot′ id′ clock sample
+
+    u : Table
+    u = afterAccepted t c
+
+    go : (p : Bool) → eqb (slot′ .0) (slot .0) ≡ p → (q : Bool) → eqb (id′ .0) (id .0) ≡ q →
+        KeepsLast n u slot id (pick (p && q) (some (shown n t c sample)) last)
+    go true p true q =
+        let e : slot ≡ slot′ = same-slot slot slot′ (sym (eqb-true (slot′ .0) (slot .0) p)) in
+        let f : id ≡ id′ = same-txid id id′ (sym (eqb-true (id′ .0) (id .0) q)) in
+        rw (e, f, shown-accepted n t c sample a) (taken-now n t slot′ id′ clock sample g b o)
+    go true p false q =
+        let held : txidAt t (slot .0) ≡ id′ .0 = rw (eqb-true (slot′ .0) (slot .0) p) at (o .holds) in
+        carry n t u slot id last (other-id n t u slot id (λ z. eqb-false (id′ .0) (id .0) q (sym held ∙ z))) k
+    go false p q r =
+        let d : slot .0 ≢ slot′ .0 = λ z. eqb-false (slot′ .0) (slot .0) p (sym z) in
+        let same-xmin = getD-set-other (t .«snapshot_xmins») (slot′ .0) (slot .0) _ 0 d in
+        carry n t u slot id last (slot-unmoved n t u slot id refl same-xmin refl) k
 
 keeps-accepted :
     (n : ℕ) (t : Table) (slot : SlotNo) (id : Txid) (c : Call) (last : Option Snapshot) → Good n t → BelowTop t →
     Accepts n t c → Acceptable n t c → KeepsLast n t slot id last →
     KeepsLast n (afterAccepted t c) slot id (notedAccepted n slot id t c last)
 unfolding afterAccepted
-keeps-accepted n t slot id (begin number) last g b e p k = go (eqb (lowestEmpty (t .txids)) (slot .0)) refl
-  where
-    u : Table
-    u = afterAccepted t (begin number)
-
-    go : (q : Bool) → eqb (lowestEmpty (t .txids)) (slot .0) ≡ q → KeepsLast n u slot id (pick q none last)
-    go true q = tt
-    go false q =
-        let d : slot .0 ≢ lowestEmpty (t .txids) = λ z. eqb-false (lowestEmpty (t .txids)) (slot .0) q (sym z) in
-        carry n t u slot id last
-        (slot-unmoved n t u slot id (getD-set-other (t .txids) _ (slot .0) _ 0 d) (getD-set-other (t .«snapshot_xmins») _ (slot .0) _ 0 d) refl) k
+keeps-accepted n t slot id (begin number) last g b e p k = keeps-begin n t slot id number last k
 keeps-accepted n t slot id (end slot′ id′) last g b e p k =
     carry n t (afterAccepted t (end slot′ id′)) slot id last (emptied n t (slot′ .0) slot id g) k
 keeps-accepted n t slot id (snap clock sample) last g b e p k =
     carry n t (afterAccepted t (snap clock sample)) slot id last (slot-unmoved n t _ slot id refl refl refl) k
 keeps-accepted n t slot id (own slot′ id′ clock sample) last g b e (o, v) k =
-    go (eqb (slot′ .0) (slot .0)) refl (eqb (id′ .0) (id .0)) refl
-  where
-    u : Table
-    u = afterAccepted t (own slot′ id′ clock sample)
-
-    go : (p : Bool) → eqb (slot′ .0) (slot .0) ≡ p → (q : Bool) → eqb (id′ .0) (id .0) ≡ q →
-        KeepsLast n u slot id (pick (p && q) (some (shown n t (own slot′ id′ clock sample) sample)) last)
-    go true p true q =
-        let a : slot ≡ slot′ = same-slot slot slot′ (sym (eqb-true (slot′ .0) (slot .0) p)) in
-        let c : id ≡ id′ = same-txid id id′ (sym (eqb-true (id′ .0) (id .0) q)) in
-        rw (a, c, shown-accepted n t (own slot′ id′ clock sample) sample e) (taken-now n t slot′ id′ clock sample g b o)
-    go true p false q =
-        carry n t u slot id last
-        (other-id n t u slot id (λ z. eqb-false (id′ .0) (id .0) q (sym (o .holds) ∙ ap (λ (i : ℕ). txidAt t i) (eqb-true (slot′ .0) (slot .0) p) ∙ z))) k
-    go false p q r =
-        carry n t u slot id last
-        (slot-unmoved n t u slot id refl (getD-set-other (t .«snapshot_xmins») (slot′ .0) (slot .0) _ 0 (λ z. eqb-false (slot′ .0) (slot .0) p (sym z))) refl) k
+    keeps-own n t slot slot′ id id′ clock sample last g b e o k
 keeps-accepted n t slot id (oldest clock sample) last g b e p k =
     carry n t (afterAccepted t (oldest clock sample)) slot id last (slot-unmoved n t _ slot id refl refl refl) k
 keeps-accepted n t slot id (vacuum clock sample) last g b e p k =

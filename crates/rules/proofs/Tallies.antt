@@ -143,8 +143,8 @@ unfolding lowestEmpty
 below-lowest [] i h = absurd (not-suc-le-zero h)
 below-lowest (x ∷ xs) i h = go (eqb x 0) refl i h (below-lowest xs)
   where
-    go : (b : Bool) → eqb x 0 ≡ b → (i : ℕ) → i < lowestEmpty (x ∷ xs) → ((j : ℕ) → j < lowestEmpty xs → getD xs j 0 ≢ 0) →
-        getD (x ∷ xs) i 0 ≢ 0
+    go : (b : Bool) → eqb x 0 ≡ b → (i : ℕ) → i < lowestEmpty (x ∷ xs) →
+        ((j : ℕ) → j < lowestEmpty xs → getD xs j 0 ≢ 0) → getD (x ∷ xs) i 0 ≢ 0
     go true e i h ih = absurd (not-suc-le-zero (rw e at h))
     go false e zero h ih = eqb-false x 0 e
     go false e (suc i) h ih =
