@@ -1,10 +1,10 @@
 -- The tallies over any columns: who is listed, which bounds hold, which slot is the lowest empty one, how many are taken.
 use Prim.Native.Nat.{ℕ, zero, suc, _+_, _-_, _≤_, _<_, min, max}
-use mathlib.Core.Path.{_≡_, refl, sym, _∙_, ap}
+use mathlib.Core.Path.{_≡_, refl, sym, _∙_}
 use mathlib.Core.Logic.{_≢_, _⊎_, inl, inr}
-use mathlib.Core.Bool.{Bool, true, false, _||_, false≢true}
-use mathlib.Core.List.{List, [], _∷_, _++_}
-use native.Mathlib.Nat.{le-refl, le-trans, not-suc-le-zero, le-of-suc-le-suc, suc-inj, suc-ne-zero}
+use mathlib.Core.Bool.{Bool, true, false, false≢true}
+use mathlib.Core.List.{List, [], _∷_}
+use native.Mathlib.Nat.{le-refl, not-suc-le-zero, le-of-suc-le-suc, suc-inj, suc-ne-zero}
 use native.Mathlib.Numerals.{add-one}
 use native.Mathlib.Omega.{arith}
 use lib.Dec.{eqb}
@@ -134,32 +134,31 @@ unfolding lowestEmpty
 lowest-empty [] = refl
 lowest-empty (x ∷ xs) = go (eqb x 0) refl (lowest-empty xs)
   where
-    go : (b : Bool) → eqb x 0 ≡ b → getD xs (lowestEmpty xs) 0 ≡ 0 → getD (x ∷ xs) (pick b 0 (lowestEmpty xs + 1)) 0 ≡ 0
-    go true e ih = eqb-true x 0 e
-    go false e ih = rw add-one ih
+    go : (b : Bool) → eqb x 0 ≡ b → getD xs (lowestEmpty xs) 0 ≡ 0 → getD (x ∷ xs) (lowestEmpty (x ∷ xs)) 0 ≡ 0
+    go true e ih = rw e (eqb-true x 0 e)
+    go false e ih = rw (e, add-one) ih
 
 pub below-lowest : (txids : List ℕ) (i : ℕ) → i < lowestEmpty txids → getD txids i 0 ≢ 0
 unfolding lowestEmpty
 below-lowest [] i h = absurd (not-suc-le-zero h)
-below-lowest (x ∷ xs) zero h = go (eqb x 0) refl h
+below-lowest (x ∷ xs) i h = go (eqb x 0) refl i h (below-lowest xs)
   where
-    go : (b : Bool) → eqb x 0 ≡ b → 0 < pick b 0 (lowestEmpty xs + 1) → x ≢ 0
-    go true e h = absurd (not-suc-le-zero h)
-    go false e h = eqb-false x 0 e
-below-lowest (x ∷ xs) (suc i) h = go (eqb x 0) h (below-lowest xs i)
-  where
-    go : (b : Bool) → suc i < pick b 0 (lowestEmpty xs + 1) → (i < lowestEmpty xs → getD xs i 0 ≢ 0) → getD xs i 0 ≢ 0
-    go true h ih = absurd (not-suc-le-zero h)
-    go false h ih = ih (omega arith)
+    go : (b : Bool) → eqb x 0 ≡ b → (i : ℕ) → i < lowestEmpty (x ∷ xs) →
+        ((j : ℕ) → j < lowestEmpty xs → getD xs j 0 ≢ 0) → getD (x ∷ xs) i 0 ≢ 0
+    go true e i h ih = absurd (not-suc-le-zero (rw e at h))
+    go false e zero h ih = eqb-false x 0 e
+    go false e (suc i) h ih =
+        let k : suc i < lowestEmpty xs + 1 = rw e at h in
+        ih i (omega arith)
 
 pub lowest-inside : (txids : List ℕ) → lowestEmpty txids ≤ length txids
 unfolding lowestEmpty
 lowest-inside [] = le-refl _
-lowest-inside (x ∷ xs) = go (eqb x 0) (lowest-inside xs)
+lowest-inside (x ∷ xs) = go (eqb x 0) refl (lowest-inside xs)
   where
-    go : (b : Bool) → lowestEmpty xs ≤ length xs → pick b 0 (lowestEmpty xs + 1) ≤ suc (length xs)
-    go true ih = omega arith
-    go false ih = omega arith
+    go : (b : Bool) → eqb x 0 ≡ b → lowestEmpty xs ≤ length xs → lowestEmpty (x ∷ xs) ≤ suc (length xs)
+    go true e ih = rw e (omega arith)
+    go false e ih = rw e (omega arith)
 
 -- how many slots are taken: at most all, one more or less where one slot changes
 abbrev pub takenOne : ℕ → ℕ

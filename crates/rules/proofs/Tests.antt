@@ -1,45 +1,25 @@
--- What a passed test tells, and what an accepted and a refused call tell.
-use Prim.Native.Nat.{ℕ, _≤_, _<_}
-use mathlib.Core.Path.{_≡_, refl, sym, ap, _∙_}
-use mathlib.Core.Logic.{_≢_}
-use mathlib.Core.Bool.{Bool, true, false, _||_, true≢false, false≢true}
-use mathlib.Core.List.{List, []}
+-- What each test asks for, and so when a call is accepted.
+use Prim.Native.Nat.{ℕ, _<_}
+use mathlib.Core.Path.{_≡_, refl, ap}
+use mathlib.Core.Logic.{_≢_, _↔_}
+use mathlib.Core.Bool.{Bool, true, false, _||_, true≢false}
 use native.Mathlib.Omega.{arith}
 use lib.Dec.{ltb, leb, eqb}
-use lib.ListN.{getD}
-use borrow.Author.Tests.{ltb-false, leb-true, leb-false, eqb-true, eqb-false}
+use borrow.Author.Tests.{ltb-false, leb-false, eqb-true, eqb-false, le-ltb, lt-leb, eq-eqb, ne-eqb}
 use Rattle.kinds.specs.declared.Stamp.{Stamp}
 use Rattle.kinds.specs.declared.SlotNo.{SlotNo}
 use Rattle.kinds.specs.declared.Txid.{Txid}
 use Rattle.kinds.specs.declared.refusal.Refusal.{Refusal}
-use Rattle.kinds.specs.declared.refusal.Refusal.the-variants.{NoFreeSlot, InvalidSlot, SlotOwnershipMismatch, ZeroTxid, ClockExhausted, BadReservation, BadClock, BadSample, BadTrace, BadSnapshot}
 use Rattle.kinds.specs.Pick.{pick}
-use Rattle.kinds.specs.Kinds.{top, txidOf}
+use Rattle.kinds.specs.Kinds.{top}
 use Rattle.rules.specs.declared.Table.{Table}
 use Rattle.rules.specs.Tally.{lowestEmpty}
 use Rattle.rules.specs.Tables.{txidAt}
 use Rattle.rules.specs.Tests.{Verdict, pass, refuse, then, slotTest, zeroTest, holderTest, ownerTest, reservationTest, fullTest, observationTest}
-use Rattle.rules.specs.Calls.{Call, begin, end, snap, own, oldest, vacuum, stamp, finish, refusal, afterRefused}
-use Rattle.rules.specs.History.{Accepts, reservesRefused}
+use Rattle.rules.specs.Calls.{Call, begin, end, snap, own, oldest, vacuum, stamp, finish, refusal}
+use Rattle.rules.specs.Accepted.{Owns, Reserves, Observes, Acceptable}
+use Rattle.rules.specs.History.{Accepts}
 use Rattle.rules.proofs.Bools.{or-false}
-
--- a registration that holds its slot
-pub record Owns (n : ℕ) (t : Table) (slot : SlotNo) (id : Txid) : Type 0 where
-  pub inside : slot .0 < n
-  pub named : id .0 ≢ 0
-  pub holds : txidAt t (slot .0) ≡ id .0
-
--- a number that the clock allows to be reserved
-pub record Reserves (clock number : ℕ) : Type 0 where
-  pub positive : 1 ≤ number
-  pub from-clock : clock ≤ number
-  pub below-top : number < top
-
--- a clock and a sample of it that may be observed
-pub record Observes (former clock sample : ℕ) : Type 0 where
-  pub onward : former ≤ clock
-  pub positive : 1 ≤ sample
-  pub within : sample ≤ clock
 
 is-refused : Verdict → Bool
 is-refused pass = false
@@ -96,140 +76,62 @@ pub room : (n : ℕ) (t : Table) (number : Stamp) → fullTest n (t .txids) numb
 room n t number e =
     leb-false n (lowestEmpty (t .txids)) (refused-first (leb n (lowestEmpty (t .txids))) _ pass e .0)
 
--- what holds of the arguments of an accepted call
-abbrev pub Passed : ℕ → Table → Call → Type 0
-Passed n t (begin number) = Reserves (t .clock) (number .0) × (lowestEmpty (t .txids) < n)
-Passed n t (end slot id) = Owns n t slot id
-Passed n t (snap clock sample) = Observes (t .clock) clock sample
-Passed n t (own slot id clock sample) = Owns n t slot id × Observes (t .clock) clock sample
-Passed n t (oldest clock sample) = Observes (t .clock) clock sample
-Passed n t (vacuum clock sample) = Observes (t .clock) clock sample
-Passed n t (stamp number) = Reserves (t .clock) (number .0)
-Passed n t (finish slot id number) = Owns n t slot id × Reserves (t .clock) (number .0)
-
-pub accepted-passed : (n : ℕ) (t : Table) (c : Call) → Accepts n t c → Passed n t c
+pub accepted-acceptable : (n : ℕ) (t : Table) (c : Call) → Accepts n t c → Acceptable n t c
 unfolding refusal
-accepted-passed n t (begin number) e =
+accepted-acceptable n t (begin number) e =
     let (a, b) = then-pass (reservationTest (t .clock) number) (fullTest n (t .txids) number) e in
     (reserves (t .clock) number a, room n t number b)
-accepted-passed n t (end slot id) e = owns n t slot id e
-accepted-passed n t (snap clock sample) e = observes (t .clock) clock sample e
-accepted-passed n t (own slot id clock sample) e =
+accepted-acceptable n t (end slot id) e = owns n t slot id e
+accepted-acceptable n t (snap clock sample) e = observes (t .clock) clock sample e
+accepted-acceptable n t (own slot id clock sample) e =
     let (a, b) = then-pass (ownerTest n (t .txids) slot id) (observationTest (t .clock) clock sample) e in
     (owns n t slot id a, observes (t .clock) clock sample b)
-accepted-passed n t (oldest clock sample) e = observes (t .clock) clock sample e
-accepted-passed n t (vacuum clock sample) e = observes (t .clock) clock sample e
-accepted-passed n t (stamp number) e = reserves (t .clock) number e
-accepted-passed n t (finish slot id number) e =
+accepted-acceptable n t (oldest clock sample) e = observes (t .clock) clock sample e
+accepted-acceptable n t (vacuum clock sample) e = observes (t .clock) clock sample e
+accepted-acceptable n t (stamp number) e = reserves (t .clock) number e
+accepted-acceptable n t (finish slot id number) e =
     let (a, b) = then-pass (ownerTest n (t .txids) slot id) (reservationTest (t .clock) number) e in
     (owns n t slot id a, reserves (t .clock) number b)
 
--- refusal 1, and no other
-is-full : Verdict → Bool
-is-full pass = false
-is-full (refuse (NoFreeSlot txid)) = true
-is-full (refuse (InvalidSlot slot)) = false
-is-full (refuse (SlotOwnershipMismatch slot expected observed)) = false
-is-full (refuse ZeroTxid) = false
-is-full (refuse ClockExhausted) = false
-is-full (refuse BadReservation) = false
-is-full (refuse BadClock) = false
-is-full (refuse BadSample) = false
-is-full (refuse (BadTrace line)) = false
-is-full (refuse BadSnapshot) = false
+-- and the other way round: each test passes on what it asks for
+owner-passes : (n : ℕ) (t : Table) (slot : SlotNo) (id : Txid) → Owns n t slot id → ownerTest n (t .txids) slot id ≡ pass
+owner-passes n t slot id o =
+    rw (
+      lt-leb n (slot .0) (o .inside),
+      ne-eqb (id .0) 0 (o .named),
+      eq-eqb (txidAt t (slot .0)) (id .0) (o .holds),
+    )
 
-then-full : (v w : Verdict) → is-full v ≡ false → is-full w ≡ false → is-full (then v w) ≡ false
-then-full pass w p q = q
-then-full (refuse r) w p q = p
+reservation-passes : (clock : ℕ) (number : Stamp) → Reserves clock (number .0) → reservationTest clock number ≡ pass
+reservation-passes clock number r =
+    rw (
+      lt-leb top clock (omega arith),
+      ne-eqb (number .0) 0 (λ z. omega arith),
+      le-ltb (number .0) clock (r .from-clock),
+      lt-leb top (number .0) (r .below-top),
+    )
 
-pick-full : (b : Bool) (v w : Verdict) → is-full v ≡ false → is-full w ≡ false → is-full (pick b v w) ≡ false
-pick-full true v w p q = p
-pick-full false v w p q = q
+observation-passes : (former clock sample : ℕ) → Observes former clock sample → observationTest former clock sample ≡ pass
+observation-passes former clock sample o =
+    rw (
+      le-ltb clock former (o .onward),
+      ne-eqb sample 0 (λ z. omega arith),
+      le-ltb clock sample (o .within),
+    )
 
-owner-full : (n : ℕ) (txids : List ℕ) (slot : SlotNo) (id : Txid) → is-full (ownerTest n txids slot id) ≡ false
-unfolding is-full
-owner-full n txids slot id =
-    then-full (slotTest n slot) _ (pick-full (leb n (slot .0)) _ _ refl refl)
-    (then-full (zeroTest id) (holderTest txids slot id) (pick-full (eqb (id .0) 0) _ _ refl refl)
-    (pick-full (eqb (getD txids (slot .0) 0) (id .0)) _ _ refl refl))
-
-reservation-full : (clock : ℕ) (number : Stamp) → is-full (reservationTest clock number) ≡ false
-unfolding is-full
-reservation-full clock number =
-    pick-full (leb top clock) _ _ refl
-    (pick-full (eqb (number .0) 0 || (ltb (number .0) clock || leb top (number .0))) _ _ refl refl)
-
-observation-full : (former clock sample : ℕ) → is-full (observationTest former clock sample) ≡ false
-unfolding is-full
-observation-full former clock sample =
-    pick-full (ltb clock former) _ _ refl (pick-full (eqb sample 0 || ltb clock sample) _ _ refl refl)
-
--- a refused call leaves the table and reserves nothing; or it is a begin on a full table, which spends its number
-pub data Refused (n : ℕ) (t : Table) (c : Call) (r : Refusal) : Type 0 where
-  stays : afterRefused t r ≡ t → reservesRefused r ≡ [] → Refused n t c r
-  spends :
-      (number : Stamp) → c ≡ begin number → r ≡ NoFreeSlot (txidOf number) → Reserves (t .clock) (number .0) →
-      n ≤ lowestEmpty (t .txids) → Refused n t c r
-
-carried : Verdict → Txid → Txid
-carried pass x = x
-carried (refuse (NoFreeSlot txid)) x = txid
-carried (refuse (InvalidSlot slot)) x = x
-carried (refuse (SlotOwnershipMismatch slot expected observed)) x = x
-carried (refuse ZeroTxid) x = x
-carried (refuse ClockExhausted) x = x
-carried (refuse BadReservation) x = x
-carried (refuse BadClock) x = x
-carried (refuse BadSample) x = x
-carried (refuse (BadTrace line)) x = x
-carried (refuse BadSnapshot) x = x
-
-full-spends :
-    (n : ℕ) (t : Table) (number : Stamp) (x : Txid) →
-    then (reservationTest (t .clock) number) (fullTest n (t .txids) number) ≡ refuse (NoFreeSlot x) →
-    Refused n t (begin number) (NoFreeSlot x)
-unfolding is-full carried
-full-spends n t number x e =
-    first (reservationTest (t .clock) number) refl (reservation-full (t .clock) number) e
-  where
-    second : reservationTest (t .clock) number ≡ pass → (b : Bool) → leb n (lowestEmpty (t .txids)) ≡ b →
-        pick b (refuse (NoFreeSlot (txidOf number))) pass ≡ refuse (NoFreeSlot x) → Refused n t (begin number) (NoFreeSlot x)
-    second p true q h =
-        spends number refl (ap NoFreeSlot (sym (ap (λ (v : Verdict). carried v x) h))) (reserves (t .clock) number p)
-        (leb-true n (lowestEmpty (t .txids)) q)
-    second p false q h = absurd (false≢true (ap is-full h))
-
-    first : (v : Verdict) → reservationTest (t .clock) number ≡ v → is-full v ≡ false →
-        then v (fullTest n (t .txids) number) ≡ refuse (NoFreeSlot x) → Refused n t (begin number) (NoFreeSlot x)
-    first pass p f h = second p (leb n (lowestEmpty (t .txids))) refl h
-    first (refuse r) p f h = absurd (false≢true (sym f ∙ ap is-full h))
-
-only-begin : (v : Verdict) (x : Txid) → is-full v ≡ false → v ≡ refuse (NoFreeSlot x) → ⊥
-unfolding is-full
-only-begin v x f e = false≢true (sym f ∙ ap is-full e)
-
-full-refused : (n : ℕ) (t : Table) (c : Call) (x : Txid) → refusal n t c ≡ refuse (NoFreeSlot x) → Refused n t c (NoFreeSlot x)
+pub acceptable-accepted : (n : ℕ) (t : Table) (c : Call) → Acceptable n t c → Accepts n t c
 unfolding refusal
-full-refused n t (begin number) x e = full-spends n t number x e
-full-refused n t (end slot id) x e = absurd (only-begin _ x (owner-full n (t .txids) slot id) e)
-full-refused n t (snap clock sample) x e = absurd (only-begin _ x (observation-full (t .clock) clock sample) e)
-full-refused n t (own slot id clock sample) x e =
-    absurd (only-begin _ x (then-full _ _ (owner-full n (t .txids) slot id) (observation-full (t .clock) clock sample)) e)
-full-refused n t (oldest clock sample) x e = absurd (only-begin _ x (observation-full (t .clock) clock sample) e)
-full-refused n t (vacuum clock sample) x e = absurd (only-begin _ x (observation-full (t .clock) clock sample) e)
-full-refused n t (stamp number) x e = absurd (only-begin _ x (reservation-full (t .clock) number) e)
-full-refused n t (finish slot id number) x e =
-    absurd (only-begin _ x (then-full _ _ (owner-full n (t .txids) slot id) (reservation-full (t .clock) number)) e)
+acceptable-accepted n t (begin number) (r, f) =
+    rw (reservation-passes (t .clock) number r, lt-leb n (lowestEmpty (t .txids)) f)
+acceptable-accepted n t (end slot id) o = owner-passes n t slot id o
+acceptable-accepted n t (snap clock sample) o = observation-passes (t .clock) clock sample o
+acceptable-accepted n t (own slot id clock sample) (o, v) =
+    rw (owner-passes n t slot id o) (observation-passes (t .clock) clock sample v)
+acceptable-accepted n t (oldest clock sample) o = observation-passes (t .clock) clock sample o
+acceptable-accepted n t (vacuum clock sample) o = observation-passes (t .clock) clock sample o
+acceptable-accepted n t (stamp number) r = reservation-passes (t .clock) number r
+acceptable-accepted n t (finish slot id number) (o, r) =
+    rw (owner-passes n t slot id o) (reservation-passes (t .clock) number r)
 
-pub refused : (n : ℕ) (t : Table) (c : Call) (r : Refusal) → refusal n t c ≡ refuse r → Refused n t c r
-unfolding afterRefused
-refused n t c (NoFreeSlot x) e = full-refused n t c x e
-refused n t c (InvalidSlot slot) e = stays refl refl
-refused n t c (SlotOwnershipMismatch slot expected observed) e = stays refl refl
-refused n t c ZeroTxid e = stays refl refl
-refused n t c ClockExhausted e = stays refl refl
-refused n t c BadReservation e = stays refl refl
-refused n t c BadClock e = stays refl refl
-refused n t c BadSample e = stays refl refl
-refused n t c (BadTrace line) e = stays refl refl
-refused n t c BadSnapshot e = stays refl refl
+pub accepted-exactly : (n : ℕ) (t : Table) (c : Call) → Accepts n t c ↔ Acceptable n t c
+accepted-exactly n t c = (accepted-acceptable n t c, acceptable-accepted n t c)

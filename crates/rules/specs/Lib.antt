@@ -4,6 +4,9 @@ pub mod Tests
 pub mod Calls
 pub mod Check
 pub mod Rows
+pub mod Accepted
 pub mod Facts
 pub mod History
+pub mod Reservations
+pub mod Counts
 pub mod Promise

@@ -1,15 +1,14 @@
 -- Demand 3 of the request: the promise to vacuum.
 use Prim.Native.Nat.{ℕ, _≤_, _<_}
 use mathlib.Core.Path.{_≡_}
-use mathlib.Core.List.{List, _++_}
+use mathlib.Core.List.{List, [], _∷_, _++_}
 use mathlib.Core.Option.{some}
 use mathlib.Core.Bool.{true}
 use Rattle.kinds.specs.declared.SlotNo.{SlotNo}
 use Rattle.kinds.specs.declared.Txid.{Txid}
 use Rattle.settled.specs.declared.Snapshot.{Snapshot}
 use Rattle.settled.specs.Settled.{settledIn}
-use Rattle.rules.specs.declared.Table.{Table}
-use Rattle.rules.specs.Calls.{Call, own, shown}
+use Rattle.rules.specs.Calls.{Call, own, vacuum, answer, shown}
 use Rattle.rules.specs.History.{reached, Accepts, Registered, lastOwn}
 
 -- each id from 1 up to but not including the line is below xmax and not listed in flight: the settled test's own definition
@@ -36,3 +35,27 @@ pub record Promise (n : ℕ) : Type 0 where
       (before after : List Call) (slot : SlotNo) (id : Txid) (clock sample : ℕ) →
       Accepts n (reached n (before ++ after)) (own slot id clock sample) →
       SettledBelow (lineAfter n before) (shown n (reached n (before ++ after)) (own slot id clock sample) sample)
+
+-- the line that an accepted vacuum answers at the end of a history
+abbrev pub vacuumAnswer : ℕ → List Call → ℕ → ℕ → ℕ
+vacuumAnswer n cs clock sample = answer n (reached n cs) (vacuum clock sample) .line
+
+-- the same, said of the lines that vacuum answers
+pub record VacuumPromise (n : ℕ) : Type 0 where
+  -- the answer is the table's line from then on
+  pub is-line :
+      (cs : List Call) (clock sample : ℕ) → Accepts n (reached n cs) (vacuum clock sample) →
+      vacuumAnswer n cs clock sample ≡ lineAfter n (cs ++ vacuum clock sample ∷ [])
+  pub never-falls :
+      (before after : List Call) (clock sample clock′ sample′ : ℕ) → Accepts n (reached n before) (vacuum clock sample) →
+      Accepts n (reached n (before ++ vacuum clock sample ∷ after)) (vacuum clock′ sample′) →
+      vacuumAnswer n before clock sample ≤ vacuumAnswer n (before ++ vacuum clock sample ∷ after) clock′ sample′
+  pub held :
+      (cs : List Call) (clock sample : ℕ) → Accepts n (reached n cs) (vacuum clock sample) → (s : Snapshot) →
+      Covered n (cs ++ vacuum clock sample ∷ []) s → SettledBelow (vacuumAnswer n cs clock sample) s
+  pub later :
+      (before after : List Call) (clock sample : ℕ) → Accepts n (reached n before) (vacuum clock sample) →
+      (slot : SlotNo) (id : Txid) (clock′ sample′ : ℕ) →
+      Accepts n (reached n (before ++ vacuum clock sample ∷ after)) (own slot id clock′ sample′) →
+      SettledBelow (vacuumAnswer n before clock sample)
+      (shown n (reached n (before ++ vacuum clock sample ∷ after)) (own slot id clock′ sample′) sample′)
