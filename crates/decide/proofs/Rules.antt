@@ -22,7 +22,8 @@ use Rattle.rules.specs.declared.Table.{Table}
 use Rattle.rules.specs.Tally.{active, lowestEmpty, snapshotOf}
 use Rattle.rules.specs.Tests.{Verdict, pass, refuse, then, ownerTest, reservationTest, fullTest, observationTest}
 use Rattle.rules.specs.Calls.{Call, begin, end, snap, own, oldest, vacuum, stamp, finish, refusal, afterAccepted, afterRefused, afterBy, after, Answer, answerTold, answerAccepted, answerBy, answer, shownBy, shown}
-use Rattle.rules.proofs.Tests.{Owns, Reserves, Refused, stays, spends, owns, reserves, refused}
+use Rattle.rules.proofs.Tests.{owns, reserves}
+use Rattle.rules.proofs.Refused.{Refused, stays, spends, refused}
 use Rattle.decide.specs.declared.change.Change.{Change}
 use Rattle.decide.specs.Changes.{countersOf, unchangedFrom, reservedFrom, observedFrom, applied}
 use Rattle.decide.specs.Papers.{paperBegun, paperEnded, paperTaken, paperOldest, paperVacuumed, paperStamped, Decided}
