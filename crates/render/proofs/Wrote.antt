@@ -1,11 +1,15 @@
 -- Texts written one after the other are one text.
-use Prim.Native.Nat.{ℕ, _+_, _*_, _≤_, _<_, _^_}
+use Prim.Native.Nat.{ℕ, _+_, _-_, _*_, _≤_, _<_, _^_}
 use mathlib.Core.Path.{_≡_, refl, sym, ap, _∙_}
 use mathlib.Core.List.{List, [], _∷_, _++_, append-assoc, append-nil}
+use mathlib.Core.Bool.{true, false}
 use native.Mathlib.Omega.{arith}
 use native.Mathlib.Numerals.{add-one}
+use lib.Dec.{leb}
 use lib.ListN.{length, take, getD, length-append}
 use lib.Seq.{take-suc}
+use borrow.Author.Tests.{leb-true}
+use Rattle.rules.proofs.Bools.{and-true}
 use Rattle.text.specs.declared.Put.{Put}
 use Rattle.text.specs.declared.Put.the-variants.{Past, NoRoom}
 use Rattle.text.specs.Decimal.{decimal}
@@ -13,7 +17,7 @@ use Rattle.text.specs.Line.{lineText}
 use Rattle.text.specs.Write.{spliced, putAt, written}
 use Rattle.text.proofs.Decimal.{length-word}
 use Rattle.text.proofs.Splice.{splice-length, splice-none, splice-append, room, line-length}
-use Rattle.render.specs.Output.{inKey, inLines, Wrote}
+use Rattle.render.specs.Output.{inKey, inLines, need, fits, putText, leftText, Wrote}
 
 line-short : (key : List ℕ) (n : ℕ) → n < 2 ^ 64 → length (lineText key n) ≤ length key + 21
 line-short key n h = omega (arith, line-length key n, length-word n h)
@@ -78,3 +82,23 @@ pub one-more-id :
 unfolding inLines
 one-more-id ids i h =
     rw (add-one, take-suc ids i 0) (sym (in-lines-append (take i ids) (getD ids i 0 ∷ []) ∙ rw append-nil))
+
+-- a record that has room, and one that has none
+module _ (n : ℕ) (xs : List ℕ) (at count : ℕ) where
+  pub fits-room : fits n (length xs) at count ≡ true → at + (224 + 24 * count) ≤ length xs
+  fits-room e =
+      let (a, b) = and-true (leb count n) (leb (need count) (length xs - at)) e in
+      let h = leb-true (need count) (length xs - at) b in
+      omega arith
+
+  module _ (t : List ℕ) where
+    pub put-room :
+        {ys : List ℕ} {past most : ℕ} → fits n (length xs) at count ≡ true → Wrote xs at t ys past most →
+        (Past past ≡ putText n xs at count t) × (ys ≡ leftText n xs at count t)
+    unfolding putText leftText
+    put-room e w = (rw e (ap Past (w .end)), rw e (w .left))
+
+    pub put-no-room :
+        fits n (length xs) at count ≡ false → (NoRoom ≡ putText n xs at count t) × (xs ≡ leftText n xs at count t)
+    unfolding putText leftText
+    put-no-room e = (rw e, rw e)

@@ -74,7 +74,14 @@ fn has_room(size: usize, at: usize, count: usize) -> bool
 }
 
 // The eight lines and a line for each of the first `count` ids, where they have room.
-pub fn put_answer(buf: &mut [u8], at: usize, p: Printed, vacuum: u64, ids: &[u64], count: usize) -> Put
+pub fn put_answer(
+    buf: &mut [u8],
+    at: usize,
+    p: Printed,
+    vacuum: u64,
+    ids: &[u64],
+    count: usize,
+) -> Put
     ensures { λ r. do ⌜ r ≡ putText (← ⟦kinds::SLOTS⟧ .entry) (now (buf .entry)) at count (eightLines p vacuum count ++ inLines (take count (now (ids .entry)))) ⌝ }
     ensures { λ _. do ⌜ now (buf .exit) ≡ leftText (← ⟦kinds::SLOTS⟧ .entry) (now (buf .entry)) at count (eightLines p vacuum count ++ inLines (take count (now (ids .entry)))) ⌝ }
 {

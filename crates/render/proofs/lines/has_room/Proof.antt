@@ -1,3 +1,4 @@
+use Prim.Native.Nat.{_+_, _*_, _-_}
 use borrow.Author.Tests.{lt-leb, le-leb}
 use native.Mathlib.Omega.{arith}
 use borrow.Author.Needs.{needs}
@@ -10,7 +11,9 @@ returns : tie.Need-returns
 returns c = rw (lt-leb _ _ (c .if1 .taken))
 
 returns-2 : tie.Need-returns-2
-returns-2 c = rw (le-leb _ _ (c .before .if1 .left), lt-leb _ _ (omega arith))
+returns-2 c =
+    let none = lt-leb (224 + 24 * c .before .before .args .count) (c .before .before .args .size - c .before .before .args .at) (omega arith) in
+    rw (le-leb _ _ (c .before .if1 .left), none)
 
 mul-result : tie.Need-mul-result
 mul-result c = search needs

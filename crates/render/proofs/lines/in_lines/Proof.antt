@@ -1,3 +1,11 @@
+use Prim.Native.Nat.{ℕ, _≤_, _-_, _*_, _+_, min}
+use mathlib.Core.Path.{_≡_, refl, sym, ap, _∙_}
+use native.Mathlib.Omega.{arith}
+use borrow.Author.Needs.{needs}
+use lib.ListN.{length, take}
+use lib.Seq.{take-all}
+use Rattle.render.specs.Output.{Wrote, inLines}
+use Rattle.render.proofs.Wrote.{wrote-none, wrote-then, wrote-at-most, wrote-same, one-more-id}
 use Rattle.render.proofs.lines.in_lines.Statement.{statement}
 use Rattle.render.proofs.lines.in_lines.Tie as tie
 use Rattle.render.proofs.lines.in_lines.Reads as reads
@@ -5,54 +13,61 @@ use Rattle.render.proofs.lines.in_lines.Lts as lts
 use Rattle.render.proofs.lines.in_line.Reads as in-line-reads
 
 abbrev Inv-loop : tie.InvT-loop
-Inv-loop buf₀ at ids count past₀ i₀ buf past i = ?
+Inv-loop buf₀ at ids count past₀ i₀ buf past i = (i ≤ min count (length ids)) × Wrote buf₀ at (inLines (take i ids)) buf past (24 * i)
 
 abbrev μ-loop : tie.MeasureT-loop
-μ-loop buf₀ at ids count past₀ i₀ buf past i = ?
+μ-loop buf₀ at ids count past₀ i₀ buf past i = length ids - i
 
--- src/lines.rt:52:5
 loop-holds : tie.Need-loop-holds Inv-loop μ-loop
-loop-holds c = ?
+unfolding inLines
+loop-holds c = (omega arith, wrote-none _ _)
 
--- src/lines.rt:54:13
 same-length : tie.Need-same-length Inv-loop μ-loop
-same-length c = ?
+same-length c = c .before .before .loop .inv .1 .size
 
--- src/lines.rt:54:13
 returns : tie.Need-returns Inv-loop μ-loop
-returns c = ?
+returns c =
+    let l = c .before .before .loop in
+    let s = c .before .before .before .before .before in
+    let a = s .args in
+    let e : l .i ≡ a .count = omega arith in
+    wrote-at-most (omega arith) (wrote-same (ap (λ (k : ℕ). inLines (take k (a .ids .now))) e) (l .inv .1))
 
--- src/lines.rt:56:18
 mul-id : tie.Need-mul-id Inv-loop μ-loop
-mul-id c = ?
+mul-id c = search needs
 
--- src/lines.rt:56:18
 shared-slice-read-id : tie.Need-shared-slice-read-id Inv-loop μ-loop
-shared-slice-read-id c = ?
+shared-slice-read-id c = search needs
 
--- src/lines.rt:57:9
 in-line-requires : tie.Need-in-line-requires Inv-loop μ-loop
-in-line-requires c κs = ?
+in-line-requires c κs =
+    let l = c .before .before .before .before .loop in
+    omega (arith, l .inv .1 .size, l .inv .1 .short, c .before .before .before .before .before .before .before .pre)
 
--- src/lines.rt:58:9
 add-i : tie.Need-add-i Inv-loop μ-loop
-add-i c = ?
+add-i c = search needs
 
--- src/lines.rt:52:5
 loop-less : tie.Need-loop-less Inv-loop μ-loop
-loop-less c = ?
+loop-less c = search needs
 
--- src/lines.rt:52:5
 loop-again : tie.Need-loop-again Inv-loop μ-loop
-loop-again c = ?
+loop-again c =
+    let l = c .before .before .before .before .before .before .before .loop in
+    let s = c .before .before .before .before .before .before .before .before .before .before in
+    let a = s .args in
+    let start : a .at ≤ length (a .buf .now) = omega (arith, s .pre) in
+    (omega arith, wrote-same (one-more-id (a .ids .now) (l .i) (omega arith)) (wrote-at-most (omega arith) (wrote-then start (l .inv .1) (c .before .before .in-line .ensures))))
 
--- src/lines.rt:46:1
 same-length-2 : tie.Need-same-length-2 Inv-loop μ-loop
-same-length-2 c = ?
+same-length-2 c = c .before .loop .inv .1 .size
 
--- src/lines.rt:46:1
 returns-2 : tie.Need-returns-2 Inv-loop μ-loop
-returns-2 c = ?
+returns-2 c =
+    let l = c .before .loop in
+    let s = c .before .before .before .before in
+    let a = s .args in
+    let e = take-all (l .i) (a .ids .now) (omega arith) ∙ sym (take-all (a .count) (a .ids .now) (omega arith)) in
+    wrote-at-most (omega arith) (wrote-same (ap inLines e) (l .inv .1))
 
 pub in-lines-spec : {M : Type 1} → statement M
 in-lines-spec =
