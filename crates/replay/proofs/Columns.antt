@@ -1,0 +1,55 @@
+-- Facts that the loop over records needs of the numbers it reads and the places it writes.
+use Prim.Native.Nat.{ℕ, _≤_, _<_}
+use mathlib.Core.Path.{_≡_, refl, ap}
+use mathlib.Core.Bool.{Bool, true, false}
+use mathlib.Core.List.{List}
+use native.Mathlib.Omega.{arith}
+use lib.Dec.{ltb}
+use lib.ListN.{length, set, length-set}
+use Rattle.kinds.specs.Pick.{pick}
+use Rattle.rules.specs.declared.Table.{Table}
+use Rattle.decide.specs.declared.change.Change.{Change}
+use Rattle.decide.specs.Changes.{applied}
+use Rattle.trace.specs.declared.Record.{Record}
+use Rattle.trace.specs.declared.RecordAt.the-variants.{Is}
+use Rattle.trace.specs.Op.{readsOwner}
+use Rattle.trace.specs.Record.{mostSlot, limit, recordAt}
+use Rattle.trace.proofs.Records.{record-text}
+use Rattle.replay.specs.Records.{storedAt}
+
+-- a slot number that was read is one that a slot number holds
+limit-at-most : (b : Bool) (n : ℕ) → limit b n ≤ n
+unfolding limit
+limit-at-most true n = omega arith
+limit-at-most false n = omega arith
+
+pub slot-small : (s : List ℕ) (at : ℕ) (r : Record) (e : ℕ) → recordAt s at ≡ Is r e → r .slot < 65536
+slot-small s at r e q =
+    let h = record-text s at r e q .expressible .slot in
+    let k = limit-at-most (readsOwner (r .op)) mostSlot in
+    omega arith
+
+-- a store leaves a column as long as it was
+pub stored-length : (n : ℕ) (l : List ℕ) (i x : ℕ) → length (storedAt n l i x) ≡ length l
+unfolding storedAt
+stored-length n l i x = go (ltb i n)
+  where
+    go : (b : Bool) → length (pick b (set l i x) l) ≡ length l
+    go true = length-set l i x
+    go false = refl
+
+-- the two stores and the counters are the change
+pub stored-applied :
+    (n : ℕ) (t : Table) (c : Change) {txids xmins : List ℕ} → txids ≡ storedAt n (t .txids) (c .at) (c .txid) →
+    xmins ≡ storedAt n (t .«snapshot_xmins») (c .at) (c .«snapshot_xmin») →
+    _≡_ {A = Table}
+    (record {
+      txids = txids;
+      «snapshot_xmins» = xmins;
+      clock = c .counters .clock;
+      «sampled_clock» = c .counters .«sampled_clock»;
+      line = c .counters .line;
+    })
+    (applied n t c)
+unfolding storedAt applied
+stored-applied n t c a b = rw (a, b)

@@ -1,0 +1,4 @@
+pub mod Lent
+pub mod Ran
+pub mod Columns
+pub mod Running

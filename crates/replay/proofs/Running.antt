@@ -1,0 +1,152 @@
+-- Where a run of records stands: what it has printed, and that the rest of the run goes on from here.
+use Prim.Native.Nat.{ℕ, _+_, _*_, _≤_, _<_}
+use mathlib.Core.Path.{_≡_, refl, sym, ap, _∙_}
+use mathlib.Core.Bool.{Bool, true, false}
+use mathlib.Core.List.{List, [], _∷_, _++_, append-assoc, append-nil}
+use native.Mathlib.Nat.{zero-add}
+use native.Mathlib.Omega.{arith}
+use lib.ListN.{length, take, drop, length-append, length-take, length-drop}
+use Rattle.rules.specs.declared.Table.{Table}
+use Rattle.rules.specs.Calls.{after, answer}
+use Rattle.decide.specs.Changes.{applied}
+use Rattle.text.specs.declared.Put.{Put}
+use Rattle.text.specs.declared.Put.the-variants.{Past, NoRoom}
+use Rattle.text.specs.Write.{spliced}
+use Rattle.text.proofs.Splice.{splice-none, splice-append}
+use Rattle.trace.specs.declared.Record.{Record}
+use Rattle.trace.specs.declared.RecordAt.the-variants.{Is, Broken}
+use Rattle.trace.specs.Record.{recordAt}
+use Rattle.trace.specs.Trace.{recordsFrom, Boundary}
+use Rattle.trace.proofs.Loop.{next-record, none-left}
+use Rattle.render.specs.Output.{fits, putText, leftText}
+use Rattle.replay.specs.declared.record.Outcome.{Outcome}
+use Rattle.replay.specs.declared.part.Progress.{Progress}
+use Rattle.replay.specs.Replay.{callOf, outputOf, Part, withText, partOf}
+use Rattle.replay.specs.Records.{Ran, PartFits}
+
+-- a text that leaves the length as it was ends inside
+inside-of : (xs : List ℕ) (at : ℕ) (t : List ℕ) → at ≤ length xs → length (spliced xs at t) ≡ length xs → at + length t ≤ length xs
+unfolding spliced
+inside-of xs at t h e = omega (arith, simp (length-append, length-take, length-drop) at e)
+
+-- a text that was put had room; one that was not, had none
+module _ (n : ℕ) (xs : List ℕ) (at count : ℕ) (t : List ℕ) where
+  put-fits : {past : ℕ} → Past past ≡ putText n xs at count t → fits n (length xs) at count ≡ true
+  unfolding putText
+  put-fits {past} e = go (fits n (length xs) at count) refl
+    where
+      go : (b : Bool) → fits n (length xs) at count ≡ b → b ≡ true
+      go true q = refl
+      go false q = let h : Past past ≡ NoRoom = rw q at e in let z : _≡_ {A = ℕ} 0 1 = cc in absurd (omega arith)
+
+  not-put-fits : NoRoom ≡ putText n xs at count t → fits n (length xs) at count ≡ false
+  unfolding putText
+  not-put-fits e = go (fits n (length xs) at count) refl
+    where
+      go : (b : Bool) → fits n (length xs) at count ≡ b → b ≡ false
+      go false q = refl
+      go true q = let h : NoRoom ≡ Past (at + length t) = rw q at e in let z : _≡_ {A = ℕ} 0 1 = cc in absurd (omega arith)
+
+  put-past : {past : ℕ} → Past past ≡ putText n xs at count t → past ≡ at + length t
+  unfolding putText
+  put-past {past} e = let h : Past past ≡ Past (at + length t) = rw (put-fits e) at e in cc
+
+  put-left : {past : ℕ} {ys : List ℕ} → Past past ≡ putText n xs at count t → ys ≡ leftText n xs at count t → ys ≡ spliced xs at t
+  unfolding leftText
+  put-left e q = rw (put-fits e) at q
+
+  not-put-left : {ys : List ℕ} → NoRoom ≡ putText n xs at count t → ys ≡ leftText n xs at count t → ys ≡ xs
+  unfolding leftText
+  not-put-left e q = rw (not-put-fits e) at q
+
+pub record Running (n : ℕ) (s : List ℕ) (from : ℕ) (t₀ : Table) (xs ys : List ℕ) (t : Table) (at filled : ℕ) : Type 0 where
+  pub done : List ℕ
+  pub text : ys ≡ spliced xs 0 done
+  pub size : length ys ≡ length xs
+  pub count : filled ≡ length done
+  pub inside : filled ≤ length xs
+  pub few : length (t .txids) ≡ n
+  pub boundary : Boundary s at
+  pub rest : partOf n (length xs) 0 t₀ (recordsFrom s from) ≡ withText done (partOf n (length xs) filled t (recordsFrom s at))
+
+module _ (n : ℕ) (s : List ℕ) (from : ℕ) (t₀ : Table) (xs : List ℕ) where
+  pub running-start : length (t₀ .txids) ≡ n → Boundary s from → Running n s from t₀ xs xs t₀ from 0
+  running-start k h =
+      record { done = []; text = splice-none xs 0; size = refl; count = refl; inside = omega arith; few = k; boundary = h; rest = refl }
+
+  module _ {ys : List ℕ} {t : Table} {at filled : ℕ} (w : Running n s from t₀ xs ys t at filled) where
+    -- one record more
+    pub running-more :
+        (r : Record) (e : ℕ) {o : Outcome} {zs : List ℕ} {past : ℕ} {u : Table} → recordAt s at ≡ Is r e →
+        Ran n t (callOf r) ys filled zs o → o .put ≡ Past past → length zs ≡ length ys → u ≡ applied n t (o .change) →
+        length (u .txids) ≡ n → Running n s from t₀ xs zs u e past
+    unfolding partOf
+    running-more r e {o} {zs} {past} {u} q a p k v few′ =
+        let m = next-record s at r e (w .boundary) q in
+        let out = outputOf n t (callOf r) in
+        let many = length (answer n t (callOf r) .ids) in
+        let put = sym p ∙ a .put in
+        let ok : fits n (length xs) filled many ≡ true = rw (← w .size) (put-fits n ys filled many out put) in
+        let end = put-past n ys filled many out put in
+        let left = put-left n ys filled many out put (a .left) in
+        let bound = inside-of ys filled out (omega (arith, w .size, w .inside)) (ap length (sym left) ∙ k) in
+        let next : u ≡ after n t (callOf r) = v ∙ a .table in
+        record {
+          done = w .done ++ out;
+          text =
+              left ∙ rw (w .text, w .count) (rw (zero-add (length (w .done))) at (splice-append xs 0 (w .done) out (omega arith)));
+          size = k ∙ w .size;
+          count = omega (arith, end, w .count, length-append (w .done) out);
+          inside = omega (arith, end, bound, w .size);
+          few = few′;
+          boundary = m .again;
+          rest = w .rest ∙ rw (m .first, ok, next, end, append-assoc);
+        }
+
+    -- the next record has no room
+    pub running-full :
+        (r : Record) (e : ℕ) {o : Outcome} {zs : List ℕ} → recordAt s at ≡ Is r e → Ran n t (callOf r) ys filled zs o →
+        o .put ≡ NoRoom → PartFits n s from t₀ xs zs (record { table = t; at = at; filled = filled })
+    unfolding partOf
+    running-full r e {o} {zs} q a p =
+        let m = next-record s at r e (w .boundary) q in
+        let out = outputOf n t (callOf r) in
+        let many = length (answer n t (callOf r) .ids) in
+        let put = sym p ∙ a .put in
+        let no : fits n (length xs) filled many ≡ false = rw (← w .size) (not-put-fits n ys filled many out put) in
+        let same = not-put-left n ys filled many out put (a .left) in
+        let stop : partOf n (length xs) filled t (recordsFrom s at) ≡ record { text = []; table = t; left = recordsFrom s at } =
+        rw (m .first, no) in
+        stopped zs (same ∙ w .text) stop
+      where
+        stopped :
+            (zs : List ℕ) → zs ≡ spliced xs 0 (w .done) →
+            partOf n (length xs) filled t (recordsFrom s at) ≡ record { text = []; table = t; left = recordsFrom s at } →
+            PartFits n s from t₀ xs zs (record { table = t; at = at; filled = filled })
+        stopped zs z stop =
+            let whole : partOf n (length xs) 0 t₀ (recordsFrom s from) ≡ record { text = w .done; table = t; left = recordsFrom s at } =
+            w .rest ∙ rw (stop, append-nil) in
+            record {
+              text = rw whole z;
+              filled = rw whole (w .count);
+              table = rw whole;
+              left = rw whole;
+              boundary = w .boundary;
+              inside = w .inside;
+            }
+
+    -- no record is left
+    pub running-over : at ≡ length s → PartFits n s from t₀ xs ys (record { table = t; at = at; filled = filled })
+    unfolding partOf
+    running-over h =
+        let none = none-left s at h in
+        let whole : partOf n (length xs) 0 t₀ (recordsFrom s from) ≡ record { text = w .done; table = t; left = recordsFrom s at } =
+        w .rest ∙ rw (none, append-nil) in
+        record {
+          text = rw whole (w .text);
+          filled = rw whole (w .count);
+          table = rw whole;
+          left = rw whole;
+          boundary = w .boundary;
+          inside = w .inside;
+        }

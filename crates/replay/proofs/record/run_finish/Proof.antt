@@ -1,0 +1,35 @@
+use Rattle.replay.proofs.Lent.{finish-lent}
+use Rattle.replay.proofs.Ran.{ran-plain, stamped-lists-none}
+use borrow.Author.Needs.{needs}
+use Rattle.replay.proofs.record.run_finish.Statement.{statement}
+use Rattle.replay.proofs.record.run_finish.Tie as tie
+use Rattle.replay.proofs.record.run_finish.Reads as reads
+use Rattle.replay.proofs.record.run_finish.Lts as lts
+use Rattle.decide.proofs.decide_finish.Reads as decide-finish-reads
+use Rattle.render.proofs.put_answer.Reads as put-answer-reads
+use Rattle.render.proofs.of_stamped.Reads as of-stamped-reads
+
+decide-finish-requires : tie.Need-decide-finish-requires
+decide-finish-requires c κs = search needs
+
+of-stamped-requires : tie.Need-of-stamped-requires
+of-stamped-requires c κs = search needs
+
+put-answer-requires : tie.Need-put-answer-requires
+put-answer-requires c κs = search needs
+
+same-length : tie.Need-same-length
+same-length c = search needs
+
+returns : tie.Need-returns
+returns c =
+    λ t l.
+    let a = c .before .before .before .before .before .before .before .before .before .args in
+    let d = c .before .before .before .before .before .before .decide-finish in
+    let p = c .before .before .put-answer in
+    ran-plain _ t _ (finish-lent _ t l (a .slot) (a .id) (a .number) (d .ensures)) (a .txids .now) (c .before .before .before .before .of-stamped .ensures) (stamped-lists-none (d .result .answer)) (p .ensures .0) (p .ensures .1)
+
+pub run-finish-spec : {M : Type 1} → statement M
+run-finish-spec =
+    tie.close
+    (tie.spec decide-finish-requires of-stamped-requires put-answer-requires same-length returns)

@@ -1,0 +1,37 @@
+use mathlib.Core.Path.{_≡_, sym, ap, _∙_}
+use Rattle.replay.proofs.Lent.{snap-lent}
+use Rattle.replay.proofs.Ran.{ran, printed-taken, snap-lists}
+use borrow.Author.Needs.{needs}
+use Rattle.replay.proofs.record.run_snap.Statement.{statement}
+use Rattle.replay.proofs.record.run_snap.Tie as tie
+use Rattle.replay.proofs.record.run_snap.Reads as reads
+use Rattle.replay.proofs.record.run_snap.Lts as lts
+use Rattle.decide.proofs.decide_snap.Reads as decide-snap-reads
+use Rattle.render.proofs.put_answer.Reads as put-answer-reads
+use Rattle.render.proofs.of_taken.Reads as of-taken-reads
+
+decide-snap-requires : tie.Need-decide-snap-requires
+decide-snap-requires c κs = search needs
+
+of-taken-requires : tie.Need-of-taken-requires
+of-taken-requires c κs = search needs
+
+put-answer-requires : tie.Need-put-answer-requires
+put-answer-requires c κs = search needs
+
+same-length : tie.Need-same-length
+same-length c = search needs
+
+returns : tie.Need-returns
+returns c =
+    λ t l.
+    let a = c .before .before .before .before .before .before .before .before .before .before .before .before .before .args in
+    let d = c .before .before .before .before .before .before .before .before .before .before .decide-snap in
+    let p = c .before .before .put-answer in
+    let s = snap-lists _ (a .txids .now) (a .was) (a .clock) (a .sample) (d .ensures) in
+    ran _ t _ (snap-lent _ t l (a .clock) (a .sample) (d .ensures)) _ _ (c .before .before .before .before .before .before .before .of-taken .ensures ∙ printed-taken (d .result .answer) (d .result .snapshot)) (s .count) (s .ids) (p .ensures .0) (p .ensures .1)
+
+pub run-snap-spec : {M : Type 1} → statement M
+run-snap-spec =
+    tie.close
+    (tie.spec decide-snap-requires of-taken-requires put-answer-requires same-length returns)
