@@ -2,6 +2,7 @@
 use Prim.Native.Nat.{ℕ, _+_}
 use mathlib.Core.Bool.{cond}
 use mathlib.Core.List.{List, [], _∷_, _++_}
+use lib.Dec.{leb}
 use lib.ListN.{length}
 use Rattle.rules.specs.declared.Table.{Table}
 use Rattle.rules.specs.Calls.{Call, begin, end, snap, own, oldest, vacuum, stamp, finish, after, answer}
@@ -48,10 +49,14 @@ recordsKey = 114 ∷ 101 ∷ 99 ∷ 111 ∷ 114 ∷ 100 ∷ 115 ∷ 61 ∷ []
 abbrev pub atKey : List ℕ
 atKey = 97 ∷ 116 ∷ 61 ∷ []
 
+-- the two lines of refusal 9
+abbrev pub brokenText : ℕ → List ℕ
+brokenText line = lineText answerKey 9 ++ lineText atKey line
+
 -- a whole trace prints its records and their number; refusal 9 prints two lines, and no record is run
 abbrev pub replayBy : ℕ → Found → List ℕ
 replayBy n (Records rs) = textOf n (freshTable n) rs ++ lineText recordsKey (length rs)
-replayBy n (Breaks line) = lineText answerKey 9 ++ lineText atKey line
+replayBy n (Breaks line) = brokenText line
 
 unfoldable pub replayOf : ℕ → List ℕ → List ℕ
 replayOf n s = replayBy n (traceOf s)
@@ -72,3 +77,27 @@ partOf n size at t (r ∷ rs) =
     (withText (outputOf n t (callOf r))
     (partOf n size (at + length (outputOf n t (callOf r))) (after n t (callOf r)) rs))
     (record { text = []; table = t; left = r ∷ rs })
+
+-- what a replay into a buffer of size bytes leaves at its start: the whole text, or as much of it as had room
+pub data Into : Type 0 where
+  whole : List ℕ → Into
+  cut : List ℕ → Into
+
+abbrev pub textIn : Into → List ℕ
+textIn (whole t) = t
+textIn (cut t) = t
+
+-- the records' own text, then `records=` and their number
+abbrev pub intoEnd : ℕ → ℕ → List Record → List ℕ → Into
+intoEnd size count [] t =
+    cond (leb (length t + length (lineText recordsKey count)) size) (whole (t ++ lineText recordsKey count)) (cut t)
+intoEnd size count (r ∷ rs) t = cut t
+
+-- 33 bytes hold the two lines of refusal 9, whatever the line
+abbrev pub intoBy : ℕ → ℕ → Found → Into
+intoBy n size (Records rs) =
+    intoEnd size (length rs) (partOf n size 0 (freshTable n) rs .left) (partOf n size 0 (freshTable n) rs .text)
+intoBy n size (Breaks line) = cond (leb 33 size) (whole (brokenText line)) (cut [])
+
+unfoldable pub intoOf : ℕ → ℕ → List ℕ → Into
+intoOf n size s = intoBy n size (traceOf s)

@@ -1,6 +1,9 @@
 // The replay: a captured trace in, the answers of its calls out.
+mod into;
+mod out;
 mod part;
 mod record;
 
-pub use part::Progress;
-pub use part::run_part;
+pub use into::Replayed;
+pub use into::replay_into;
+pub use out::replay_to;

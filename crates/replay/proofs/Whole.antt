@@ -1,0 +1,85 @@
+-- A whole replay into a buffer, by what was read and how far its records went.
+use Prim.Native.Nat.{ℕ, _+_, _≤_, _<_}
+use mathlib.Core.Path.{_≡_, refl, sym, ap, _∙_}
+use mathlib.Core.Bool.{Bool, true, false, cond}
+use mathlib.Core.List.{List, [], _∷_, _++_}
+use native.Mathlib.Nat.{zero-add}
+use native.Mathlib.Omega.{arith}
+use lib.Dec.{leb}
+use lib.ListN.{length, length-append}
+use Rattle.rules.specs.declared.Table.{Table}
+use Rattle.rules.specs.Tables.{freshTable}
+use Rattle.text.specs.Line.{lineText}
+use Rattle.text.specs.Write.{spliced, written}
+use Rattle.text.proofs.Splice.{splice-none, splice-append}
+use Rattle.trace.specs.declared.Record.{Record}
+use Rattle.trace.specs.declared.Reading.the-variants as reads
+use Rattle.trace.specs.Trace.{Found, Records, Breaks, traceOf, counted, reading, recordsFrom, firstRecord, Boundary}
+use Rattle.trace.proofs.Grammar.{begun}
+use Rattle.trace.proofs.Loop.{none-left, end-only}
+use Rattle.replay.specs.declared.part.Progress.{Progress}
+use Rattle.replay.specs.declared.into.Replayed.{Replayed}
+use Rattle.replay.specs.declared.into.Replayed.the-variants.{Written, NoRoom}
+use Rattle.replay.specs.Replay.{recordsKey, brokenText, Part, partOf, Into, whole, cut, textIn, intoEnd, intoBy, intoOf}
+use Rattle.replay.specs.Records.{PartFits, BrokenFits, EndFits, replayed, IntoFits}
+
+broken-found : (f : Found) {line : ℕ} → counted f ≡ reads.Broken line → f ≡ Breaks line
+broken-found (Records rs) e = let z : _≡_ {A = ℕ} 0 1 = cc in absurd (omega arith)
+broken-found (Breaks k) e = cc
+
+module _ (n : ℕ) (s xs : List ℕ) where
+  -- what is left at the buffer's start says all of it
+  fits-by : {ys : List ℕ} {r : Replayed} (i : Into) → intoOf n (length xs) s ≡ i → r ≡ replayed i → ys ≡ spliced xs 0 (textIn i) → IntoFits n s xs ys r
+  fits-by i e a b = record { says = rw e a; text = rw e b }
+
+  pub into-broken : (line : ℕ) {ys : List ℕ} {r : Replayed} → reading s ≡ reads.Broken line → BrokenFits line xs ys r → IntoFits n s xs ys r
+  unfolding reading intoOf
+  into-broken line {ys} {r} e f = go (leb 33 (length xs)) refl
+    where
+      found : traceOf s ≡ Breaks line
+      found = broken-found (traceOf s) e
+
+      go : (b : Bool) → leb 33 (length xs) ≡ b → IntoFits n s xs ys r
+      go true q = fits-by (whole (brokenText line)) (rw (found, q)) (rw q at (f .says)) (rw q at (f .text))
+      go false q = fits-by (cut []) (rw (found, q)) (rw q at (f .says)) ((rw q at (f .text)) ∙ splice-none xs 0)
+
+  module _
+      (count : ℕ) (e : reading s ≡ reads.Whole count) {ys : List ℕ} {at filled : ℕ} {t : Table}
+      (p : PartFits n s firstRecord (freshTable n) xs ys (record { table = t; at = at; filled = filled }))
+    where
+      part : Part
+      part = partOf n (length xs) 0 (freshTable n) (recordsFrom s firstRecord)
+
+      into-is : intoOf n (length xs) s ≡ intoEnd (length xs) count (part .left) (part .text)
+      unfolding intoOf part
+      into-is = let b = begun s count e in rw (b .records) (rw (b .many))
+
+      pub into-whole : {zs : List ℕ} {r : Replayed} → at ≡ length s → length ys ≡ length xs → EndFits count filled ys zs r → IntoFits n s xs zs r
+      unfolding written part
+      into-whole {zs} {r} h k f = go (leb (length (part .text) + length (lineText recordsKey count)) (length xs)) refl
+        where
+          none : part .left ≡ []
+          none = sym (p .left) ∙ none-left s at h
+
+          ended : intoOf n (length xs) s ≡ intoEnd (length xs) count [] (part .text)
+          ended = into-is ∙ rw none
+
+          go : (b : Bool) → leb (length (part .text) + length (lineText recordsKey count)) (length xs) ≡ b → IntoFits n s xs zs r
+          go true q =
+              let says = rw (p .filled, k, q) at (f .says) in
+              let text = rw (p .filled, k, q) at (f .text) in
+              fits-by (whole (part .text ++ lineText recordsKey count)) (ended ∙ rw q)
+              (says ∙ ap Written (sym (length-append (part .text) (lineText recordsKey count))))
+              (text ∙ rw (p .text) (rw (zero-add (length (part .text))) at (splice-append xs 0 (part .text) (lineText recordsKey count) (omega arith))))
+          go false q =
+              let says = rw (p .filled, k, q) at (f .says) in
+              let text = rw (p .filled, k, q) at (f .text) in
+              fits-by (cut (part .text)) (ended ∙ rw q) says (text ∙ p .text)
+
+      pub into-cut : (at ≡ length s → ⊥) → IntoFits n s xs ys (NoRoom filled)
+      unfolding part
+      into-cut h = go (part .left) refl
+        where
+          go : (l : List Record) → part .left ≡ l → IntoFits n s xs ys (NoRoom filled)
+          go [] q = absurd (h (end-only s at (p .boundary) (p .left ∙ q)))
+          go (r ∷ rs) q = fits-by (cut (part .text)) (into-is ∙ rw q) (ap NoRoom (p .filled)) (p .text)

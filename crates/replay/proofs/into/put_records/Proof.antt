@@ -1,0 +1,44 @@
+use Rattle.replay.proofs.Ends.{end-written, end-short}
+use borrow.Author.Needs.{needs}
+use Rattle.replay.proofs.into.put_records.Statement.{statement}
+use Rattle.replay.proofs.into.put_records.Tie as tie
+use Rattle.replay.proofs.into.put_records.Reads as reads
+use Rattle.replay.proofs.into.put_records.Lts as lts
+use Rattle.text.proofs.put_line.Reads as put-line-reads
+
+slice-aggregate-put-line : tie.Need-slice-aggregate-put-line
+slice-aggregate-put-line c = search needs
+
+put-line-requires : tie.Need-put-line-requires
+put-line-requires c κs = search needs
+
+enum-known-put : tie.Need-enum-known-put
+enum-known-put c = search needs
+
+enum-told : tie.Need-enum-told
+enum-told c = search needs
+
+same-length : tie.Need-same-length
+same-length c = search needs
+
+returns : tie.Need-returns
+returns c = end-written (c .before .before .before .before .before .before .before .before .before .args .count) (c .before .before .before .before .before .before .before .before .before .args .filled) (c .before .before .before .before .before .before .before .before .before .args .buf .now) (c .before .before .before .before .before .put-line .ensures .0) (c .before .before .before .before .before .put-line .ensures .1) (c .before .put .given .1)
+
+same-length-2 : tie.Need-same-length-2
+same-length-2 c = search needs
+
+returns-2 : tie.Need-returns-2
+returns-2 c = end-short (c .before .before .before .before .before .before .before .before .args .count) (c .before .before .before .before .before .before .before .before .args .filled) (c .before .before .before .before .before .before .before .before .args .buf .now) (c .before .before .before .before .put-line .ensures .0) (c .before .before .before .before .put-line .ensures .1) (c .enum-told .given .1)
+
+pub put-records-spec : {M : Type 1} → statement M
+put-records-spec =
+    tie.close
+    (tie.spec
+    slice-aggregate-put-line
+    put-line-requires
+    enum-known-put
+    enum-told
+    same-length
+    returns
+    same-length-2
+    returns-2)

@@ -1,0 +1,61 @@
+// A whole replay into one lent buffer.
+use crate::part::run_part;
+use text::Put;
+use trace::Reading;
+ghost use Rattle.replay.specs.Records.{IntoFits, BrokenFits, EndFits};
+
+// The length of the whole output; or, where it had no room, of the part of it that was written.
+pub enum Replayed {
+    Written(usize),
+    NoRoom(usize),
+}
+
+// The two lines of refusal 9, at the buffer's start.
+pub fn put_broken(buf: &mut [u8], line: usize) -> Replayed
+    ensures { λ r. ⌜ BrokenFits line (now (buf .entry)) (now (buf .exit)) r ⌝ }
+{
+    if buf.len() < 33 {
+        return Replayed::NoRoom(0);
+    }
+    let first = text::put_line(buf, 0, b"answer=", 9);
+    let Put::Past(at) = first else {
+        return Replayed::NoRoom(0);
+    };
+    let second = text::put_line(buf, at, b"at=", line as u64);
+    let Put::Past(end) = second else {
+        return Replayed::NoRoom(0);
+    };
+    Replayed::Written(end)
+}
+
+// The last line, after `filled` bytes.
+pub fn put_records(buf: &mut [u8], filled: usize, count: usize) -> Replayed
+    ensures { λ r. ⌜ EndFits count filled (now (buf .entry)) (now (buf .exit)) r ⌝ }
+{
+    let put = text::put_line(buf, filled, b"records=", count as u64);
+    match put {
+        Put::Past(end) => Replayed::Written(end),
+        Put::NoRoom => Replayed::NoRoom(filled),
+    }
+}
+
+// The text that a trace prints, at the buffer's start. The whole trace is read before any record is run.
+pub fn replay_into(s: &[u8], out: &mut [u8]) -> Replayed
+    ensures { λ r. do ⌜ IntoFits (← ⟦kinds::SLOTS⟧ .entry) (now (s .entry)) (now (out .entry)) (now (out .exit)) r ⌝ }
+{
+    let reading = trace::read_trace(s);
+    match reading {
+        Reading::Broken(line) => put_broken(out, line),
+        Reading::Whole(count) => {
+            let table = table::fresh();
+            let first = trace::first_record();
+            let part = run_part(s, first, table, out);
+            let at = part.at;
+            let filled = part.filled;
+            if at == s.len() {
+                return put_records(out, filled, count);
+            }
+            Replayed::NoRoom(filled)
+        }
+    }
+}
