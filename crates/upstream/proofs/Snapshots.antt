@@ -7,8 +7,7 @@ use mathlib.Core.List.{List, [], _∷_}
 use native.Mathlib.Nat.{suc-ne-zero, le-trans, le-refl}
 use native.Mathlib.Omega.{arith}
 use lib.Dec.{ltb}
-use lib.ListN.{length, getD, set, take, length-set, replicate}
-use lib.Seq.{take-append-seam}
+use lib.ListN.{length, getD, set, take, length-set}
 use borrow.Author.Tests.{ltb-true, ltb-false, ne-eqb}
 use Rattle.kinds.specs.Pick.{pick}
 use Rattle.kinds.specs.Kinds.{top}
@@ -21,14 +20,15 @@ use Rattle.rules.specs.Tables.{observed}
 use Rattle.rules.specs.Tests.{Verdict, pass, observationTest}
 use Rattle.rules.specs.Calls.{snap, own, refusal, afterAccepted, afterRefused, afterBy, after, answerAccepted, answerBy, answer, shownBy, shown}
 use Rattle.settled.specs.declared.Snapshot.{Snapshot}
+use Rattle.rules.specs.Accepted.{Observes}
+use Rattle.rules.proofs.Tallies.{minimum-member, minimum-bound, taken-active, active-taken, used-places}
 use Rattle.upstream.specs.States.{Slot, State, slot, at, pairs, stateOf, stateAfter, historyBy, Foreseen}
 use Rattle.upstream.specs.Tallies.{«maximum_active»}
 use Rattle.upstream.specs.Relations.{HistoryOf, WellFormed, Sound, Coherent}
 use Rattle.upstream.specs.Clauses.{SnapshotLocked, CreateSnapshot, CreateTransactionSnapshot}
 use Rattle.upstream.proofs.Pairs.{pairs-length, pairs-set-xmin}
 use Rattle.upstream.proofs.Tallies.{active-same, minimum-same, maximum-same}
-use Rattle.upstream.proofs.Places.{minimum-low, minimum-positive}
-use Rattle.upstream.proofs.Runs.{Sees, Observes, seen, observes, observes-pass, Owns, outside, other, owned, owns-then}
+use Rattle.upstream.proofs.Runs.{Observing, seen, observing, observes-pass, Owning, outside, other, owned, owning-then}
 use Rattle.upstream.proofs.Moves.{with-history, slotsOf, txid-at, well-observed, well-marked}
 
 -- the largest txid is below a clock that every txid is below
@@ -85,7 +85,7 @@ module _ (n : ℕ) (xs ys : List ℕ) (p : length xs ≡ n) (q : length ys ≡ n
       }
     where
       seam : take (length (ours xs)) (places n (ours xs)) ≡ ours xs
-      seam = take-append-seam (ours xs) (replicate (n - length (ours xs)) 0)
+      seam = used-places n (ours xs)
 
 -- create_snapshot promises no more than snapshot_locked
 pub create-from-locked :
@@ -99,10 +99,14 @@ create-from-locked n old new snapshot r =
       l-create-snapshot-e6 = r .l-snapshot-locked-e3;
     }
 
+-- a snapshot's xmin is not 0
+minimum-positive : (xs : List ℕ) (a : ℕ) → 0 < a → 0 < minimum a (ours xs)
+minimum-positive xs a h = minimum-bound a (ours xs) 1 h (λ x e. let (i, p, z) = active-taken xs x e in omega arith)
+
 -- E1 of the transaction snapshot alone, which needs no bound on the clock
 module _ (n : ℕ) (t : Table) (history : List ℕ) (y : Sound n t) (i : SlotNo) (id : Txid) (c m : ℕ) where
   own-well :
-      (v : Verdict) → Owns n (t .txids) i id (Sees (t .clock) c m) v → HistoryOf (stateOf t history) →
+      (v : Verdict) → Owning n (t .txids) i id (Observes (t .clock) c m) v → HistoryOf (stateOf t history) →
       WellFormed n (stateOf (afterBy v t (own i id c m)) (historyBy v history (own i id c m)))
   unfolding afterAccepted afterRefused
   own-well v (outside h) p = with-history n t history y p
@@ -111,17 +115,17 @@ module _ (n : ℕ) (t : Table) (history : List ℕ) (y : Sound n t) (i : SlotNo)
       well-marked n (observed c m t) history (well-observed n t history (with-history n t history y p) c m f)
       (i .0) (minimum m (ours (t .txids)))
       (record { txids-size = y .shape .txids-size; xmins-size = y .shape .xmins-size }) taken
-      (minimum-positive (t .txids) m (f .positive)) (minimum-low (t .txids) m (i .0) taken)
+      (minimum-positive (t .txids) m (f .positive)) (minimum-member m (ours (t .txids)) _ (taken-active (t .txids) (i .0) taken))
     where
       taken : getD (t .txids) (i .0) 0 ≢ 0
       taken e = z (sym o ∙ e)
 
   own-goes :
       Foreseen (refusal n t (own i id c m)) →
-      Owns n (t .txids) i id (Sees (t .clock) c m) (refusal n t (own i id c m))
+      Owning n (t .txids) i id (Observes (t .clock) c m) (refusal n t (own i id c m))
   unfolding refusal
   own-goes f =
-      owns-then n (t .txids) i id (observationTest (t .clock) c m) (Sees (t .clock) c m) (observes-pass (t .clock) c m) f
+      owning-then n (t .txids) i id (observationTest (t .clock) c m) (Observes (t .clock) c m) (observes-pass (t .clock) c m) f
 
   pub own-keeps :
       Foreseen (refusal n t (own i id c m)) → HistoryOf (stateOf t history) →
@@ -141,7 +145,7 @@ module _
 
   module _ (c m : ℕ) where
     pub locked-run :
-        (v : Verdict) → Observes (t .clock) c m v →
+        (v : Verdict) → Observing (t .clock) c m v →
         SnapshotLocked n (stateOf t history) (stateOf (afterBy v t (snap c m)) (historyBy v history (snap c m)))
         (shownBy v n t m)
     unfolding afterAccepted
@@ -164,7 +168,7 @@ module _
         Foreseen (refusal n t (snap c m)) →
         SnapshotLocked n (stateOf t history) (stateAfter n t history (snap c m)) (shown n t (snap c m) m)
     unfolding refusal after shown
-    snapshot-locked-meets f = locked-run (refusal n t (snap c m)) (observes (t .clock) c m f)
+    snapshot-locked-meets f = locked-run (refusal n t (snap c m)) (observing (t .clock) c m f)
 
     pub create-snapshot-meets :
         Foreseen (refusal n t (snap c m)) →
@@ -173,7 +177,7 @@ module _
 
   module _ (i : SlotNo) (id : Txid) (c m : ℕ) where
     own-run :
-        (v : Verdict) → Owns n (t .txids) i id (Sees (t .clock) c m) v →
+        (v : Verdict) → Owning n (t .txids) i id (Observes (t .clock) c m) v →
         CreateTransactionSnapshot n (stateOf t history)
         (stateOf (afterBy v t (own i id c m)) (historyBy v history (own i id c m))) i id (answerBy v t (own i id c m))
         (shownBy v n t m)
