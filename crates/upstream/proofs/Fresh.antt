@@ -18,8 +18,8 @@ use Rattle.rules.proofs.Tallies.{listed-none, listed-cases}
 use Rattle.rules.proofs.Steps.{run-snoc, good-reached}
 use Rattle.rules.proofs.Reserved.{reservations-snoc}
 use Rattle.rules.proofs.WellFormed.{reached-well-formed}
-use Rattle.upstream.specs.States.{State, Slot, slot, at, pairs, push, pushes, stateOf, stateAfter}
-use Rattle.upstream.specs.Relations.{Contains, HistoryOf, WellFormed, Sound}
+use Rattle.upstream.specs.States.{State, slot, at, pairs, push, pushes, stateOf, stateAfter}
+use Rattle.upstream.specs.Relations.{Contains, WellFormed, Sound}
 use Rattle.upstream.proofs.Pairs.{pairs-at}
 use Rattle.upstream.proofs.Moves.{slotsOf, txid-at}
 use Rattle.upstream.proofs.Yes.{from-good}

@@ -10,7 +10,6 @@ use lib.Dec.{leb}
 use lib.ListN.{getD, replicate}
 use borrow.Author.Tests.{leb-true, leb-false}
 use Rattle.kinds.specs.Pick.{pick}
-use Rattle.kinds.specs.Kinds.{top}
 use Rattle.kinds.specs.declared.Stamp.{Stamp}
 use Rattle.kinds.specs.declared.SlotNo.{SlotNo}
 use Rattle.kinds.specs.declared.Txid.{Txid}
@@ -25,6 +24,7 @@ use Rattle.rules.specs.Calls.{Answer, values, answerTold, afterAccepted, answer
 use Rattle.rules.specs.Accepted.{Reserves, Observes}
 use Rattle.rules.specs.History.{run}
 use Rattle.rules.specs.Reservations.{reservationsFrom}
+use Rattle.rules.proofs.BelowTop.{BelowTop}
 use Rattle.settled.specs.declared.Snapshot.{Snapshot}
 use Rattle.upstream.specs.States.{Slot, at, pairs, push, stateOf}
 use Rattle.upstream.specs.Relations.{Sound}
@@ -83,7 +83,7 @@ module _ (n : ℕ) (t : Table) (history : List ℕ) (y : Sound n t) where
       record { onward = h; positive = le-refl 1; within = omega arith }
 
   pub always-sample-one :
-      (c : ℕ) → t .clock ≤ top → t .clock ≤ c →
+      (c : ℕ) → BelowTop t → t .clock ≤ c →
       SnapshotLocked n (stateOf t history) (stateOf (observed c 1 t) history) (snapshotOf n (t .txids) 1)
   unfolding afterAccepted
   always-sample-one c u h = locked-run n t history y u c 1 pass (seen (one c h))

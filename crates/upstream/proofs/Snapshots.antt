@@ -5,6 +5,7 @@ use mathlib.Core.Logic.{_≢_}
 use mathlib.Core.Bool.{Bool, true, false}
 use mathlib.Core.List.{List, [], _∷_}
 use native.Mathlib.Nat.{suc-ne-zero, le-trans, le-refl}
+use native.Mathlib.Decide.{ℕ-discrete}
 use native.Mathlib.Omega.{arith}
 use lib.Dec.{ltb}
 use lib.ListN.{length, getD, set, take, length-set}
@@ -16,33 +17,20 @@ use Rattle.kinds.specs.declared.Txid.{Txid}
 use Rattle.kinds.specs.Refusals.{told}
 use Rattle.rules.specs.declared.Table.{Table}
 use Rattle.rules.specs.Tally.{active as ours, minimum, maximum, xmaxOf, places, snapshotOf}
-use Rattle.rules.specs.Tables.{observed}
+use Rattle.rules.specs.Tables.{txidAt, observed}
 use Rattle.rules.specs.Tests.{Verdict, pass, observationTest}
 use Rattle.rules.specs.Calls.{snap, own, refusal, afterAccepted, afterRefused, afterBy, after, answerAccepted, answerBy, answer, shownBy, shown}
 use Rattle.settled.specs.declared.Snapshot.{Snapshot}
 use Rattle.rules.specs.Accepted.{Observes}
-use Rattle.rules.proofs.Tallies.{minimum-member, minimum-bound, taken-active, active-taken, used-places}
+use Rattle.rules.proofs.Tallies.{minimum-member, minimum-bound, maximum-bound, taken-active, active-taken, used-places}
+use Rattle.rules.proofs.BelowTop.{BelowTop}
 use Rattle.upstream.specs.States.{Slot, State, slot, at, pairs, stateOf, stateAfter, historyBy, Foreseen}
-use Rattle.upstream.specs.Tallies.{«maximum_active»}
 use Rattle.upstream.specs.Relations.{HistoryOf, WellFormed, Sound, Coherent}
 use Rattle.upstream.specs.Clauses.{SnapshotLocked, CreateSnapshot, CreateTransactionSnapshot}
 use Rattle.upstream.proofs.Pairs.{pairs-length, pairs-set-xmin}
 use Rattle.upstream.proofs.Tallies.{active-same, minimum-same, maximum-same}
 use Rattle.upstream.proofs.Runs.{Observing, seen, observing, observes-pass, Owning, outside, other, owned, owning-then}
 use Rattle.upstream.proofs.Moves.{with-history, slotsOf, txid-at, well-observed, well-marked}
-
--- the largest txid is below a clock that every txid is below
-maximum-below :
-    (ss : List Slot) (c k : ℕ) → ((i : ℕ) → at ss i .txid ≢ 0 → at ss i .txid < c) → 0 < c → «maximum_active» ss k < c
-unfolding «maximum_active»
-maximum-below ss c zero p h = h
-maximum-below ss c (suc k) p h = go (ltb («maximum_active» ss k) (at ss k .txid)) refl (maximum-below ss c k p h)
-  where
-    go :
-        (b : Bool) → ltb («maximum_active» ss k) (at ss k .txid) ≡ b → «maximum_active» ss k < c →
-        pick b (at ss k .txid) («maximum_active» ss k) < c
-    go true e ih = let g = ltb-true («maximum_active» ss k) (at ss k .txid) e in p k (λ z. omega arith)
-    go false e ih = ih
 
 -- our held xmax is upstream's, which holds nothing, where the largest txid is below 2^64 − 1
 larger : (a m : ℕ) → a ≤ top → max m (min a top) ≡ pick (ltb a m) m a
@@ -133,14 +121,24 @@ module _ (n : ℕ) (t : Table) (history : List ℕ) (y : Sound n t) (i : SlotNo)
   unfolding after
   own-keeps f = own-well (refusal n t (own i id c m)) (own-goes f)
 
+-- in 64 bits a sound table has no txid from 2^64 − 1 on
+pub below-top : (n : ℕ) (t : Table) → Sound n t → t .clock ≤ top → BelowTop t
+below-top n t y u i = go (ℕ-discrete (txidAt t i) 0)
+  where
+    same : at (slotsOf t) i .txid ≡ txidAt t i
+    same = txid-at n t i (y .shape)
+
+    go : Dec (txidAt t i ≡ 0) → txidAt t i < top
+    go (yes e) = rw e (omega arith)
+    go (no d) = let b = rw same at (y .table .txid-below i (λ q. d (sym same ∙ q))) in omega arith
+
 module _
-    (n : ℕ) (t : Table) (history : List ℕ) (y : Sound n t) (u : t .clock ≤ top) where
-  -- no txid of the table reaches 2^64 − 1
+    (n : ℕ) (t : Table) (history : List ℕ) (y : Sound n t) (u : BelowTop t) where
   held : maximum 0 (ours (t .txids)) + 1 ≤ top
   held =
-      let e = maximum-same (t .txids) (t .«snapshot_xmins») (y .shape .txids-size ∙ sym (y .shape .xmins-size)) in
-      let c : 0 < t .clock = le-trans (y .table .sample-positive) (y .table .sample-within) in
-      let b = maximum-below (slotsOf t) (t .clock) (length (t .txids)) (y .table .txid-below) c in
+      let b = maximum-bound 0 (ours (t .txids)) (top - 1) (omega arith)
+      (λ x e. let (i, p, z) = active-taken (t .txids) x e in let h = u i in omega arith)
+      in
       omega arith
 
   module _ (c m : ℕ) where

@@ -14,7 +14,7 @@ use Rattle.upstream.specs.States.{Slot, slot, at}
 use Rattle.upstream.specs.Relations.{Sound}
 use Rattle.upstream.proofs.Pairs.{pairs-length, pairs-at}
 use Rattle.upstream.proofs.Kept.{SlotFine, fine-empty, fine-taken}
-use Rattle.upstream.proofs.Moves.{slotsOf, txid-at}
+use Rattle.upstream.proofs.Moves.{slotsOf}
 
 slot-fine : (clock line x y : ℕ) → SlotGood clock line x y → SlotFine clock (slot x y)
 slot-fine clock line x y (empty a b) = rw (a, b) (fine-empty clock)
