@@ -10,18 +10,18 @@ use Rattle.rules.specs.declared.Table.{Table}
 use Rattle.rules.specs.Tally.{lowestEmpty}
 use Rattle.rules.specs.Tests.{Verdict}
 use Rattle.rules.specs.Calls.{begin, refusal, afterAccepted, afterRefused, afterBy, after, answerAccepted, answerBy, answer}
+use Rattle.rules.proofs.Tallies.{lowest-empty, below-lowest}
 use Rattle.upstream.specs.States.{stateOf, stateAfter, historyBy, Foreseen}
 use Rattle.upstream.specs.Relations.{Sound}
 use Rattle.upstream.specs.Clauses.{BeginTransaction, BeginAcquired}
 use Rattle.upstream.proofs.Pairs.{pairs-set}
-use Rattle.upstream.proofs.Places.{lowest-is-empty, below-lowest}
-use Rattle.upstream.proofs.Runs.{Begins, entered, full, begins}
+use Rattle.upstream.proofs.Runs.{Beginning, entered, full, beginning}
 use Rattle.upstream.proofs.Kept.{length-push}
 use Rattle.upstream.proofs.Moves.{with-history, txid-at, well-reserved, well-entered}
 
 module _ (n : ℕ) (t : Table) (history : List ℕ) (k : Stamp) (y : Sound n t) where
   by-run :
-      (v : Verdict) → Begins n (t .txids) (t .clock) k v →
+      (v : Verdict) → Beginning n (t .txids) (t .clock) k v →
       BeginTransaction n (stateOf t history) (stateOf (afterBy v t (begin k)) (historyBy v history (begin k)))
       (answerBy v t (begin k))
   unfolding afterAccepted afterRefused answerAccepted told
@@ -35,7 +35,7 @@ module _ (n : ℕ) (t : Table) (history : List ℕ) (k : Stamp) (y : Sound n t) 
               l-begin-e5a = room;
               l-begin-e5b = f .from-clock;
               l-begin-e5c = refl;
-              l-begin-e5d = txid-at n t (lowestEmpty (t .txids)) (y .shape) ∙ lowest-is-empty (t .txids);
+              l-begin-e5d = txid-at n t (lowestEmpty (t .txids)) (y .shape) ∙ lowest-empty (t .txids);
               l-begin-e5e = pairs-set (t .txids) (t .«snapshot_xmins») (lowestEmpty (t .txids)) (k .0) (k .0);
             };
         l-begin-e67 = λ e. absurd (e refl);
@@ -61,10 +61,10 @@ module _ (n : ℕ) (t : Table) (history : List ℕ) (k : Stamp) (y : Sound n t) 
       Foreseen (refusal n t (begin k)) →
       BeginTransaction n (stateOf t history) (stateAfter n t history (begin k)) (answer n t (begin k))
   unfolding refusal after answer
-  begin-meets f = by-run (refusal n t (begin k)) (begins n (t .txids) (t .clock) k f)
+  begin-meets f = by-run (refusal n t (begin k)) (beginning n (t .txids) (t .clock) k f)
 
   acquired-run :
-      (v : Verdict) → Begins n (t .txids) (t .clock) k v →
+      (v : Verdict) → Beginning n (t .txids) (t .clock) k v →
       BeginAcquired (stateOf t history) (stateOf (afterBy v t (begin k)) (historyBy v history (begin k)))
       (answerBy v t (begin k))
   unfolding afterAccepted afterRefused answerAccepted told
@@ -75,4 +75,4 @@ module _ (n : ℕ) (t : Table) (history : List ℕ) (k : Stamp) (y : Sound n t) 
       Foreseen (refusal n t (begin k)) →
       BeginAcquired (stateOf t history) (stateAfter n t history (begin k)) (answer n t (begin k))
   unfolding refusal after answer
-  begin-acquired-meets f = acquired-run (refusal n t (begin k)) (begins n (t .txids) (t .clock) k f)
+  begin-acquired-meets f = acquired-run (refusal n t (begin k)) (beginning n (t .txids) (t .clock) k f)

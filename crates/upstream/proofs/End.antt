@@ -14,13 +14,13 @@ use Rattle.upstream.specs.States.{stateOf, stateAfter, historyBy, Forese
 use Rattle.upstream.specs.Relations.{Sound}
 use Rattle.upstream.specs.Clauses.{EndTransaction}
 use Rattle.upstream.proofs.Pairs.{pairs-set}
-use Rattle.upstream.proofs.Runs.{Owns, outside, other, owned, owns}
+use Rattle.upstream.proofs.Runs.{Owning, outside, other, owned, owning}
 use Rattle.upstream.proofs.Moves.{with-history, txid-at, well-cleared}
 
 module _
     (n : ℕ) (t : Table) (history : List ℕ) (i : SlotNo) (id : Txid) (y : Sound n t) where
   by-run :
-      (v : Verdict) → Owns n (t .txids) i id Unit v →
+      (v : Verdict) → Owning n (t .txids) i id Unit v →
       EndTransaction n (stateOf t history) (stateOf (afterBy v t (end i id)) (historyBy v history (end i id))) i id
       (answerBy v t (end i id))
   unfolding afterAccepted afterRefused answerAccepted told
@@ -64,4 +64,4 @@ module _
       Foreseen (refusal n t (end i id)) →
       EndTransaction n (stateOf t history) (stateAfter n t history (end i id)) i id (answer n t (end i id))
   unfolding refusal after answer
-  end-meets f = by-run (refusal n t (end i id)) (owns n (t .txids) i id f)
+  end-meets f = by-run (refusal n t (end i id)) (owning n (t .txids) i id f)

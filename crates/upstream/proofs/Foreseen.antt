@@ -1,22 +1,39 @@
 -- What upstream required of a call, and what its trait promised of numbers, clocks and samples, keeps refusals 4 to 8 away.
 use Prim.Native.Nat.{ℕ, _<_}
+use mathlib.Core.Path.{_≡_}
 use mathlib.Core.Bool.{Bool, true, false}
+use native.Mathlib.Omega.{arith}
 use lib.Dec.{eqb, leb}
 use lib.ListN.{getD}
+use borrow.Author.Tests.{ne-eqb}
 use Rattle.kinds.specs.Pick.{pick}
-use Rattle.kinds.specs.Kinds.{top, txidOf}
+use Rattle.kinds.specs.Kinds.{txidOf}
 use Rattle.kinds.specs.declared.Stamp.{Stamp}
 use Rattle.kinds.specs.declared.SlotNo.{SlotNo}
 use Rattle.kinds.specs.declared.Txid.{Txid}
 use Rattle.kinds.specs.declared.refusal.Refusal.the-variants.{NoFreeSlot, InvalidSlot}
 use Rattle.rules.specs.declared.Table.{Table}
 use Rattle.rules.specs.Tally.{lowestEmpty}
-use Rattle.rules.specs.Tests.{Verdict, pass, refuse, then, ownerTest, fullTest}
+use Rattle.rules.specs.Tests.{Verdict, pass, refuse, then, zeroTest, ownerTest, reservationTest, fullTest, observationTest}
+use Rattle.rules.specs.Accepted.{Reserves, Observes}
 use Rattle.rules.specs.Calls.{begin, end, snap, own, oldest, stamp, finish, refusal}
+use Rattle.rules.proofs.Tests.{acceptable-accepted}
 use Rattle.upstream.specs.States.{Foreseen}
-use Rattle.upstream.proofs.Runs.{Fits, Sees, mismatch, fits-passes, sees-passes, positive-passes}
+use Rattle.upstream.proofs.Runs.{mismatch}
+
+pub positive-passes : (id : Txid) → 0 < id .0 → zeroTest id ≡ pass
+positive-passes id h = rw (ne-eqb (id .0) 0 (λ z. omega arith))
 
 module _ (n : ℕ) (t : Table) where
+  -- what the trait promised of a number, and of a clock with its sample, is what our tests ask for
+  pub number-passes : (k : Stamp) → Reserves (t .clock) (k .0) → reservationTest (t .clock) k ≡ pass
+  unfolding refusal
+  number-passes k r = acceptable-accepted n t (stamp k) r
+
+  pub sample-passes : (c m : ℕ) → Observes (t .clock) c m → observationTest (t .clock) c m ≡ pass
+  unfolding refusal
+  sample-passes c m o = acceptable-accepted n t (snap c m) o
+
   full-foreseen : (k : Stamp) → Foreseen (fullTest n (t .txids) k)
   full-foreseen k = go (leb n (lowestEmpty (t .txids)))
     where
@@ -36,32 +53,32 @@ module _ (n : ℕ) (t : Table) where
       go false true = f
       go false false = tt
 
-  pub begin-foreseen : (k : Stamp) → t .clock < top → Fits (t .clock) (k .0) → Foreseen (refusal n t (begin k))
+  pub begin-foreseen : (k : Stamp) → Reserves (t .clock) (k .0) → Foreseen (refusal n t (begin k))
   unfolding refusal
-  begin-foreseen k h f = rw (fits-passes (t .clock) k h f) (full-foreseen k)
+  begin-foreseen k f = rw (number-passes k f) (full-foreseen k)
 
-  pub snap-foreseen : (c m : ℕ) → Sees (t .clock) c m → Foreseen (refusal n t (snap c m))
+  pub snap-foreseen : (c m : ℕ) → Observes (t .clock) c m → Foreseen (refusal n t (snap c m))
   unfolding refusal
-  snap-foreseen c m f = rw (sees-passes (t .clock) c m f) tt
+  snap-foreseen c m f = rw (sample-passes c m f) tt
 
-  pub oldest-foreseen : (c m : ℕ) → Sees (t .clock) c m → Foreseen (refusal n t (oldest c m))
+  pub oldest-foreseen : (c m : ℕ) → Observes (t .clock) c m → Foreseen (refusal n t (oldest c m))
   unfolding refusal
-  oldest-foreseen c m f = rw (sees-passes (t .clock) c m f) tt
+  oldest-foreseen c m f = rw (sample-passes c m f) tt
 
   pub own-foreseen :
-      (i : SlotNo) (id : Txid) (c m : ℕ) → 0 < id .0 → Sees (t .clock) c m → Foreseen (refusal n t (own i id c m))
+      (i : SlotNo) (id : Txid) (c m : ℕ) → 0 < id .0 → Observes (t .clock) c m → Foreseen (refusal n t (own i id c m))
   unfolding refusal
-  own-foreseen i id c m h f = rw (sees-passes (t .clock) c m f) (owner-foreseen i id pass h tt)
+  own-foreseen i id c m h f = rw (sample-passes c m f) (owner-foreseen i id pass h tt)
 
-  pub stamp-foreseen : (k : Stamp) → t .clock < top → Fits (t .clock) (k .0) → Foreseen (refusal n t (stamp k))
+  pub stamp-foreseen : (k : Stamp) → Reserves (t .clock) (k .0) → Foreseen (refusal n t (stamp k))
   unfolding refusal
-  stamp-foreseen k h f = rw (fits-passes (t .clock) k h f) tt
+  stamp-foreseen k f = rw (number-passes k f) tt
 
   pub finish-foreseen :
-      (i : SlotNo) (id : Txid) (k : Stamp) → 0 < id .0 → t .clock < top → Fits (t .clock) (k .0) →
+      (i : SlotNo) (id : Txid) (k : Stamp) → 0 < id .0 → Reserves (t .clock) (k .0) →
       Foreseen (refusal n t (finish i id k))
   unfolding refusal
-  finish-foreseen i id k z h f = rw (fits-passes (t .clock) k h f) (owner-foreseen i id pass z tt)
+  finish-foreseen i id k z f = rw (number-passes k f) (owner-foreseen i id pass z tt)
 
   pub end-foreseen : (i : SlotNo) (id : Txid) → 0 < id .0 → Foreseen (refusal n t (end i id))
   unfolding refusal

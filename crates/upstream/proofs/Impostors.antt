@@ -10,7 +10,6 @@ use lib.Dec.{leb}
 use lib.ListN.{getD, replicate}
 use borrow.Author.Tests.{leb-true, leb-false}
 use Rattle.kinds.specs.Pick.{pick}
-use Rattle.kinds.specs.Kinds.{top}
 use Rattle.kinds.specs.declared.Stamp.{Stamp}
 use Rattle.kinds.specs.declared.SlotNo.{SlotNo}
 use Rattle.kinds.specs.declared.Txid.{Txid}
@@ -22,19 +21,23 @@ use Rattle.rules.specs.Tally.{oldestOf, snapshotOf}
 use Rattle.rules.specs.Tables.{freshTable, withSlot, withClock, withLine, observed}
 use Rattle.rules.specs.Tests.{pass, refuse}
 use Rattle.rules.specs.Calls.{Answer, values, answerTold, afterAccepted, answerAccepted}
+use Rattle.rules.specs.Accepted.{Reserves, Observes}
+use Rattle.rules.specs.History.{run}
+use Rattle.rules.specs.Reservations.{reservationsFrom}
+use Rattle.rules.proofs.BelowTop.{BelowTop}
 use Rattle.settled.specs.declared.Snapshot.{Snapshot}
 use Rattle.upstream.specs.States.{Slot, at, pairs, push, stateOf}
 use Rattle.upstream.specs.Relations.{Sound}
 use Rattle.upstream.specs.Clauses.{CheckedSlot, BeginTransaction, SnapshotLocked, CreateTransactionSnapshot, OldestSnapshotXmin, DeregisterThenReserve}
 use Rattle.upstream.proofs.Pairs.{pairs-set}
-use Rattle.upstream.proofs.Runs.{Fits, Sees, seen}
+use Rattle.upstream.proofs.Runs.{seen}
 use Rattle.upstream.proofs.Kept.{length-push, history-push}
 use Rattle.upstream.proofs.Moves.{slotsOf, with-history, txid-at, well-observed, well-entered}
 use Rattle.upstream.proofs.Checked.{not-refused, not-passed}
 use Rattle.upstream.proofs.Snapshots.{locked-run}
 use Rattle.upstream.proofs.Oldest.{oldest-run}
 use Rattle.upstream.proofs.Publish.{above}
-use Rattle.upstream.proofs.Fresh.{fresh-at, fresh-well-formed}
+use Rattle.upstream.proofs.Fresh.{fresh-at, from-fresh}
 
 abbrev none-free : ℕ → Answer
 none-free id = answerTold (told (NoFreeSlot (record { 0 = id })))
@@ -50,7 +53,7 @@ wrong-kind n slot x = go (leb n (slot .0)) refl
 module _ (n : ℕ) (t : Table) (history : List ℕ) (y : Sound n t) where
   -- begin: any empty slot i, the highest too, and the sample set to 1
   pub any-slot-sample-one :
-      (i k : ℕ) → Fits (t .clock) k → i < n → getD (t .txids) i 0 ≡ 0 →
+      (i k : ℕ) → Reserves (t .clock) k → i < n → getD (t .txids) i 0 ≡ 0 →
       BeginTransaction n (stateOf t history)
       (stateOf (observed (k + 1) 1 (withSlot i k k (withClock (k + 1) t))) (push history k)) (values i k 0 0 0 [])
   any-slot-sample-one i k f h e =
@@ -73,14 +76,14 @@ module _ (n : ℕ) (t : Table) (history : List ℕ) (y : Sound n t) where
       }
 
   -- the snapshots and the oldest: sample 1 for ever, whatever was given, and any clock from the table's on
-  one : (c : ℕ) → t .clock ≤ c → Sees (t .clock) c 1
+  one : (c : ℕ) → t .clock ≤ c → Observes (t .clock) c 1
   one c h =
       let p = y .table .sample-positive in
       let q = y .table .sample-within in
       record { onward = h; positive = le-refl 1; within = omega arith }
 
   pub always-sample-one :
-      (c : ℕ) → t .clock ≤ top → t .clock ≤ c →
+      (c : ℕ) → BelowTop t → t .clock ≤ c →
       SnapshotLocked n (stateOf t history) (stateOf (observed c 1 t) history) (snapshotOf n (t .txids) 1)
   unfolding afterAccepted
   always-sample-one c u h = locked-run n t history y u c 1 pass (seen (one c h))
@@ -94,7 +97,7 @@ module _ (n : ℕ) (t : Table) (history : List ℕ) (y : Sound n t) where
 
   -- the transaction snapshot: a refusal that moves clock and sample, and is called NoFreeSlot
   pub refused-moves-clock :
-      (i : SlotNo) (id : Txid) (c m : ℕ) (s : Snapshot) → Sees (t .clock) c m → at (stateOf t history .slots) (i .0) .txid ≢ id .0 →
+      (i : SlotNo) (id : Txid) (c m : ℕ) (s : Snapshot) → Observes (t .clock) c m → at (stateOf t history .slots) (i .0) .txid ≢ id .0 →
       CreateTransactionSnapshot n (stateOf t history) (stateOf (observed c m t) history) i id (none-free 0) s
   unfolding told
   refused-moves-clock i id c m s f d =
@@ -120,16 +123,16 @@ module _ (n : ℕ) (t : Table) (history : List ℕ) (y : Sound n t) where
 
   -- finish: empties every slot, and sets the sample to 1
   pub empties-all :
-      (i : SlotNo) (id : Txid) (k : Stamp) → id .0 ≢ 0 → Fits (t .clock) (k .0) →
+      (i : SlotNo) (id : Txid) (k : Stamp) → id .0 ≢ 0 → Reserves (t .clock) (k .0) →
       DeregisterThenReserve n (stateOf t history) (stateOf (observed (k .0 + 1) 1 (freshTable n)) (push history (k .0))) id
       (values 0 (k .0) 0 0 0 [])
-  unfolding freshTable
+  unfolding freshTable run reservationsFrom
   empties-all i id k z f =
       record {
         l-finish-e1 =
             λ p. record {
               table =
-                  well-observed n (freshTable n) [] (fresh-well-formed n) (k .0 + 1) 1
+                  well-observed n (freshTable n) [] (from-fresh n []) (k .0 + 1) 1
                   (record { onward = omega arith; positive = le-refl 1; within = omega arith })
                   .table;
               history =

@@ -9,10 +9,10 @@ use native.Mathlib.Omega.{arith}
 use lib.ListN.{getD, set}
 use Rattle.rules.specs.declared.Table.{Table}
 use Rattle.rules.specs.Tables.{withSlot, withXmin, withClock, observed}
+use Rattle.rules.specs.Accepted.{Reserves, Observes}
 use Rattle.upstream.specs.States.{Slot, slot, at, pairs, push, stateOf, Shaped}
 use Rattle.upstream.specs.Relations.{Contains, HistoryOf, WellFormed, Sound}
 use Rattle.upstream.proofs.Pairs.{pairs-at, pairs-set, pairs-set-xmin}
-use Rattle.upstream.proofs.Runs.{Fits, Sees}
 use Rattle.upstream.proofs.Kept.{Stored, here, elsewhere, stored, fine-empty, fine-taken, table-clocks, table-set, contains-old, contains-last, history-same, history-push}
 
 -- a table's slots, as upstream has them
@@ -38,7 +38,7 @@ held-once n t y i j d z e = go (decLt i j)
     go (no h) = y .table .distinct j i (omega arith) (λ q. z (sym e ∙ q)) e
 
 module _ (n : ℕ) (t : Table) (history : List ℕ) (w : WellFormed n (stateOf t history)) where
-  pub well-reserved : (k : ℕ) → Fits (t .clock) k → WellFormed n (stateOf (withClock (k + 1) t) (push history k))
+  pub well-reserved : (k : ℕ) → Reserves (t .clock) k → WellFormed n (stateOf (withClock (k + 1) t) (push history k))
   well-reserved k f =
       record {
         table =
@@ -50,7 +50,7 @@ module _ (n : ℕ) (t : Table) (history : List ℕ) (w : WellFormed n (stateOf t
             (λ i z. contains-old history k _ (w .history .registered i z));
       }
 
-  pub well-observed : (c m : ℕ) → Sees (t .clock) c m → WellFormed n (stateOf (observed c m t) history)
+  pub well-observed : (c m : ℕ) → Observes (t .clock) c m → WellFormed n (stateOf (observed c m t) history)
   well-observed c m f =
       record {
         table =
@@ -79,7 +79,7 @@ module _ (n : ℕ) (t : Table) (history : List ℕ) (w : WellFormed n (stateOf t
       left j (elsewhere e q) z = rw q (w .history .registered j (rw q at z))
 
   pub well-entered :
-      (i k : ℕ) → Fits (t .clock) k → WellFormed n (stateOf (withSlot i k k (withClock (k + 1) t)) (push history k))
+      (i k : ℕ) → Reserves (t .clock) k → WellFormed n (stateOf (withSlot i k k (withClock (k + 1) t)) (push history k))
   well-entered i k f =
       record {
         table =

@@ -9,13 +9,13 @@ use Rattle.upstream.specs.States.{stateOf, stateAfter, historyBy, Forese
 use Rattle.upstream.specs.Relations.{Sound}
 use Rattle.upstream.specs.Clauses.{OldestSnapshotXmin}
 use Rattle.upstream.proofs.Tallies.{retention-same}
-use Rattle.upstream.proofs.Runs.{Observes, seen, observes}
+use Rattle.upstream.proofs.Runs.{Observing, seen, observing}
 use Rattle.upstream.proofs.Moves.{with-history, well-observed}
 
 module _
     (n : ℕ) (t : Table) (history : List ℕ) (c m : ℕ) (y : Sound n t) where
   pub oldest-run :
-      (v : Verdict) → Observes (t .clock) c m v →
+      (v : Verdict) → Observing (t .clock) c m v →
       OldestSnapshotXmin n (stateOf t history) (stateOf (afterBy v t (oldest c m)) (historyBy v history (oldest c m)))
       (answerBy v t (oldest c m))
   unfolding afterAccepted answerAccepted
@@ -34,4 +34,4 @@ module _
       Foreseen (refusal n t (oldest c m)) →
       OldestSnapshotXmin n (stateOf t history) (stateAfter n t history (oldest c m)) (answer n t (oldest c m))
   unfolding refusal after answer
-  oldest-meets f = oldest-run (refusal n t (oldest c m)) (observes (t .clock) c m f)
+  oldest-meets f = oldest-run (refusal n t (oldest c m)) (observing (t .clock) c m f)

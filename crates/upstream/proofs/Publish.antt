@@ -13,19 +13,20 @@ use Rattle.kinds.specs.Refusals.{told}
 use Rattle.rules.specs.declared.Table.{Table}
 use Rattle.rules.specs.Tables.{withClock}
 use Rattle.rules.specs.Tests.{Verdict, reservationTest}
+use Rattle.rules.specs.Accepted.{Reserves}
 use Rattle.rules.specs.Calls.{stamp, finish, refusal, afterAccepted, afterRefused, afterBy, after, answerAccepted, answerBy, answer}
 use Rattle.upstream.specs.States.{Slot, slot, at, push, stateOf, stateAfter, historyBy, Foreseen}
 use Rattle.upstream.specs.Relations.{Contains, HistoryOf, Sound}
 use Rattle.upstream.specs.Clauses.{ReservePublicationClock, DeregisterThenReserve}
 use Rattle.upstream.proofs.Pairs.{pairs-set}
-use Rattle.upstream.proofs.Runs.{Fits, Reserves, reserved, reserves, reserves-pass, Owns, outside, other, owned, owns-then}
+use Rattle.upstream.proofs.Runs.{Reserving, reserved, reserving, reserves-pass, Owning, outside, other, owned, owning-then}
 use Rattle.upstream.proofs.Kept.{Stored, here, elsewhere, stored}
 use Rattle.upstream.proofs.Moves.{slotsOf, with-history, txid-at, held-once, well-reserved, well-cleared}
 
 module _ (n : ℕ) (t : Table) (history : List ℕ) (y : Sound n t) where
   module _ (k : Stamp) where
     stamp-run :
-        (v : Verdict) → Reserves (t .clock) (k .0) v →
+        (v : Verdict) → Reserving (t .clock) (k .0) v →
         ReservePublicationClock n (stateOf t history) (stateOf (afterBy v t (stamp k)) (historyBy v history (stamp k)))
         (answerBy v t (stamp k))
     unfolding afterAccepted answerAccepted
@@ -47,7 +48,7 @@ module _ (n : ℕ) (t : Table) (history : List ℕ) (y : Sound n t) where
         Foreseen (refusal n t (stamp k)) →
         ReservePublicationClock n (stateOf t history) (stateAfter n t history (stamp k)) (answer n t (stamp k))
     unfolding refusal after answer
-    stamp-meets f = stamp-run (refusal n t (stamp k)) (reserves (t .clock) k f)
+    stamp-meets f = stamp-run (refusal n t (stamp k)) (reserving (t .clock) k f)
 
   module _ (i : SlotNo) (id : Txid) (k : Stamp) where
     -- the txid that was held in slot i is held nowhere after
@@ -66,13 +67,13 @@ module _ (n : ℕ) (t : Table) (history : List ℕ) (y : Sound n t) where
             (sym (ap (λ (a : Slot). a .txid) q) ∙ x ∙ sym mine)
 
     pub above :
-        Fits (t .clock) (k .0) → HistoryOf (stateOf t history) → (reader : ℕ) → Contains history reader → reader < k .0
+        Reserves (t .clock) (k .0) → HistoryOf (stateOf t history) → (reader : ℕ) → Contains history reader → reader < k .0
     above f p reader c =
         let b = rw (c .there) at (p .below (c .place) (c .inside)) in
         omega (arith, f .from-clock)
 
     finish-run :
-        (v : Verdict) → Owns n (t .txids) i id (Fits (t .clock) (k .0)) v →
+        (v : Verdict) → Owning n (t .txids) i id (Reserves (t .clock) (k .0)) v →
         DeregisterThenReserve n (stateOf t history)
         (stateOf (afterBy v t (finish i id k)) (historyBy v history (finish i id k))) id (answerBy v t (finish i id k))
     unfolding afterAccepted afterRefused answerAccepted told
@@ -102,4 +103,4 @@ module _ (n : ℕ) (t : Table) (history : List ℕ) (y : Sound n t) where
     unfolding refusal after answer
     finish-meets f =
         finish-run (refusal n t (finish i id k))
-        (owns-then n (t .txids) i id (reservationTest (t .clock) k) (Fits (t .clock) (k .0)) (reserves-pass (t .clock) k) f)
+        (owning-then n (t .txids) i id (reservationTest (t .clock) k) (Reserves (t .clock) (k .0)) (reserves-pass (t .clock) k) f)

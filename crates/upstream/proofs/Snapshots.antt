@@ -5,10 +5,10 @@ use mathlib.Core.Logic.{_≢_}
 use mathlib.Core.Bool.{Bool, true, false}
 use mathlib.Core.List.{List, [], _∷_}
 use native.Mathlib.Nat.{suc-ne-zero, le-trans, le-refl}
+use native.Mathlib.Decide.{ℕ-discrete}
 use native.Mathlib.Omega.{arith}
 use lib.Dec.{ltb}
-use lib.ListN.{length, getD, set, take, length-set, replicate}
-use lib.Seq.{take-append-seam}
+use lib.ListN.{length, getD, set, take, length-set}
 use borrow.Author.Tests.{ltb-true, ltb-false, ne-eqb}
 use Rattle.kinds.specs.Pick.{pick}
 use Rattle.kinds.specs.Kinds.{top}
@@ -17,32 +17,20 @@ use Rattle.kinds.specs.declared.Txid.{Txid}
 use Rattle.kinds.specs.Refusals.{told}
 use Rattle.rules.specs.declared.Table.{Table}
 use Rattle.rules.specs.Tally.{active as ours, minimum, maximum, xmaxOf, places, snapshotOf}
-use Rattle.rules.specs.Tables.{observed}
+use Rattle.rules.specs.Tables.{txidAt, observed}
 use Rattle.rules.specs.Tests.{Verdict, pass, observationTest}
 use Rattle.rules.specs.Calls.{snap, own, refusal, afterAccepted, afterRefused, afterBy, after, answerAccepted, answerBy, answer, shownBy, shown}
 use Rattle.settled.specs.declared.Snapshot.{Snapshot}
+use Rattle.rules.specs.Accepted.{Observes}
+use Rattle.rules.proofs.Tallies.{minimum-member, minimum-bound, maximum-bound, taken-active, active-taken, used-places}
+use Rattle.rules.proofs.BelowTop.{BelowTop}
 use Rattle.upstream.specs.States.{Slot, State, slot, at, pairs, stateOf, stateAfter, historyBy, Foreseen}
-use Rattle.upstream.specs.Tallies.{«maximum_active»}
 use Rattle.upstream.specs.Relations.{HistoryOf, WellFormed, Sound, Coherent}
 use Rattle.upstream.specs.Clauses.{SnapshotLocked, CreateSnapshot, CreateTransactionSnapshot}
 use Rattle.upstream.proofs.Pairs.{pairs-length, pairs-set-xmin}
 use Rattle.upstream.proofs.Tallies.{active-same, minimum-same, maximum-same}
-use Rattle.upstream.proofs.Places.{minimum-low, minimum-positive}
-use Rattle.upstream.proofs.Runs.{Sees, Observes, seen, observes, observes-pass, Owns, outside, other, owned, owns-then}
+use Rattle.upstream.proofs.Runs.{Observing, seen, observing, observes-pass, Owning, outside, other, owned, owning-then}
 use Rattle.upstream.proofs.Moves.{with-history, slotsOf, txid-at, well-observed, well-marked}
-
--- the largest txid is below a clock that every txid is below
-maximum-below :
-    (ss : List Slot) (c k : ℕ) → ((i : ℕ) → at ss i .txid ≢ 0 → at ss i .txid < c) → 0 < c → «maximum_active» ss k < c
-unfolding «maximum_active»
-maximum-below ss c zero p h = h
-maximum-below ss c (suc k) p h = go (ltb («maximum_active» ss k) (at ss k .txid)) refl (maximum-below ss c k p h)
-  where
-    go :
-        (b : Bool) → ltb («maximum_active» ss k) (at ss k .txid) ≡ b → «maximum_active» ss k < c →
-        pick b (at ss k .txid) («maximum_active» ss k) < c
-    go true e ih = let g = ltb-true («maximum_active» ss k) (at ss k .txid) e in p k (λ z. omega arith)
-    go false e ih = ih
 
 -- our held xmax is upstream's, which holds nothing, where the largest txid is below 2^64 − 1
 larger : (a m : ℕ) → a ≤ top → max m (min a top) ≡ pick (ltb a m) m a
@@ -85,7 +73,7 @@ module _ (n : ℕ) (xs ys : List ℕ) (p : length xs ≡ n) (q : length ys ≡ n
       }
     where
       seam : take (length (ours xs)) (places n (ours xs)) ≡ ours xs
-      seam = take-append-seam (ours xs) (replicate (n - length (ours xs)) 0)
+      seam = used-places n (ours xs)
 
 -- create_snapshot promises no more than snapshot_locked
 pub create-from-locked :
@@ -99,10 +87,14 @@ create-from-locked n old new snapshot r =
       l-create-snapshot-e6 = r .l-snapshot-locked-e3;
     }
 
+-- a snapshot's xmin is not 0
+minimum-positive : (xs : List ℕ) (a : ℕ) → 0 < a → 0 < minimum a (ours xs)
+minimum-positive xs a h = minimum-bound a (ours xs) 1 h (λ x e. let (i, p, z) = active-taken xs x e in omega arith)
+
 -- E1 of the transaction snapshot alone, which needs no bound on the clock
 module _ (n : ℕ) (t : Table) (history : List ℕ) (y : Sound n t) (i : SlotNo) (id : Txid) (c m : ℕ) where
   own-well :
-      (v : Verdict) → Owns n (t .txids) i id (Sees (t .clock) c m) v → HistoryOf (stateOf t history) →
+      (v : Verdict) → Owning n (t .txids) i id (Observes (t .clock) c m) v → HistoryOf (stateOf t history) →
       WellFormed n (stateOf (afterBy v t (own i id c m)) (historyBy v history (own i id c m)))
   unfolding afterAccepted afterRefused
   own-well v (outside h) p = with-history n t history y p
@@ -111,17 +103,17 @@ module _ (n : ℕ) (t : Table) (history : List ℕ) (y : Sound n t) (i : SlotNo)
       well-marked n (observed c m t) history (well-observed n t history (with-history n t history y p) c m f)
       (i .0) (minimum m (ours (t .txids)))
       (record { txids-size = y .shape .txids-size; xmins-size = y .shape .xmins-size }) taken
-      (minimum-positive (t .txids) m (f .positive)) (minimum-low (t .txids) m (i .0) taken)
+      (minimum-positive (t .txids) m (f .positive)) (minimum-member m (ours (t .txids)) _ (taken-active (t .txids) (i .0) taken))
     where
       taken : getD (t .txids) (i .0) 0 ≢ 0
       taken e = z (sym o ∙ e)
 
   own-goes :
       Foreseen (refusal n t (own i id c m)) →
-      Owns n (t .txids) i id (Sees (t .clock) c m) (refusal n t (own i id c m))
+      Owning n (t .txids) i id (Observes (t .clock) c m) (refusal n t (own i id c m))
   unfolding refusal
   own-goes f =
-      owns-then n (t .txids) i id (observationTest (t .clock) c m) (Sees (t .clock) c m) (observes-pass (t .clock) c m) f
+      owning-then n (t .txids) i id (observationTest (t .clock) c m) (Observes (t .clock) c m) (observes-pass (t .clock) c m) f
 
   pub own-keeps :
       Foreseen (refusal n t (own i id c m)) → HistoryOf (stateOf t history) →
@@ -129,19 +121,29 @@ module _ (n : ℕ) (t : Table) (history : List ℕ) (y : Sound n t) (i : SlotNo)
   unfolding after
   own-keeps f = own-well (refusal n t (own i id c m)) (own-goes f)
 
+-- in 64 bits a sound table has no txid from 2^64 − 1 on
+pub below-top : (n : ℕ) (t : Table) → Sound n t → t .clock ≤ top → BelowTop t
+below-top n t y u i = go (ℕ-discrete (txidAt t i) 0)
+  where
+    same : at (slotsOf t) i .txid ≡ txidAt t i
+    same = txid-at n t i (y .shape)
+
+    go : Dec (txidAt t i ≡ 0) → txidAt t i < top
+    go (yes e) = rw e (omega arith)
+    go (no d) = let b = rw same at (y .table .txid-below i (λ q. d (sym same ∙ q))) in omega arith
+
 module _
-    (n : ℕ) (t : Table) (history : List ℕ) (y : Sound n t) (u : t .clock ≤ top) where
-  -- no txid of the table reaches 2^64 − 1
+    (n : ℕ) (t : Table) (history : List ℕ) (y : Sound n t) (u : BelowTop t) where
   held : maximum 0 (ours (t .txids)) + 1 ≤ top
   held =
-      let e = maximum-same (t .txids) (t .«snapshot_xmins») (y .shape .txids-size ∙ sym (y .shape .xmins-size)) in
-      let c : 0 < t .clock = le-trans (y .table .sample-positive) (y .table .sample-within) in
-      let b = maximum-below (slotsOf t) (t .clock) (length (t .txids)) (y .table .txid-below) c in
+      let b = maximum-bound 0 (ours (t .txids)) (top - 1) (omega arith)
+      (λ x e. let (i, p, z) = active-taken (t .txids) x e in let h = u i in omega arith)
+      in
       omega arith
 
   module _ (c m : ℕ) where
     pub locked-run :
-        (v : Verdict) → Observes (t .clock) c m v →
+        (v : Verdict) → Observing (t .clock) c m v →
         SnapshotLocked n (stateOf t history) (stateOf (afterBy v t (snap c m)) (historyBy v history (snap c m)))
         (shownBy v n t m)
     unfolding afterAccepted
@@ -164,7 +166,7 @@ module _
         Foreseen (refusal n t (snap c m)) →
         SnapshotLocked n (stateOf t history) (stateAfter n t history (snap c m)) (shown n t (snap c m) m)
     unfolding refusal after shown
-    snapshot-locked-meets f = locked-run (refusal n t (snap c m)) (observes (t .clock) c m f)
+    snapshot-locked-meets f = locked-run (refusal n t (snap c m)) (observing (t .clock) c m f)
 
     pub create-snapshot-meets :
         Foreseen (refusal n t (snap c m)) →
@@ -173,7 +175,7 @@ module _
 
   module _ (i : SlotNo) (id : Txid) (c m : ℕ) where
     own-run :
-        (v : Verdict) → Owns n (t .txids) i id (Sees (t .clock) c m) v →
+        (v : Verdict) → Owning n (t .txids) i id (Observes (t .clock) c m) v →
         CreateTransactionSnapshot n (stateOf t history)
         (stateOf (afterBy v t (own i id c m)) (historyBy v history (own i id c m))) i id (answerBy v t (own i id c m))
         (shownBy v n t m)

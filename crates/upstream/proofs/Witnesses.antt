@@ -2,7 +2,7 @@
 use Prim.Native.Nat.{ℕ}
 use mathlib.Core.Path.{_≡_, refl}
 use mathlib.Core.Bool.{true}
-use mathlib.Core.List.{[], _∷_}
+use mathlib.Core.List.{List, [], _∷_}
 use Rattle.kinds.specs.declared.Stamp.{Stamp}
 use Rattle.kinds.specs.declared.SlotNo.{SlotNo}
 use Rattle.kinds.specs.declared.Txid.{Txid}
@@ -11,10 +11,11 @@ use Rattle.rules.specs.declared.Table.{Table}
 use Rattle.rules.specs.Tally.{active, lowestEmpty, minimum, maximum, snapshotOf}
 use Rattle.rules.specs.Tables.{freshTable}
 use Rattle.rules.specs.Tests.{pass, refuse}
-use Rattle.rules.specs.Calls.{begin, end, own, finish, refusal, afterAccepted, after, shown}
+use Rattle.rules.specs.Calls.{Call, begin, end, own, finish, refusal, afterAccepted, after, shown}
+use Rattle.rules.specs.History.{run, reached}
+use Rattle.rules.specs.Reservations.{reservationsFrom, reservations}
 use Rattle.rules.specs.Check.{slotsPass, differ, passes, tablePasses}
 use Rattle.settled.specs.Settled.{listed}
-use Rattle.upstream.specs.States.{Reached, fresh, on}
 
 abbrev number : ℕ → Stamp
 number k = record { 0 = k }
@@ -26,36 +27,39 @@ abbrev txid : ℕ → Txid
 txid k = record { 0 = k }
 
 -- two slots, taken by 4 and by 7
-abbrev both-taken : Table
-both-taken = after 2 (after 2 (freshTable 2) (begin (number 4))) (begin (number 7))
+abbrev two-begins : List Call
+two-begins = begin (number 4) ∷ begin (number 7) ∷ []
 
--- it is reached from fresh, with the history 4, 7
-pub taken-is-reached : Reached 2 both-taken (4 ∷ 7 ∷ [])
-unfolding refusal after freshTable afterAccepted lowestEmpty
-taken-is-reached = on (on fresh (begin (number 4))) (begin (number 7))
+abbrev both-taken : Table
+both-taken = reached 2 two-begins
+
+-- with the numbers 4, 7
+pub taken-reserved : reservations 2 two-begins ≡ 4 ∷ 7 ∷ []
+unfolding reservationsFrom refusal after freshTable afterAccepted lowestEmpty
+taken-reserved = refl
 
 -- the check says yes of it
 pub taken-passes : tablePasses 2 both-taken ≡ true
-unfolding refusal after freshTable afterAccepted lowestEmpty passes slotsPass differ listed
+unfolding run refusal after freshTable afterAccepted lowestEmpty passes slotsPass differ listed
 taken-passes = refl
 
 -- no call of it that upstream foresees is refused by 4 to 8: a full table, owned snapshots with a sample below both ids, an end, a finish
 pub full-begin : refusal 2 both-taken (begin (number 9)) ≡ refuse (NoFreeSlot (txid 9))
-unfolding refusal after freshTable afterAccepted lowestEmpty
+unfolding run refusal after freshTable afterAccepted lowestEmpty
 full-begin = refl
 
 pub stale-own : refusal 2 both-taken (own (place 1) (txid 7) 9 3) ≡ pass
-unfolding refusal after freshTable afterAccepted lowestEmpty
+unfolding run refusal after freshTable afterAccepted lowestEmpty
 stale-own = refl
 
 pub stale-xmax : shown 2 both-taken (own (place 1) (txid 7) 9 3) 3 ≡ record { xmin = 3; xmax = 8; ids = 4 ∷ 7 ∷ []; count = 2 }
-unfolding refusal after freshTable afterAccepted lowestEmpty shown snapshotOf active minimum maximum
+unfolding run refusal after freshTable afterAccepted lowestEmpty shown snapshotOf active minimum maximum
 stale-xmax = refl
 
 pub own-end : refusal 2 both-taken (end (place 0) (txid 4)) ≡ pass
-unfolding refusal after freshTable afterAccepted lowestEmpty
+unfolding run refusal after freshTable afterAccepted lowestEmpty
 own-end = refl
 
 pub own-finish : refusal 2 both-taken (finish (place 0) (txid 4) (number 9)) ≡ pass
-unfolding refusal after freshTable afterAccepted lowestEmpty
+unfolding run refusal after freshTable afterAccepted lowestEmpty
 own-finish = refl

@@ -3,12 +3,11 @@ use Prim.Native.Nat.{ℕ}
 use mathlib.Core.List.{List, [], _∷_, _++_}
 use mathlib.Core.Path.{_≡_}
 use lib.ListN.{length, getD}
-use Rattle.kinds.specs.declared.refusal.Refusal.{Refusal}
 use Rattle.kinds.specs.declared.refusal.Refusal.the-variants.{NoFreeSlot, InvalidSlot, SlotOwnershipMismatch, ZeroTxid, ClockExhausted, BadReservation, BadClock, BadSample, BadTrace, BadSnapshot}
 use Rattle.rules.specs.declared.Table.{Table}
-use Rattle.rules.specs.Tables.{freshTable}
 use Rattle.rules.specs.Tests.{Verdict, pass, refuse}
-use Rattle.rules.specs.Calls.{Call, begin, end, snap, own, oldest, vacuum, stamp, finish, refusal, after}
+use Rattle.rules.specs.Calls.{Call, refusal, after}
+use Rattle.rules.specs.Reservations.{reservesBy}
 
 pub record Slot : Type 0 where
   pub txid : ℕ
@@ -51,44 +50,18 @@ pub record Shaped (n : ℕ) (t : Table) : Type 0 where
   pub txids-size : length (t .txids) ≡ n
   pub xmins-size : length (t .«snapshot_xmins») ≡ n
 
--- the numbers reserved after a refused call: a full table spends the number
-abbrev pub historyRefused : List ℕ → Refusal → List ℕ
-historyRefused history (NoFreeSlot txid) = push history (txid .0)
-historyRefused history (InvalidSlot slot) = history
-historyRefused history (SlotOwnershipMismatch slot expected seen) = history
-historyRefused history ZeroTxid = history
-historyRefused history ClockExhausted = history
-historyRefused history BadReservation = history
-historyRefused history BadClock = history
-historyRefused history BadSample = history
-historyRefused history (BadTrace line) = history
-historyRefused history BadSnapshot = history
+-- the ids pushed, one after the other
+abbrev pub pushes : List ℕ → List ℕ → List ℕ
+pushes history [] = history
+pushes history (id ∷ ids) = pushes (push history id) ids
 
--- and after an accepted one
-abbrev pub historyAccepted : List ℕ → Call → List ℕ
-historyAccepted history (begin number) = push history (number .0)
-historyAccepted history (end slot id) = history
-historyAccepted history (snap clock sample) = history
-historyAccepted history (own slot id clock sample) = history
-historyAccepted history (oldest clock sample) = history
-historyAccepted history (vacuum clock sample) = history
-historyAccepted history (stamp number) = push history (number .0)
-historyAccepted history (finish slot id number) = push history (number .0)
-
+-- the history after a call: what the call reserves is pushed
 abbrev pub historyBy : Verdict → List ℕ → Call → List ℕ
-historyBy pass history c = historyAccepted history c
-historyBy (refuse r) history c = historyRefused history r
+historyBy v history c = pushes history (reservesBy v c)
 
 -- upstream's state after one of our calls
 abbrev pub stateAfter : ℕ → Table → List ℕ → Call → State
 stateAfter n t history c = stateOf (after n t c) (historyBy (refusal n t c) history c)
-
--- the tables and histories that calls lead to from fresh
-pub data Reached (n : ℕ) : Table → List ℕ → Type 0 where
-  fresh : Reached n (freshTable n) []
-  on :
-      {t : Table} {history : List ℕ} → Reached n t history → (c : Call) →
-      Reached n (after n t c) (historyBy (refusal n t c) history c)
 
 -- upstream's outcomes: accepted, or one of its three errors; none of refusals 4 to 8
 abbrev pub Foreseen : Verdict → Type 0

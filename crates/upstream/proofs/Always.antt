@@ -1,0 +1,74 @@
+-- Upstream's well_formed is kept by every call, whatever it is given and however it is refused.
+use Prim.Native.Nat.{ℕ}
+use mathlib.Core.Path.{_≡_, refl, subst}
+use mathlib.Core.Logic.{_⊎_, inl, inr}
+use mathlib.Core.List.{List}
+use Rattle.kinds.specs.declared.refusal.Refusal.the-variants.{NoFreeSlot, InvalidSlot, SlotOwnershipMismatch, ZeroTxid, ClockExhausted, BadReservation, BadClock, BadSample, BadTrace, BadSnapshot}
+use Rattle.rules.specs.declared.Table.{Table}
+use Rattle.rules.specs.Tests.{Verdict, pass, refuse}
+use Rattle.rules.specs.Calls.{Call, begin, end, snap, own, oldest, vacuum, stamp, finish, refusal, afterAccepted, afterRefused, afterBy, after}
+use Rattle.upstream.specs.States.{State, stateOf, stateAfter, historyBy, Shaped, Foreseen}
+use Rattle.upstream.specs.Relations.{WellFormed, Sound}
+use Rattle.upstream.proofs.Runs.{Observing, seen, observing}
+use Rattle.upstream.proofs.Moves.{well-observed}
+use Rattle.upstream.proofs.Begin.{begin-meets}
+use Rattle.upstream.proofs.End.{end-meets}
+use Rattle.upstream.proofs.Snapshots.{own-keeps}
+use Rattle.upstream.proofs.Oldest.{oldest-meets}
+use Rattle.upstream.proofs.Publish.{stamp-meets, finish-meets}
+
+-- refusals 4 to 8 move nothing
+unforeseen :
+    (v : Verdict) (t : Table) (history : List ℕ) (c : Call) →
+    Foreseen v ⊎ (stateOf t history ≡ stateOf (afterBy v t c) (historyBy v history c))
+unfolding afterRefused
+unforeseen pass t history c = inl tt
+unforeseen (refuse (NoFreeSlot txid)) t history c = inl tt
+unforeseen (refuse (InvalidSlot i)) t history c = inl tt
+unforeseen (refuse (SlotOwnershipMismatch i expected found)) t history c = inl tt
+unforeseen (refuse ZeroTxid) t history c = inr refl
+unforeseen (refuse ClockExhausted) t history c = inr refl
+unforeseen (refuse BadReservation) t history c = inr refl
+unforeseen (refuse BadClock) t history c = inr refl
+unforeseen (refuse BadSample) t history c = inr refl
+unforeseen (refuse (BadTrace line)) t history c = inr refl
+unforeseen (refuse BadSnapshot) t history c = inr refl
+
+module _ (n : ℕ) (t : Table) (history : List ℕ) (s : Shaped n t) (w : WellFormed n (stateOf t history)) where
+  sound : Sound n t
+  sound = record { shape = s; table = w .table }
+
+  -- snap and vacuum, as far as upstream's state shows them
+  observation-keeps :
+      (c m : ℕ) (v : Verdict) → Observing (t .clock) c m v →
+      WellFormed n (stateOf (afterBy v t (snap c m)) (historyBy v history (snap c m)))
+  unfolding afterAccepted
+  observation-keeps c m v (seen f) = well-observed n t history w c m f
+
+  vacuum-keeps :
+      (c m : ℕ) (v : Verdict) → Observing (t .clock) c m v →
+      WellFormed n (stateOf (afterBy v t (vacuum c m)) (historyBy v history (vacuum c m)))
+  unfolding afterAccepted
+  vacuum-keeps c m v (seen f) = well-observed n t history w c m f
+
+  foreseen-keeps : (c : Call) → Foreseen (refusal n t c) → WellFormed n (stateAfter n t history c)
+  unfolding refusal after
+  foreseen-keeps (begin k) f = begin-meets n t history k sound f .l-begin-e1 (w .history)
+  foreseen-keeps (end i id) f = end-meets n t history i id sound f .l-end-e1 (w .history)
+  foreseen-keeps (snap c m) f = observation-keeps c m (refusal n t (snap c m)) (observing (t .clock) c m f)
+  foreseen-keeps (own i id c m) f = own-keeps n t history sound i id c m f (w .history)
+  foreseen-keeps (oldest c m) f = oldest-meets n t history c m sound f .l-oldest-e1 (w .history)
+  foreseen-keeps (vacuum c m) f = vacuum-keeps c m (refusal n t (vacuum c m)) (observing (t .clock) c m f)
+  foreseen-keeps (stamp k) f = stamp-meets n t history sound k f .l-stamp-e1 (w .history)
+  foreseen-keeps (finish i id k) f = finish-meets n t history sound i id k f .l-finish-e1 (w .history)
+
+  -- every call, accepted or refused, keeps upstream's well_formed
+  pub well-formed-kept : (c : Call) → WellFormed n (stateAfter n t history c)
+  unfolding after
+  well-formed-kept c = go (unforeseen (refusal n t c) t history c)
+    where
+      go :
+          Foreseen (refusal n t c) ⊎ (stateOf t history ≡ stateAfter n t history c) →
+          WellFormed n (stateAfter n t history c)
+      go (inl f) = foreseen-keeps c f
+      go (inr e) = subst (λ (x : State). WellFormed n x) e w
