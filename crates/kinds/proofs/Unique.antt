@@ -11,6 +11,10 @@ use Rattle.kinds.specs.declared.refusal.Refusal.the-variants.{NoFreeSlot
 use Rattle.kinds.specs.Pick.{pick}
 use Rattle.kinds.specs.Refusals.{Told, told}
 
+-- a contract that says `result ≡ x` fits one result at most
+pub equal-unique : {A : Type 0} (x : A) (r s : A) → r ≡ x → s ≡ x → r ≡ s
+equal-unique x r s p q = p ∙ sym q
+
 -- a number of a kind is known by its value
 pub same-txid : (a b : Txid) → a .0 ≡ b .0 → a ≡ b
 same-txid a b e = λ i. record { 0 = e i }

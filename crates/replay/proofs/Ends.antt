@@ -8,6 +8,7 @@ use native.Mathlib.Omega.{arith}
 use lib.Dec.{leb}
 use lib.ListN.{length}
 use borrow.Author.Tests.{le-leb, lt-leb}
+use Rattle.kinds.specs.Refusals.{told}
 use Rattle.text.specs.declared.Put.{Put}
 use Rattle.text.specs.declared.Put.the-variants.{Past, NoRoom}
 use Rattle.text.specs.Decimal.{decimalIn, decimal, numberText}
@@ -43,6 +44,7 @@ module _ (line : ℕ) (xs : List ℕ) where
         second-there f = line-put-there ys at atKey line small (omega (arith, nine, one .size)) q f
 
         pub broken-written : {end : ℕ} → put′ ≡ Past end → BrokenFits line xs zs (Written end)
+        unfolding told brokenText
         broken-written {end} f =
             let two = line-wrote ys at atKey line small (omega (arith, nine, one .size)) q v f in
             let both = wrote-then (omega arith) one two in

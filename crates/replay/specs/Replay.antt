@@ -4,6 +4,8 @@ use mathlib.Core.Bool.{cond}
 use mathlib.Core.List.{List, [], _∷_, _++_}
 use lib.Dec.{leb}
 use lib.ListN.{length}
+use Rattle.kinds.specs.declared.refusal.Refusal.the-variants.{BadTrace}
+use Rattle.kinds.specs.Refusals.{told}
 use Rattle.rules.specs.declared.Table.{Table}
 use Rattle.rules.specs.Calls.{Call, begin, end, snap, own, oldest, vacuum, stamp, finish, after, answer}
 use Rattle.rules.specs.Tables.{freshTable}
@@ -49,9 +51,9 @@ recordsKey = 114 ∷ 101 ∷ 99 ∷ 111 ∷ 114 ∷ 100 ∷ 115 ∷ 61 ∷ []
 abbrev pub atKey : List ℕ
 atKey = 97 ∷ 116 ∷ 61 ∷ []
 
--- the two lines of refusal 9
-abbrev pub brokenText : ℕ → List ℕ
-brokenText line = lineText answerKey 9 ++ lineText atKey line
+-- refusal 9 prints its number and its line, and nothing else
+unfoldable pub brokenText : ℕ → List ℕ
+brokenText line = lineText answerKey (told (BadTrace line) .number) ++ lineText atKey (told (BadTrace line) .at)
 
 -- a whole trace prints its records and their number; refusal 9 prints two lines, and no record is run
 abbrev pub replayBy : ℕ → Found → List ℕ

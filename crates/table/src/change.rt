@@ -1,4 +1,4 @@
-// The one place where a table is written.
+// The one place where a table that is passed by value is written.
 use decide::Change;
 use kinds::SLOTS;
 use rules::Table;

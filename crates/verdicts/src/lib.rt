@@ -3,14 +3,12 @@ use kinds::Refusal;
 use kinds::SLOTS;
 use kinds::SlotNo;
 use kinds::Stamp;
+use kinds::TOP;
 use kinds::Txid;
 ghost use mathlib.Core.Path.{_≡_};
 ghost use lib.ListN.{getD};
 ghost use Rattle.rules.specs.Tests.{ownerTest, reservationTest, observationTest};
 ghost use Rattle.verdicts.specs.Judged.{judged, CheckedFits};
-
-// The largest number, which no reservation takes.
-const TOP: u64 = 0xffff_ffff_ffff_ffff;
 
 // What a test says.
 pub enum Judged {
