@@ -9,7 +9,11 @@ fn half_full(layout: u64) -> Table {
         table.begin(id).unwrap();
     }
     for at in 0..SLOTS {
-        let taken = if layout == 0 { at < SLOTS / 2 } else { at % 2 == 0 };
+        let taken = if layout == 0 {
+            at < SLOTS / 2
+        } else {
+            at % 2 == 0
+        };
         if !taken {
             table.end(at as u16, at as u64 + 1).unwrap();
         }
@@ -22,7 +26,9 @@ pub extern "C" fn begin_end(layout: u64, rounds: u64) -> u64 {
     let mut table = half_full(layout);
     let mut sum = 0u64;
     for _ in 0..rounds {
-        let Ok((slot, txid)) = table.begin(table.clock) else { continue };
+        let Ok((slot, txid)) = table.begin(table.clock) else {
+            continue;
+        };
         if table.end(slot, txid).is_ok() {
             sum = sum.wrapping_add(slot as u64).wrapping_add(txid);
         }
@@ -36,9 +42,15 @@ pub extern "C" fn snapshot(layout: u64, rounds: u64) -> u64 {
     let mut sum = 0u64;
     for round in 1..=rounds {
         let clock = table.clock.saturating_add(1);
-        let Ok(s) = table.snapshot(clock, clock) else { continue };
+        let Ok(s) = table.snapshot(clock, clock) else {
+            continue;
+        };
         let place = s.ids.get(round as usize % SLOTS).copied().unwrap_or(0);
-        sum = sum.wrapping_add(s.xmin).wrapping_add(s.xmax).wrapping_add(s.ids.len() as u64).wrapping_add(place);
+        sum = sum
+            .wrapping_add(s.xmin)
+            .wrapping_add(s.xmax)
+            .wrapping_add(s.ids.len() as u64)
+            .wrapping_add(place);
     }
     sum
 }
@@ -49,9 +61,15 @@ pub extern "C" fn fixed_snapshot(layout: u64, rounds: u64) -> u64 {
     let mut sum = 0u64;
     for round in 1..=rounds {
         let clock = table.clock.saturating_add(1);
-        let Ok(s) = table.fixed_snapshot(clock, clock) else { continue };
+        let Ok(s) = table.fixed_snapshot(clock, clock) else {
+            continue;
+        };
         let place = s.ids[round as usize % SLOTS];
-        sum = sum.wrapping_add(s.xmin).wrapping_add(s.xmax).wrapping_add(s.count as u64).wrapping_add(place);
+        sum = sum
+            .wrapping_add(s.xmin)
+            .wrapping_add(s.xmax)
+            .wrapping_add(s.count as u64)
+            .wrapping_add(place);
     }
     sum
 }
@@ -62,7 +80,9 @@ pub extern "C" fn oldest(layout: u64, rounds: u64) -> u64 {
     let mut sum = 0u64;
     for _ in 0..rounds {
         let clock = table.clock.saturating_add(1);
-        let Ok(xmin) = table.oldest(clock, clock) else { continue };
+        let Ok(xmin) = table.oldest(clock, clock) else {
+            continue;
+        };
         sum = sum.wrapping_add(xmin);
     }
     sum

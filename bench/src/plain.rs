@@ -8,14 +8,21 @@ pub struct Slot {
     snapshot_xmin: u64,
 }
 
-const EMPTY: Slot = Slot { txid: 0, snapshot_xmin: 0 };
+const EMPTY: Slot = Slot {
+    txid: 0,
+    snapshot_xmin: 0,
+};
 
 #[derive(Debug)]
 #[allow(dead_code)]
 pub enum Refusal {
     NoFreeSlot(u64),
     InvalidSlot(u16),
-    SlotOwnershipMismatch { slot: u16, expected: u64, observed: u64 },
+    SlotOwnershipMismatch {
+        slot: u16,
+        expected: u64,
+        observed: u64,
+    },
     ZeroTxid,
     ClockExhausted,
     BadReservation,
@@ -45,7 +52,11 @@ pub struct Table {
 
 impl Table {
     pub fn fresh() -> Table {
-        Table { slots: [EMPTY; SLOTS], clock: 1, sampled_clock: 1 }
+        Table {
+            slots: [EMPTY; SLOTS],
+            clock: 1,
+            sampled_clock: 1,
+        }
     }
 
     pub fn begin(&mut self, number: u64) -> Result<(u16, u64), Refusal> {
@@ -59,19 +70,29 @@ impl Table {
         match self.slots.iter().position(|slot| slot.txid == 0) {
             None => Err(Refusal::NoFreeSlot(number)),
             Some(at) => {
-                self.slots[at] = Slot { txid: number, snapshot_xmin: number };
+                self.slots[at] = Slot {
+                    txid: number,
+                    snapshot_xmin: number,
+                };
                 Ok((at as u16, number))
             }
         }
     }
 
     pub fn end(&mut self, slot: u16, id: u64) -> Result<(), Refusal> {
-        let held = self.slots.get_mut(slot as usize).ok_or(Refusal::InvalidSlot(slot))?;
+        let held = self
+            .slots
+            .get_mut(slot as usize)
+            .ok_or(Refusal::InvalidSlot(slot))?;
         if id == 0 {
             return Err(Refusal::ZeroTxid);
         }
         if held.txid != id {
-            return Err(Refusal::SlotOwnershipMismatch { slot, expected: id, observed: held.txid });
+            return Err(Refusal::SlotOwnershipMismatch {
+                slot,
+                expected: id,
+                observed: held.txid,
+            });
         }
         *held = EMPTY;
         Ok(())
@@ -118,7 +139,12 @@ impl Table {
                 xmax = xmax.max(slot.txid.saturating_add(1));
             }
         }
-        Ok(FixedSnapshot { xmin, xmax, ids, count })
+        Ok(FixedSnapshot {
+            xmin,
+            xmax,
+            ids,
+            count,
+        })
     }
 
     pub fn oldest(&mut self, clock: u64, sample: u64) -> Result<u64, Refusal> {
