@@ -4,6 +4,7 @@ mod jobs;
 mod plain;
 
 use std::hint::black_box;
+use std::process::{Command, exit};
 use std::time::Instant;
 
 unsafe extern "C" {
@@ -52,9 +53,12 @@ const JOBS: [(&str, [Rounds; 3]); 5] = [
     ),
 ];
 const LAYOUTS: [&str; 2] = ["lower half", "every second"];
-const REPEATS: usize = 15;
+/// Where code and stack lie differs from process to process, and so do the times: each number is the middle of so many processes.
+const PROCESSES: usize = 11;
+/// In a process the least of so many samples counts, the one that was least disturbed.
+const SAMPLES: usize = 7;
 /// Long enough that reading the clock doesn't count.
-const SAMPLE_NS: f64 = 10e6;
+const SAMPLE_NS: f64 = 2e6;
 
 /// Nanoseconds of so many rounds, and of filling the table before them.
 fn elapsed(job: Rounds, layout: u64, rounds: u64) -> f64 {
@@ -63,30 +67,44 @@ fn elapsed(job: Rounds, layout: u64, rounds: u64) -> f64 {
     start.elapsed().as_nanos() as f64
 }
 
-/// Nanoseconds of filling the table.
-fn filling(job: Rounds, layout: u64) -> f64 {
-    let times = (0..REPEATS).map(|_| elapsed(job, layout, 0));
-    least_and_middle(times.collect()).0
-}
-
-/// The least and the middle of what was measured.
-fn least_and_middle(mut times: Vec<f64>) -> (f64, f64) {
-    times.sort_by(f64::total_cmp);
-    (times[0], times[times.len() / 2])
-}
-
-/// Each in turn, over and over, so that what disturbs the machine disturbs all alike.
-fn measure(jobs: [Rounds; 3], layout: u64) -> [(f64, f64); 3] {
-    let fillings = jobs.map(|job| filling(job, layout));
-    let rounds = jobs.map(|job| 1 + (5_000.0 * SAMPLE_NS / elapsed(job, layout, 5_000)) as u64);
-    let mut times = [const { Vec::new() }; 3];
-    for _ in 0..REPEATS {
+/// Nanoseconds of a round. The three take turns, so that what disturbs the machine disturbs all alike.
+fn measure(jobs: [Rounds; 3], layout: u64) -> [f64; 3] {
+    let rounds = jobs.map(|job| 1 + (2_000.0 * SAMPLE_NS / elapsed(job, layout, 2_000)) as u64);
+    let mut filling = [f64::INFINITY; 3];
+    let mut whole = [f64::INFINITY; 3];
+    for _ in 0..SAMPLES {
         for k in 0..3 {
-            let spent = elapsed(jobs[k], layout, rounds[k]) - fillings[k];
-            times[k].push(spent / rounds[k] as f64);
+            filling[k] = elapsed(jobs[k], layout, 0).min(filling[k]);
+            whole[k] = elapsed(jobs[k], layout, rounds[k]).min(whole[k]);
         }
     }
-    times.map(least_and_middle)
+    std::array::from_fn(|k| (whole[k] - filling[k]) / rounds[k] as f64)
+}
+
+/// A line for each job and layout, with three times.
+fn print_times() {
+    for (_, jobs) in JOBS {
+        for layout in 0..2 {
+            let [rust, value, lent] = measure(jobs, layout);
+            println!("{rust} {value} {lent}");
+        }
+    }
+}
+
+/// What `print_times` wrote in a process of its own.
+fn times_of_a_process() -> Vec<Vec<f64>> {
+    let this = std::env::current_exe().expect("this program has a path");
+    let run = Command::new(this)
+        .arg("times")
+        .output()
+        .expect("this program runs");
+    let text = String::from_utf8(run.stdout).expect("times are text");
+    let numbers = |line: &str| {
+        line.split(' ')
+            .map(|n| n.parse().expect("a time"))
+            .collect()
+    };
+    text.lines().map(numbers).collect()
 }
 
 fn agree(jobs: [Rounds; 3], layout: u64) -> bool {
@@ -96,41 +114,61 @@ fn agree(jobs: [Rounds; 3], layout: u64) -> bool {
     })
 }
 
-fn main() {
+fn check_answers() {
     if bench_slots() != plain::SLOTS as u64 {
         eprintln!(
             "the library has {} slots, plain Rust {}",
             bench_slots(),
             plain::SLOTS
         );
-        std::process::exit(1);
+        exit(1);
     }
     for (name, jobs) in JOBS {
         for layout in 0..2 {
             if !agree(jobs, layout) {
                 eprintln!("{name}, layout {layout}: the answers differ");
-                std::process::exit(1);
+                exit(1);
             }
         }
     }
-    println!(
-        "{} slots, half full; the answers agree. ns per round: least (middle) of {REPEATS}.\n",
-        plain::SLOTS
-    );
+}
+
+fn print_table() {
+    let runs: Vec<_> = (0..PROCESSES).map(|_| times_of_a_process()).collect();
+    println!("{} slots, half full; the answers agree.", plain::SLOTS);
+    println!("ns per round: the middle of {PROCESSES} processes (least to most).\n");
     println!("| job | taken | plain Rust | by value | lent | by value / Rust | lent / Rust |");
     println!("|---|---|---|---|---|---|---|");
-    for (name, jobs) in JOBS {
-        for (layout, taken) in LAYOUTS.iter().enumerate() {
-            let [rust, value, lent] = measure(jobs, layout as u64);
-            let cell = |(least, middle): (f64, f64)| format!("{least:.0} ({middle:.0})");
-            println!(
-                "| {name} | {taken} | {} | {} | {} | {:.2} | {:.2} |",
-                cell(rust),
-                cell(value),
-                cell(lent),
-                value.0 / rust.0,
-                lent.0 / rust.0
-            );
-        }
+    for (row, (name, _)) in JOBS.iter().flat_map(|job| [job, job]).enumerate() {
+        let sorted: [Vec<f64>; 3] = std::array::from_fn(|k| {
+            let mut times: Vec<f64> = runs.iter().map(|run| run[row][k]).collect();
+            times.sort_by(f64::total_cmp);
+            times
+        });
+        let middle = |k: usize| sorted[k][PROCESSES / 2];
+        let cell = |k: usize| {
+            format!(
+                "{:.1} ({:.1} to {:.1})",
+                middle(k),
+                sorted[k][0],
+                sorted[k][PROCESSES - 1]
+            )
+        };
+        let ratio = |k: usize| middle(k) / middle(0);
+        let (taken, rust, value, lent) = (LAYOUTS[row % 2], cell(0), cell(1), cell(2));
+        println!(
+            "| {name} | {taken} | {rust} | {value} | {lent} | {:.2} | {:.2} |",
+            ratio(1),
+            ratio(2)
+        );
     }
+}
+
+fn main() {
+    if std::env::args().nth(1).as_deref() == Some("times") {
+        print_times();
+        return;
+    }
+    check_answers();
+    print_table();
 }
