@@ -57,7 +57,7 @@ const LAYOUTS: [&str; 2] = ["lower half", "every second"];
 const PROCESSES: usize = 11;
 /// In a process the least of so many samples counts, the one that was least disturbed.
 const SAMPLES: usize = 7;
-/// Long enough that reading the clock doesn't count.
+/// A sample takes at least this long, so that reading the clock doesn't count.
 const SAMPLE_NS: f64 = 2e6;
 
 /// Nanoseconds of so many rounds, and of filling the table before them.
@@ -67,18 +67,33 @@ fn elapsed(job: Rounds, layout: u64, rounds: u64) -> f64 {
     start.elapsed().as_nanos() as f64
 }
 
+/// Nanoseconds of filling the table alone.
+fn filling(job: Rounds, layout: u64) -> f64 {
+    let times = (0..SAMPLES).map(|_| elapsed(job, layout, 0));
+    times.fold(f64::INFINITY, f64::min)
+}
+
+/// So many rounds that they take as long as a sample should, without the filling.
+fn enough_rounds(job: Rounds, layout: u64, filling: f64) -> u64 {
+    let mut rounds = 1_000;
+    while elapsed(job, layout, rounds) < filling + SAMPLE_NS {
+        rounds *= 2;
+    }
+    rounds
+}
+
 /// Nanoseconds of a round. The three take turns, so that what disturbs the machine disturbs all alike.
 fn measure(jobs: [Rounds; 3], layout: u64) -> [f64; 3] {
-    let rounds = jobs.map(|job| 1 + (2_000.0 * SAMPLE_NS / elapsed(job, layout, 2_000)) as u64);
-    let mut filling = [f64::INFINITY; 3];
-    let mut whole = [f64::INFINITY; 3];
+    let fillings = jobs.map(|job| filling(job, layout));
+    let rounds: [u64; 3] = std::array::from_fn(|k| enough_rounds(jobs[k], layout, fillings[k]));
+    let mut least = [f64::INFINITY; 3];
     for _ in 0..SAMPLES {
         for k in 0..3 {
-            filling[k] = elapsed(jobs[k], layout, 0).min(filling[k]);
-            whole[k] = elapsed(jobs[k], layout, rounds[k]).min(whole[k]);
+            let spent = elapsed(jobs[k], layout, rounds[k]) - fillings[k];
+            least[k] = least[k].min(spent / rounds[k] as f64);
         }
     }
-    std::array::from_fn(|k| (whole[k] - filling[k]) / rounds[k] as f64)
+    least
 }
 
 /// A line for each job and layout, with three times.
