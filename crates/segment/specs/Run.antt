@@ -1,0 +1,28 @@
+-- The table check of a run of slot records.
+use Prim.Native.Nat.{ℕ}
+use mathlib.Core.List.{List, map}
+use mathlib.Core.Bool.{Bool}
+use lib.ListN.{replicate}
+use Rattle.rules.specs.Check.{passes}
+use Rattle.segment.specs.declared.Slot.{Slot}
+use Rattle.segment.specs.declared.Columns.{Columns}
+
+abbrev pub emptySlot : Slot
+emptySlot = record { txid = 0; «snapshot_xmin» = 0 }
+
+-- the columns of a run, one number for each record
+abbrev pub txidsOf : List Slot → List ℕ
+txidsOf run = map (λ slot. slot .txid) run
+
+abbrev pub xminsOf : List Slot → List ℕ
+xminsOf run = map (λ slot. slot .«snapshot_xmin») run
+
+abbrev pub columnsOf : List Slot → Columns
+columnsOf run = record { txids = txidsOf run; «snapshot_xmins» = xminsOf run }
+
+abbrev pub zeroColumns : ℕ → Columns
+zeroColumns n = record { txids = replicate n 0; «snapshot_xmins» = replicate n 0 }
+
+-- the check of a run of any length, for tables of n slots
+abbrev pub runPasses : ℕ → List Slot → ℕ → ℕ → ℕ → Bool
+runPasses n run clock sample line = passes n (txidsOf run) (xminsOf run) clock sample line
