@@ -1,3 +1,4 @@
 pub mod Steps
+pub mod Arrays
 pub mod Numbers
 pub mod Refused

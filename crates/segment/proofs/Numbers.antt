@@ -1,6 +1,4 @@
--- An array of numbers in a local, as its elements one by one and whole again, and how a column is gathered place by place.
---     spreads xs b u is    [the array in local b, at u; ..] becomes [its elements; ..]
---     gathers xs b e k     and back, at the array's own value, whose relation k is handed
+-- The two columns: what holds of their arrays, and how one is gathered place by place.
 use mathlib.Core.Path.{_≡_, refl, sym, _∙_, ap, subst}
 use mathlib.Core.List.{List, [], _∷_, _++_, map}
 use Prim.Native.Nat.{ℕ, suc, _+_, _<_, _≤_}
@@ -36,24 +34,6 @@ numbers = Array u64 count
 
 abbrev pub arr : Ty
 arr = tyArray word count
-
-module _ {M : Type 1} {𝓤 : URA M} {H : Heap 𝓤} {A : Atoms 𝓤} {K : Type 0} (W : Given 𝓤 H A) {Γ : List (Item 𝓤)} {G : Goal 𝓤 H} where
-  pub spreads : K → (xs : List ℕ) (b : ℕ) (u : Val) → Is numbers xs (u ∷ []) → Step K W (‵ (row u64 fullShare xs b 0) ∷ Γ) G (‵ (fat fullShare arr b 0 u) ∷ Γ) G
-  unfolding partOf
-  spreads t xs b u is = step (λ s.
-      use1 W (‵ (cellAt fullShare (numbers .mir) (u ∷ []) b 0)) (W .laws .at-raw fullShare arr b 0 u) $
-      owned t numbers (Is numbers) (array-makes 𝓤 H A W u64 (uint-makes 𝓤 H A W w64) count) xs (u ∷ []) is $ move t (1 ∷ 0 ∷ []) $ fjoin t $
-      fpack t (List Val) (λ vs. fsep (cellAt fullShare (numbers .mir) vs b 0) (numbers .own xs vs)) (u ∷ []) $
-      use1 W (‵ (arr-parts (shares u64) count .part fullShare xs b 0)) (array-apart 𝓤 H A W u64 fullShare tt count xs b 0) $ fsplit t $ drop t $ s)
-
-  pub gathers : K → (xs : List ℕ) (b : ℕ) → length xs ≡ count → ((u : Val) → Is numbers xs (u ∷ []) → Seq K W (‵ (fat fullShare arr b 0 u) ∷ Γ) G) → Seq K W (‵ (row u64 fullShare xs b 0) ∷ Γ) G
-  unfolding partOf
-  gathers t xs b e k =
-      feqI t ℕ (length xs) count e $ fjoin t $
-      use1 W (‵ (partAt numbers fullShare xs b 0)) (array-whole 𝓤 H A W u64 fullShare count xs b 0) $
-      fpick t (λ vs. fsplit t $ move t (1 ∷ []) $ facts t numbers (Is numbers) (shows 𝓤 H A numbers) xs vs (λ p.
-      rewrite t 0 (λ (us : List Val). ‵ (cellAt fullShare (numbers .mir) us b 0)) (array-tells u64 (uint-vals w64) (uint-tells w64) count xs vs p) refl $
-      use1 W (‵ (fat fullShare arr b 0 _)) (W .laws .raw-at fullShare arr b 0 _) $ k _ (subst (Is numbers xs) (array-tells u64 (uint-vals w64) (uint-tells w64) count xs vs p) p)))
 
 pub typed : {M : Type 1} (𝓤 : URA M) (H : Heap 𝓤) (A : Atoms 𝓤) (W : Given 𝓤 H A) (xs : List ℕ) (u : Val) → Is numbers xs (u ∷ []) → Holds (hasTy arr u) × WT u
 typed 𝓤 H A W xs u is = array-lawful 𝓤 H A W u64 (uint-lawful 𝓤 H A W w64) count .typed xs (u ∷ []) is .0

@@ -1,5 +1,6 @@
 -- What every walk of this crate begins from: the types as the code spells them, and the steps that several walks take. Assumes `Given`.
 --     answers T c y v φ said k     a callee has returned v: its `ensures` is learned as φ r, its result's relation too. Before: [the callee's `post`; ..]. After: [what the result owns; the tokens; ..]
+--     answers-as T c y v Q said k  the same where the clause is kept as the assertion Q r. After: [what the result owns; the tokens; Q r; ..]
 --     returned κ q                 of a callee with one lifetime, whose result owns nothing that is needed: [what the result owns; the tokens; ..] becomes [the token of κ; ..]
 --     asks P S run κs c r φ gives  the clause that is to be shown asks a bracket: it is shown at an answer r that the bracket's code gives
 --     number n fits                a u64 that is passed owns nothing that has to be carried: it is made anew. After: [what n owns; ..]
@@ -53,17 +54,24 @@ abbrev pub slice : Ty
 slice = sliceTy (tyRef (named 0) imm (pointee (T.the-row .written)))
 
 module _ {M : Type 1} {𝓤 : URA M} {H : Heap 𝓤} {A : Atoms 𝓤} {K : Type 0} (W : Given 𝓤 H A) {Γ : List (Item 𝓤)} {G : Goal 𝓤 H} where
+  pub answers-as : K → Soaks G → (T : Ended) (c : Clauses 𝓤 T) (y : (x : Bound 𝓤 H A (T .signature)) × c (x .0) (x .3) .ghost) (v : Val) (Q : Res (T .signature) (y .0 .0) → SProp 𝓤)
+      → ((r : Res (T .signature) (y .0 .0)) (ws : Lasts T (y .0 .0) (y .0 .3)) → ent 𝓤 (c (y .0 .0) (y .0 .3) .ensures (y .1) r (atExit T (y .0 .0) (y .0 .3) ws)) (Q r))
+      → ((r : Res (T .signature) (y .0 .0)) → Is (typeAt (T .signature .result) (y .0 .0)) r (v ∷ [])
+      → Seq K W (‵ (typeAt (T .signature .result) (y .0 .0) .own r (v ∷ [])) ∷ raw (alive 𝓤 H A (T .signature) (y .0 .0) (y .0 .1)) ∷ raw (Q r) ∷ Γ) G)
+      → Seq K W (raw (tripleOf 𝓤 H A (T .signature) (closing 𝓤 H A T c) .post y v) ∷ Γ) G
+  answers-as t z T c y v Q said k =
+      use1 W (later (some (λ (r : Res (T .signature) (y .0 .0)). (raw (alive 𝓤 H A (T .signature) (y .0 .0) (y .0 .1)) ⊛ ‵ (typeAt (T .signature .result) (y .0 .0) .own r (v ∷ []))) ⊛ raw (ensured 𝓤 H A T c (y .0 .0) (y .0 .3) (y .1) r)))) (id⊢ 𝓤 _) $
+      await t z $ pick t (λ r. split t $ move t (1 ∷ []) $
+      use1 W (raw (Q r)) (exE 𝓤 _ (λ ws. via 𝓤 (c (y .0 .0) (y .0 .3) .ensures (y .1) r (atExit T (y .0 .0) (y .0 .3) ws)) (snd∗ 𝓤 (sem 𝓤 H A (lasts T (y .0 .0) (y .0 .3) ws)) _) (said r ws))) $
+      move t (1 ∷ []) $ split t $ move t (1 ∷ []) $
+      peeks t (typeAt (T .signature .result) (y .0 .0)) (Is (typeAt (T .signature .result) (y .0 .0))) (shows 𝓤 H A (typeAt (T .signature .result) (y .0 .0))) r (v ∷ []) (λ is. k r is))
+
   pub answers : K → Soaks G → (T : Ended) (c : Clauses 𝓤 T) (y : (x : Bound 𝓤 H A (T .signature)) × c (x .0) (x .3) .ghost) (v : Val) (φ : Res (T .signature) (y .0 .0) → Type 0)
       → ((r : Res (T .signature) (y .0 .0)) (ws : Lasts T (y .0 .0) (y .0 .3)) → ent 𝓤 (c (y .0 .0) (y .0 .3) .ensures (y .1) r (atExit T (y .0 .0) (y .0 .3) ws)) (fact 𝓤 (φ r)))
       → ((r : Res (T .signature) (y .0 .0)) → φ r → Is (typeAt (T .signature .result) (y .0 .0)) r (v ∷ [])
       → Seq K W (‵ (typeAt (T .signature .result) (y .0 .0) .own r (v ∷ [])) ∷ raw (alive 𝓤 H A (T .signature) (y .0 .0) (y .0 .1)) ∷ Γ) G)
       → Seq K W (raw (tripleOf 𝓤 H A (T .signature) (closing 𝓤 H A T c) .post y v) ∷ Γ) G
-  answers t z T c y v φ said k =
-      use1 W (later (some (λ (r : Res (T .signature) (y .0 .0)). (raw (alive 𝓤 H A (T .signature) (y .0 .0) (y .0 .1)) ⊛ ‵ (typeAt (T .signature .result) (y .0 .0) .own r (v ∷ []))) ⊛ raw (ensured 𝓤 H A T c (y .0 .0) (y .0 .3) (y .1) r)))) (id⊢ 𝓤 _) $
-      await t z $ pick t (λ r. split t $ move t (1 ∷ []) $
-      use1 W (raw (fact 𝓤 (φ r))) (exE 𝓤 _ (λ ws. via 𝓤 (c (y .0 .0) (y .0 .3) .ensures (y .1) r (atExit T (y .0 .0) (y .0 .3) ws)) (snd∗ 𝓤 (sem 𝓤 H A (lasts T (y .0 .0) (y .0 .3) ws)) _) (said r ws))) $
-      heard t (φ r) (λ e. split t $ move t (1 ∷ []) $
-      peeks t (typeAt (T .signature .result) (y .0 .0)) (Is (typeAt (T .signature .result) (y .0 .0))) (shows 𝓤 H A (typeAt (T .signature .result) (y .0 .0))) r (v ∷ []) (λ is. k r e is)))
+  answers t z T c y v φ said k = answers-as t z T c y v (λ r. fact 𝓤 (φ r)) said (λ r is. move t (2 ∷ []) $ heard t (φ r) (λ e. k r e is))
 
   pub returned : K → (κ : Lft) (q : Share) {P : Item 𝓤} → Step K W (‵ (flft κ q) ∷ Γ) G (P ∷ raw (sep 𝓤 (sem 𝓤 H A (flft κ q)) (emp 𝓤)) ∷ Γ) G
   returned t κ q = step (λ s. drop t $ use1 W (‵ (flft κ q) ⊛ ‵ ftrue) (id⊢ 𝓤 _) $ split t $ move t (1 ∷ []) $ drop t $ s)

@@ -31,7 +31,7 @@ use denote.RattleType.{owns}
 use denote.Laws.{Is, shows}
 use denote.Builtin.{u64, usize}
 use denote.Index.{row, place-is, elem-out, elem-put}
-use denote.Plain.{uint-vals, uint-tells}
+use denote.Plain.{uint-vals, uint-tells, uint-makes}
 use denote.Ref.{RefT, now}
 use denote.Slice.{sliceVal, ShrSlice, Room, slice-vals, shr-slice-tells, shr-slice-copy}
 use denote.Signature.{plain}
@@ -48,7 +48,8 @@ use Rattle.segment.specs.Run.{emptySlot, txidsOf, xminsOf, columnsOf}
 use Rattle.segment.specs.declared.Slot.{Slot}
 use Rattle.segment.specs.declared.Columns.{Columns}
 use Rattle.segment.proofs.Steps.{count, run-place, word, slice, answers, returned, number, fit}
-use Rattle.segment.proofs.Numbers.{numbers, arr, spreads, gathers, grows, typed, grown, long, paired}
+use Rattle.segment.proofs.Arrays.{spreads, gathers}
+use Rattle.segment.proofs.Numbers.{arr, grows, typed, grown, long, paired}
 use Rattle.segment.proofs.Slot as T
 use Rattle.segment.proofs.Slot.Laws as T′
 use Rattle.segment.proofs.Columns as S
@@ -235,7 +236,7 @@ module _ {M : Type 1} (𝓤 : URA M) (H : Heap 𝓤) (A : Atoms 𝓤) (W : Given
           assigns ! (bin ! (load ! (from ! (stop !)) (look ! 4 refl)) (load ! (from ! (stop !)) (look ! 9 refl)) tt) (from ! (stop !)) (init ! 10 refl (tt, tt)) $
           rewrite ! 10 (λ (z : Bool). ‵ (fat fullShare tyBool l₈ 0 (vbool z))) e refl $
           leaves-loop ! (load ! (from ! (stop !)) (look ! 10 refl)) $ exec ! C Λ E mir.t-5 (atRet E Post) $
-          move ! (2 ∷ []) $ gathers W ! (st .xs) l₃ (st .xs-long) (λ u uis. move ! (3 ∷ []) $ gathers W ! (st .zs) l₄ (st .zs-long) (λ z zis.
+          move ! (2 ∷ []) $ gathers W u64 ! (uint-vals w64) (uint-tells w64) count (st .xs) l₃ (st .xs-long) (λ u uis. move ! (3 ∷ []) $ gathers W u64 ! (uint-vals w64) (uint-tells w64) count (st .zs) l₄ (st .zs-long) (λ z zis.
           -- [_4; _3; the token; Own; _5; _1; _0; _2; _6; .. ; _14; that each local dies]
           assigns ! (of-opd ! (load ! (from ! (stop !)) (look ! 1 refl))) (from ! (stop !)) (init ! 15 refl (typed 𝓤 H A W (st .xs) u uis)) $
           assigns ! (of-opd ! (load ! (from ! (stop !)) (look ! 0 refl))) (from ! (stop !)) (init ! 16 refl (typed 𝓤 H A W (st .zs) z zis)) $
@@ -278,7 +279,7 @@ module _ {M : Type 1} (𝓤 : URA M) (H : Heap 𝓤) (A : Atoms 𝓤) (W : Given
         assigns ! (of-opd ! (load ! (from ! (fld ! refl (stop !))) (look-in ! 24 (sub ! 0 refl (whole !))))) (from ! (stop !)) (init ! 22 refl (typed 𝓤 H A W xs₀ _ (owed .0))) $
         assigns ! (of-opd ! (load ! (from ! (fld ! refl (stop !))) (look-in ! 24 (sub ! 1 refl (whole !))))) (from ! (stop !)) (init ! 20 refl (typed 𝓤 H A W zs₀ _ (owed .1 .0))) $
         assigns ! (of-opd ! (lit ! tt)) (from ! (stop !)) (init ! 18 refl (tt, record { fits = lit< tt })) $ forget ! 24 refl $
-        move ! (22 ∷ []) $ spreads W ! xs₀ l₃ _ (owed .0) $ move ! (21 ∷ []) $ spreads W ! zs₀ l₄ _ (owed .1 .0) $
+        move ! (22 ∷ []) $ spreads W u64 ! tt (uint-makes 𝓤 H A W w64) count xs₀ l₃ _ (owed .0) $ move ! (21 ∷ []) $ spreads W u64 ! tt (uint-makes 𝓤 H A W w64) count zs₀ l₄ _ (owed .1 .0) $
         move ! (31 ∷ []) $ fsplit ! $ move ! (32 ∷ []) $ split ! $
         -- [the token; true; Own; what `into` owns; the elements of _4; of _3; _14; .. ; _5; ..; that _4 and _3 die; _2; ..; _1; ..; _0; ..]
         keep ! (0 ∷ 2 ∷ 5 ∷ 4 ∷ 24 ∷ 30 ∷ 32 ∷ 28 ∷ 22 ∷ 20 ∷ 18 ∷ 16 ∷ 14 ∷ 12 ∷ 10 ∷ 8 ∷ 6 ∷ 33 ∷ 31 ∷ 29 ∷ 27 ∷ 26 ∷ 25 ∷ 23 ∷ 21 ∷ 19 ∷ 17 ∷ 15 ∷ 13 ∷ 11 ∷ 9 ∷ 7 ∷ []) $
