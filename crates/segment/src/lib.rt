@@ -33,7 +33,10 @@ fn no_columns() -> Columns
 {
     let txids = kinds::zeros();
     let snapshot_xmins = kinds::zeros();
-    Columns { txids, snapshot_xmins }
+    Columns {
+        txids,
+        snapshot_xmins,
+    }
 }
 
 // The columns of a run that has a record for each place.
@@ -50,7 +53,10 @@ fn gather(slots: &[Slot], into: Columns) -> Columns
         snapshot_xmins[i] = slot.snapshot_xmin;
         i += 1;
     }
-    Columns { txids, snapshot_xmins }
+    Columns {
+        txids,
+        snapshot_xmins,
+    }
 }
 
 // The core, by value.

@@ -1,6 +1,6 @@
 // The runs that the cases start from.
-use kinds::SLOTS;
 use crate::lend::ROOM;
+use kinds::SLOTS;
 use segment::Slot;
 ghost use Prim.Native.Nat.{_<_};
 ghost use lib.ListN.{length};

@@ -204,8 +204,12 @@ module _ {M : Type 1} (𝓤 : URA M) (H : Heap 𝓤) (A : Atoms 𝓤) (W : Given
           assigns-last ! (bin ! (load ! (from ! (stop !)) (look ! 4 refl)) (lit ! tt) (record { fits = i-next })) (from ! (stop !)) (store ! 4 refl (tt, record { fits = i-next })) $
           forget ! 8 refl $ forget ! 9 refl $ forget ! 10 refl $ forget ! 11 refl $ forget ! 12 refl $ forget ! 13 refl $ forget ! 14 refl $ move ! (2 ∷ 3 ∷ 1 ∷ 0 ∷ []) $
           again ! (≺ ys) I st (record {
-            i = st .i + 1; xs = set (st .xs) (st .i) (r .txid); zs = set (st .zs) (st .i) (r .«snapshot_xmin»); le = omega (arith, l);
-            xs-long = length-set (st .xs) (st .i) (r .txid) ∙ st .xs-long; zs-long = length-set (st .zs) (st .i) (r .«snapshot_xmin») ∙ st .zs-long;
+            i = st .i + 1;
+            xs = set (st .xs) (st .i) (r .txid);
+            zs = set (st .zs) (st .i) (r .«snapshot_xmin»);
+            le = omega (arith, l);
+            xs-long = length-set (st .xs) (st .i) (r .txid) ∙ st .xs-long;
+            zs-long = length-set (st .zs) (st .i) (r .«snapshot_xmin») ∙ st .zs-long;
             xs-same = grows (txidsOf ys) (st .xs) (st .i) (r .txid) lx (subst (λ (n : ℕ). st .i < n) (sym (length-map ys _)) l) (st .xs-same) (ap (λ (s : Slot). s .txid) read ∙ sym (List·getD-map (λ (s : Slot). s .txid) ys (st .i) emptySlot));
             zs-same = grows (xminsOf ys) (st .zs) (st .i) (r .«snapshot_xmin») lz (subst (λ (n : ℕ). st .i < n) (sym (length-map ys _)) l) (st .zs-same) (ap (λ (s : Slot). s .«snapshot_xmin») read ∙ sym (List·getD-map (λ (s : Slot). s .«snapshot_xmin») ys (st .i) emptySlot));
           }) (omega (arith, l))))))
