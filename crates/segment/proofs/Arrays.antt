@@ -20,7 +20,7 @@ use types.Share.{arr-parts}
 use denote.RattleType.{RattleType}
 use denote.Laws.{Is, Tells, Makes, shows}
 use denote.Memory.{cellAt, lone, mem, partAt, partOf, shares}
-use denote.Array.{Array, array-vals, array-tells, array-makes}
+use denote.Array.{Array, array-tells, array-makes}
 use denote.ArrayMemory.{Single, array-apart, array-whole}
 use denote.Index.{row, whole-out, whole-in}
 use denote.Steps.{facts, owned}

@@ -2,5 +2,5 @@ pub mod Steps
 pub mod Constants
 pub mod Arrays
 pub mod Numbers
-pub mod Refused
+pub mod Runs
 pub mod Unique

@@ -1,9 +1,7 @@
+-- Two arrays of zeros, in a struct.
 use borrow.Author.Needs.{needs}
 use Rattle.segment.proofs.no_columns.Statement.{statement}
 use Rattle.segment.proofs.no_columns.Tie as tie
-use Rattle.segment.proofs.no_columns.Reads as reads
-use Rattle.segment.proofs.no_columns.Lts as lts
-use Rattle.kinds.proofs.zeros.Reads as zeros-reads
 
 -- src/lib.rt:34:9
 zeros-requires : tie.Need-zeros-requires

@@ -1,6 +1,6 @@
 -- A walk of `slot_at`: the place of `slots[i]` is 16 * i past the slice's pointer, and the record is read there whole.
 -- The code has no check of the bound: the contract asks for it.
-use mathlib.Core.Path.{_≡_, refl, sym}
+use mathlib.Core.Path.{refl, sym}
 use Prim.Native.Nat.{ℕ, _*_, _<_, _^_}
 use mathlib.Core.List.{List, [], _∷_}
 use lib.ListN.{length, getD}

@@ -1,11 +1,9 @@
+-- The loop stays within the array.
 use Prim.Native.Nat.{_≤_, _-_}
 use borrow.Author.Needs.{needs}
 use Rattle.segment.proofs.Steps.{count}
 use Rattle.segment_demo.proofs.runs.full.Statement.{statement}
 use Rattle.segment_demo.proofs.runs.full.Tie as tie
-use Rattle.segment_demo.proofs.runs.full.Reads as reads
-use Rattle.segment_demo.proofs.runs.full.Lts as lts
-use Rattle.segment_demo.proofs.runs.empty.Reads as empty-reads
 
 abbrev Inv-loop : tie.InvT-loop
 Inv-loop run₀ i₀ run i = i ≤ count
