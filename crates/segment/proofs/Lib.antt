@@ -1,4 +1,5 @@
 pub mod Steps
+pub mod Locals
 pub mod Constants
 pub mod Arrays
 pub mod Numbers

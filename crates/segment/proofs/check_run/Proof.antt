@@ -20,7 +20,7 @@ use contract.Monad.{Fun, fact, factI}
 use contract.Running.{givenOf, tables, tablesOf}
 use types.Kit.{Given, Item, Sq, runs, atRet, ‵, raw, _⊛_, ⋆, _$_, _∵_, !, qed, by, move, keep, drop, use0, use2, split, join, fsplit, fjoin, suffices, frame, done}
 use types.Part.{whole, sub, look-in}
-use types.Run.{look, init, forget, stop, fld, from, load, false-lit, of-opd, bin, and-then, no-more, assigns, assigns-last, land, land-last, first, branches, exec, returns, enter, alloc1, alloc0, params1, pass1, pass0, free1, free0}
+use types.Run.{look, init, forget, false-lit, of-opd, bin, and-then, no-more, first, branches, exec, returns, enter, alloc1, alloc0, params1, pass1, pass0, free1, free0}
 use sound.WpLaws.{FmC, fmOf, WpFn-mono}
 use denote.Ask.Quote.{gives}
 use denote.RattleType.{owns}
@@ -42,6 +42,7 @@ use Rattle.rules.specs.Check.{passes}
 use Rattle.segment.specs.Run.{txidsOf, xminsOf, columnsOf, runPasses}
 use Rattle.segment.specs.declared.Slot.{Slot}
 use Rattle.segment.specs.declared.Columns.{Columns}
+use Rattle.segment.proofs.Locals.{local, member, sets, sets-last, lands, lands-last}
 use Rattle.segment.proofs.Steps.{count, run-place, number-place, word, slice, answers, returned, asks, number}
 use Rattle.segment.proofs.Constants.{constant}
 use Rattle.segment.proofs.Numbers.{long}
@@ -160,7 +161,7 @@ module _ {M : Type 1} (𝓤 : URA M) (H : Heap 𝓤) (A : Atoms 𝓤) (W : Given
 
       leaves : (r : Bool) (u : Val) → Is Boolean r (u ∷ []) → r ≡ runPasses count ys clock sample line → Sq W (After u) (runs C Λ E mir.t-4 (atRet E Post))
       leaves r u is e =
-          assigns ! (of-opd ! (load ! (from ! (stop !)) (look ! 5 refl))) (from ! (stop !)) (init ! 19 refl (bool-lawful 𝓤 H A W .typed r _ is .0)) $
+          sets ! (of-opd ! (local ! (look ! 5 refl))) (init ! 19 refl (bool-lawful 𝓤 H A W .typed r _ is .0)) $
           returns ! (look ! 19 refl) $ forget ! 5 refl $ forget ! 7 refl $ forget ! 9 refl $ forget ! 11 refl $ forget ! 13 refl $ forget ! 15 refl $ forget ! 17 refl $ forget ! 19 refl $
           keep ! (19 ∷ 20 ∷ 17 ∷ 18 ∷ 15 ∷ 16 ∷ 13 ∷ 14 ∷ 11 ∷ 12 ∷ 9 ∷ 10 ∷ 7 ∷ 8 ∷ 5 ∷ 6 ∷ 3 ∷ 4 ∷ 1 ∷ 2 ∷ 0 ∷ []) $
           free1 ! $ free1 ! $ free1 ! $ free1 ! $ free1 ! $ free1 ! $ free1 ! $ free1 ! $ free1 ! $ free1 ! $ free0 ! $ by ! (exits r u is e)
@@ -172,28 +173,28 @@ module _ {M : Type 1} (𝓤 : URA M) (H : Heap 𝓤) (A : Atoms 𝓤) (W : Given
         pass1 ! (init ! 16 refl (tt, (tt, (record { fits = room .0 }, tt)))) $ pass1 ! (init ! 14 refl (tt, record { fits = clock-fits })) $ pass1 ! (init ! 12 refl (tt, record { fits = sample-fits })) $ pass1 ! (init ! 10 refl (tt, record { fits = line-fits })) $ pass0 ! $
         move ! (21 ∷ []) $ fsplit ! $ move ! (1 ∷ []) $ drop ! $ move ! (21 ∷ []) $ split ! $ move ! (1 ∷ []) $ drop ! $
         -- [the token; Own; _9; ..; _8; ..; _7; ..; _6; ..; _5; ..; _4; ..; _3; ..; _2; ..; _1; ..; _0; ..]
-        assigns ! (of-opd ! (load ! (from ! (fld ! refl (stop !))) (look-in ! 18 (sub ! 1 refl (whole !))))) (from ! (stop !)) (init ! 10 refl (tt, record { fits = room .0 })) $
-        assigns ! (bin ! (load ! (from ! (stop !)) (look ! 10 refl)) (constant W ! _ count (lit< tt) (refl, refl)) tt) (from ! (stop !)) (init ! 8 refl (tt, tt)) $
-        first ! $ branches ! (load ! (from ! (stop !)) (look ! 8 refl))
+        sets ! (of-opd ! (member ! refl (look-in ! 18 (sub ! 1 refl (whole !))))) (init ! 10 refl (tt, record { fits = room .0 })) $
+        sets ! (bin ! (local ! (look ! 10 refl)) (constant W ! _ count (lit< tt) (refl, refl)) tt) (init ! 8 refl (tt, tt)) $
+        first ! $ branches ! (local ! (look ! 8 refl))
         (λ h.
         use0 W (raw (None 𝓤 H A mem run .pre to-none)) goes-none $
         calls-at ! fm (None 𝓤 H A mem run) known-none to-none (no-more !) (λ u₀.
         answers W ! tt none.ended (none.clauses 𝓤 H A mem run) to-none u₀ (λ _. Unit {0}) (λ t ws. factI 𝓤 (Unit {0}) _ tt) (λ t₀ _ is₀. drop ! $ drop ! $
-        land ! (from ! (stop !)) (init ! 2 refl (LL.lawful S.the-type S′.the-laws 𝓤 H A W .typed t₀ _ is₀ .0)) $
+        lands ! (init ! 2 refl (LL.lawful S.the-type S′.the-laws 𝓤 H A W .typed t₀ _ is₀ .0)) $
         use2 W (raw (Gather 𝓤 H A mem run .pre (to-gather t₀ u₀))) (goes-gather t₀ u₀ is₀ (eqb→eq (length ys) count h)) $
         -- [what gather asks; _9; ..; _8; ..; down to _0; ..]
-        calls-at ! fm (Gather 𝓤 H A mem run) known-gather (to-gather t₀ u₀) (and-then ! (load ! (from ! (stop !)) (look ! 17 refl)) (and-then ! (load ! (from ! (stop !)) (look ! 1 refl)) (no-more !))) (λ u.
+        calls-at ! fm (Gather 𝓤 H A mem run) known-gather (to-gather t₀ u₀) (and-then ! (local ! (look ! 17 refl)) (and-then ! (local ! (look ! 1 refl)) (no-more !))) (λ u.
         answers W ! tt gather.ended (gather.clauses 𝓤 H A mem run) (to-gather t₀ u₀) u (λ t. t ≡ columnsOf ys) (λ t ws. id⊢ 𝓤 _) (λ t e is.
-        land ! (from ! (stop !)) (init ! 4 refl (LL.lawful S.the-type S′.the-laws 𝓤 H A W .typed t _ is .0)) $ returned W ! κ q $
+        lands ! (init ! 4 refl (LL.lawful S.the-type S′.the-laws 𝓤 H A W .typed t _ is .0)) $ returned W ! κ q $
         use0 W (raw (Core 𝓤 H A mem run .pre (to-core t u))) (goes-core t u is) $
         -- [what the core asks; the token; _9; ..; _8; ..; down to _0; ..]
-        calls-at-last ! fm (Core 𝓤 H A mem run) known-core (to-core t u) (and-then ! (load ! (from ! (stop !)) (look ! 4 refl)) (and-then ! (load ! (from ! (stop !)) (look ! 16 refl)) (and-then ! (load ! (from ! (stop !)) (look ! 14 refl)) (and-then ! (load ! (from ! (stop !)) (look ! 12 refl)) (no-more !))))) (λ w.
+        calls-at-last ! fm (Core 𝓤 H A mem run) known-core (to-core t u) (and-then ! (local ! (look ! 4 refl)) (and-then ! (local ! (look ! 16 refl)) (and-then ! (local ! (look ! 14 refl)) (and-then ! (local ! (look ! 12 refl)) (no-more !))))) (λ w.
         answers W ! tt core.ended (core.clauses 𝓤 H A mem run) (to-core t u) w (λ r. r ≡ passes (length (t .txids)) (t .txids) (t .«snapshot_xmins») clock sample line) (λ r ws. id⊢ 𝓤 _) (λ r said ris. drop ! $ drop ! $
-        land-last ! (from ! (stop !)) (init ! 5 refl (bool-lawful 𝓤 H A W .typed r _ ris .0)) $
+        lands-last ! (init ! 5 refl (bool-lawful 𝓤 H A W .typed r _ ris .0)) $
         exec ! C Λ (E l₀ l₁ l₂ l₃ l₄ l₅ l₆ l₇ l₈ l₉) mir.t-4 (atRet (E l₀ l₁ l₂ l₃ l₄ l₅ l₆ l₇ l₈ l₉) Post) $ forget ! 1 refl $ forget ! 3 refl $
         leaves l₀ l₁ l₂ l₃ l₄ l₅ l₆ l₇ l₈ l₉ r w ris (as-run r t (eqb→eq (length ys) count h) e said))))))))
         (λ h.
-        move ! (1 ∷ []) $ drop ! $ assigns-last ! (of-opd ! (false-lit !)) (from ! (stop !)) (init ! 5 refl (tt, tt)) $
+        move ! (1 ∷ []) $ drop ! $ sets-last ! (of-opd ! (false-lit !)) (init ! 5 refl (tt, tt)) $
         exec ! C Λ (E l₀ l₁ l₂ l₃ l₄ l₅ l₆ l₇ l₈ l₉) mir.t-4 (atRet (E l₀ l₁ l₂ l₃ l₄ l₅ l₆ l₇ l₈ l₉) Post) $
         leaves l₀ l₁ l₂ l₃ l₄ l₅ l₆ l₇ l₈ l₉ false (vbool false) refl (other-length count ys clock sample line h))))))))))))
 

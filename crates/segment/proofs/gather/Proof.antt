@@ -25,7 +25,7 @@ use contract.Running.{givenOf, tables, tablesOf}
 use types.Kit as Kit
 use types.Kit.{Given, Item, Sq, runs, anyQ, atRet, ‵, raw, _⊛_, ⋆, _$_, _∵_, !, qed, by, move, keep, drop, use1, use2, split, join, rewrite, fsplit, fjoin, suffices, frame, done}
 use types.Part.{whole, sub, look-in, agg}
-use types.Run.{Below, again, loops, look, init, store, store-raw, forget, stop, hop, fld, from, load, lit, addr, of-opd, bin, and-then, no-more, assigns, assigns-last, land, first, blocks, stays, leaves-loop, exec, returns, enter, alloc1, alloc0, params1, pass1, pass0, free1, free0}
+use types.Run.{Below, again, loops, look, init, store, store-raw, forget, stop, hop, from, lit, addr, of-opd, bin, and-then, no-more, assigns, first, blocks, stays, leaves-loop, exec, returns, enter, alloc1, alloc0, params1, pass1, pass0, free1, free0}
 use sound.WpLaws.{FmC, fmOf, WpFn-mono}
 use denote.RattleType.{owns}
 use denote.Laws.{Is, shows}
@@ -47,6 +47,7 @@ use denote.Exit.{yes}
 use Rattle.segment.specs.Run.{emptySlot, txidsOf, xminsOf, columnsOf}
 use Rattle.segment.specs.declared.Slot.{Slot}
 use Rattle.segment.specs.declared.Columns.{Columns}
+use Rattle.segment.proofs.Locals.{local, member, sets, sets-last, lands}
 use Rattle.segment.proofs.Steps.{count, run-place, word, slice, answers, returned, number, fit}
 use Rattle.segment.proofs.Arrays.{spreads, gathers}
 use Rattle.segment.proofs.Numbers.{arr, grows, typed, grown, long, paired}
@@ -172,36 +173,36 @@ module _ {M : Type 1} (𝓤 : URA M) (H : Heap 𝓤) (A : Atoms 𝓤) (W : Given
       more : (st : State ys) → ltb (st .i) (length ys) ≡ true → Turn st
       unfolding afterTurn
       more st e =
-          assigns ! (of-opd ! (load ! (from ! (fld ! refl (stop !))) (look-in ! 5 (sub ! 1 refl (whole !))))) (from ! (stop !)) (init ! 9 refl (tt, record { fits = room .0 })) $
-          assigns ! (bin ! (load ! (from ! (stop !)) (look ! 4 refl)) (load ! (from ! (stop !)) (look ! 9 refl)) tt) (from ! (stop !)) (init ! 10 refl (tt, tt)) $
+          sets ! (of-opd ! (member ! refl (look-in ! 5 (sub ! 1 refl (whole !))))) (init ! 9 refl (tt, record { fits = room .0 })) $
+          sets ! (bin ! (local ! (look ! 4 refl)) (local ! (look ! 9 refl)) tt) (init ! 10 refl (tt, tt)) $
           rewrite ! 10 (λ (z : Bool). ‵ (fat fullShare tyBool l₈ 0 (vbool z))) e refl $
-          stays ! (load ! (from ! (stop !)) (look ! 10 refl)) $
+          stays ! (local ! (look ! 10 refl)) $
           move ! (1 ∷ []) $ use1 W (‵ Own ⊛ ‵ Own) (shr-slice-copy 𝓤 H A W (named 0) κ T.the-row .twice x (v ∷ [])) $ split ! $ move ! (2 ∷ 0 ∷ []) $
           use2 W (raw (At 𝓤 H A mem run .pre (to-at (st .i)))) (goes-at (st .i) i-fits l) $
           -- [what slot_at asks; Own; and as in I]
-          calls-at ! fm (At 𝓤 H A mem run) known (to-at (st .i)) (and-then ! (load ! (from ! (stop !)) (look ! 5 refl)) (and-then ! (load ! (from ! (stop !)) (look ! 4 refl)) (no-more !))) (λ m.
+          calls-at ! fm (At 𝓤 H A mem run) known (to-at (st .i)) (and-then ! (local ! (look ! 5 refl)) (and-then ! (local ! (look ! 4 refl)) (no-more !))) (λ m.
           answers W ! tt at′.ended (at′.clauses 𝓤 H A mem run) (to-at (st .i)) m (λ r. r ≡ getD ys (st .i) emptySlot) (λ r ws. id⊢ 𝓤 _) (λ r read ris.
-          land ! (from ! (stop !)) (init ! 9 refl (LL.lawful T.the-type T′.the-laws 𝓤 H A W .typed r _ ris .0)) $ returned W ! κ q $
+          lands ! (init ! 9 refl (LL.lawful T.the-type T′.the-laws 𝓤 H A W .typed r _ ris .0)) $ returned W ! κ q $
           -- [the token; Own; and as in I, with _6 the record, _7 and _8 full]
           rewrite ! 8 (λ (u : Val). ‵ (fat fullShare T′.mir l₆ 0 u)) (head-eq-of-cons-eq (LL.tells T.the-type T′.the-laws r (m ∷ []) ris)) refl $
-          assigns ! (bin ! (load ! (from ! (stop !)) (look ! 4 refl)) (lit ! tt) (record { fits = i-bytes })) (from ! (stop !)) (store ! 9 refl (tt, record { fits = i-bytes })) $
-          assigns ! (addr ! (from ! (stop !))) (from ! (stop !)) (init ! 11 refl (tt, tt)) $
-          assigns ! (bin ! (load ! (from ! (stop !)) (look ! 11 refl)) (load ! (from ! (stop !)) (look ! 9 refl)) tt) (from ! (stop !)) (init ! 12 refl (tt, tt)) $
+          sets ! (bin ! (local ! (look ! 4 refl)) (lit ! tt) (record { fits = i-bytes })) (store ! 9 refl (tt, record { fits = i-bytes })) $
+          sets ! (addr ! (from ! (stop !))) (init ! 11 refl (tt, tt)) $
+          sets ! (bin ! (local ! (look ! 11 refl)) (local ! (look ! 9 refl)) tt) (init ! 12 refl (tt, tt)) $
           rewrite ! 12 (λ (p : ℕ). ‵ (fat fullShare tyPtr l₁₀ 0 (vptr l₃ p))) (sym (place-is 8 0 (st .i))) refl $
           move ! (2 ∷ []) $ elem-out ! u64 (Is u64) (shows 𝓤 H A u64) (uint-vals w64) (uint-tells w64) fullShare (st .xs) (st .i) 0 l₃ 0 lx (λ _.
           -- [txids[i]; what it owns; the others; the token; Own; the elements of _4; _5; _1; _0; _2; _6; _7; .. ; _14; ..]
-          assigns ! (of-opd ! (load ! (from ! (fld ! refl (stop !))) (look-in ! 10 (sub ! 0 refl (whole !))))) (from ! (hop ! (look ! 14 refl) (stop !))) (store-raw ! 0 refl (tt, record { fits = fit r m ris .0 })) $
+          assigns ! (of-opd ! (member ! refl (look-in ! 10 (sub ! 0 refl (whole !))))) (from ! (hop ! (look ! 14 refl) (stop !))) (store-raw ! 0 refl (tt, record { fits = fit r m ris .0 })) $
           move ! (1 ∷ []) $ drop ! $ number W ! (r .txid) (fit r m ris .0) $ move ! (1 ∷ 0 ∷ []) $ elem-put ! u64 fullShare (st .xs) (st .i) (r .txid) (vint w64 (r .txid) ∷ []) l₃ 0 lx $
           -- [the elements of _3; the token; Own; the elements of _4; _5; .. as in I]
-          assigns ! (bin ! (load ! (from ! (stop !)) (look ! 4 refl)) (lit ! tt) (record { fits = i-bytes })) (from ! (stop !)) (store ! 9 refl (tt, record { fits = i-bytes })) $
-          assigns ! (addr ! (from ! (stop !))) (from ! (stop !)) (init ! 13 refl (tt, tt)) $
-          assigns ! (bin ! (load ! (from ! (stop !)) (look ! 13 refl)) (load ! (from ! (stop !)) (look ! 9 refl)) tt) (from ! (stop !)) (init ! 14 refl (tt, tt)) $
+          sets ! (bin ! (local ! (look ! 4 refl)) (lit ! tt) (record { fits = i-bytes })) (store ! 9 refl (tt, record { fits = i-bytes })) $
+          sets ! (addr ! (from ! (stop !))) (init ! 13 refl (tt, tt)) $
+          sets ! (bin ! (local ! (look ! 13 refl)) (local ! (look ! 9 refl)) tt) (init ! 14 refl (tt, tt)) $
           rewrite ! 14 (λ (p : ℕ). ‵ (fat fullShare tyPtr l₁₂ 0 (vptr l₄ p))) (sym (place-is 8 0 (st .i))) refl $
           move ! (3 ∷ []) $ elem-out ! u64 (Is u64) (shows 𝓤 H A u64) (uint-vals w64) (uint-tells w64) fullShare (st .zs) (st .i) 0 l₄ 0 lz (λ _.
-          assigns ! (of-opd ! (load ! (from ! (fld ! refl (stop !))) (look-in ! 10 (sub ! 1 refl (whole !))))) (from ! (hop ! (look ! 16 refl) (stop !))) (store-raw ! 0 refl (tt, record { fits = fit r m ris .1 })) $
+          assigns ! (of-opd ! (member ! refl (look-in ! 10 (sub ! 1 refl (whole !))))) (from ! (hop ! (look ! 16 refl) (stop !))) (store-raw ! 0 refl (tt, record { fits = fit r m ris .1 })) $
           move ! (1 ∷ []) $ drop ! $ number W ! (r .«snapshot_xmin») (fit r m ris .1) $ move ! (1 ∷ 0 ∷ []) $ elem-put ! u64 fullShare (st .zs) (st .i) (r .«snapshot_xmin») (vint w64 (r .«snapshot_xmin») ∷ []) l₄ 0 lz $
           -- [the elements of _4; of _3; the token; Own; _5; .. as in I]
-          assigns-last ! (bin ! (load ! (from ! (stop !)) (look ! 4 refl)) (lit ! tt) (record { fits = i-next })) (from ! (stop !)) (store ! 4 refl (tt, record { fits = i-next })) $
+          sets-last ! (bin ! (local ! (look ! 4 refl)) (lit ! tt) (record { fits = i-next })) (store ! 4 refl (tt, record { fits = i-next })) $
           forget ! 8 refl $ forget ! 9 refl $ forget ! 10 refl $ forget ! 11 refl $ forget ! 12 refl $ forget ! 13 refl $ forget ! 14 refl $ move ! (2 ∷ 3 ∷ 1 ∷ 0 ∷ []) $
           again ! (≺ ys) I st (record {
             i = st .i + 1;
@@ -236,15 +237,15 @@ module _ {M : Type 1} (𝓤 : URA M) (H : Heap 𝓤) (A : Atoms 𝓤) (W : Given
       ends : (st : State ys) → ltb (st .i) (length ys) ≡ false → Turn st
       unfolding afterTurn
       ends st e =
-          assigns ! (of-opd ! (load ! (from ! (fld ! refl (stop !))) (look-in ! 5 (sub ! 1 refl (whole !))))) (from ! (stop !)) (init ! 9 refl (tt, record { fits = room .0 })) $
-          assigns ! (bin ! (load ! (from ! (stop !)) (look ! 4 refl)) (load ! (from ! (stop !)) (look ! 9 refl)) tt) (from ! (stop !)) (init ! 10 refl (tt, tt)) $
+          sets ! (of-opd ! (member ! refl (look-in ! 5 (sub ! 1 refl (whole !))))) (init ! 9 refl (tt, record { fits = room .0 })) $
+          sets ! (bin ! (local ! (look ! 4 refl)) (local ! (look ! 9 refl)) tt) (init ! 10 refl (tt, tt)) $
           rewrite ! 10 (λ (z : Bool). ‵ (fat fullShare tyBool l₈ 0 (vbool z))) e refl $
-          leaves-loop ! (load ! (from ! (stop !)) (look ! 10 refl)) $ exec ! C Λ E mir.t-5 (atRet E Post) $
+          leaves-loop ! (local ! (look ! 10 refl)) $ exec ! C Λ E mir.t-5 (atRet E Post) $
           move ! (2 ∷ []) $ gathers W u64 ! (uint-vals w64) (uint-tells w64) count (st .xs) l₃ (st .xs-long) (λ u uis. move ! (3 ∷ []) $ gathers W u64 ! (uint-vals w64) (uint-tells w64) count (st .zs) l₄ (st .zs-long) (λ z zis.
           -- [_4; _3; the token; Own; _5; _1; _0; _2; _6; .. ; _14; that each local dies]
-          assigns ! (of-opd ! (load ! (from ! (stop !)) (look ! 1 refl))) (from ! (stop !)) (init ! 15 refl (typed 𝓤 H A W (st .xs) u uis)) $
-          assigns ! (of-opd ! (load ! (from ! (stop !)) (look ! 0 refl))) (from ! (stop !)) (init ! 16 refl (typed 𝓤 H A W (st .zs) z zis)) $
-          assigns ! (agg ! (and-then ! (load ! (from ! (stop !)) (look ! 15 refl)) (and-then ! (load ! (from ! (stop !)) (look ! 16 refl)) (no-more !)))) (from ! (stop !)) (init ! 6 refl (LL.lawful S.the-type S′.the-laws 𝓤 H A W .typed got _ (paired got u z uis zis) .0)) $
+          sets ! (of-opd ! (local ! (look ! 1 refl))) (init ! 15 refl (typed 𝓤 H A W (st .xs) u uis)) $
+          sets ! (of-opd ! (local ! (look ! 0 refl))) (init ! 16 refl (typed 𝓤 H A W (st .zs) z zis)) $
+          sets ! (agg ! (and-then ! (local ! (look ! 15 refl)) (and-then ! (local ! (look ! 16 refl)) (no-more !)))) (init ! 6 refl (LL.lawful S.the-type S′.the-laws 𝓤 H A W .typed got _ (paired got u z uis zis) .0)) $
           returns ! (look ! 6 refl) $ forget ! 0 refl $ forget ! 1 refl $ forget ! 4 refl $ forget ! 5 refl $ forget ! 6 refl $ forget ! 9 refl $ forget ! 10 refl $ forget ! 15 refl $ forget ! 16 refl $
           keep ! (6 ∷ 17 ∷ 5 ∷ 18 ∷ 7 ∷ 19 ∷ 1 ∷ 20 ∷ 0 ∷ 21 ∷ 4 ∷ 22 ∷ 8 ∷ 23 ∷ 9 ∷ 24 ∷ 10 ∷ 25 ∷ 11 ∷ 26 ∷ 12 ∷ 27 ∷ 13 ∷ 28 ∷ 14 ∷ 29 ∷ 15 ∷ 30 ∷ 16 ∷ 31 ∷ 2 ∷ []) $
           free1 ! $ free1 ! $ free1 ! $ free1 ! $ free1 ! $ free1 ! $ free1 ! $ free1 ! $ free1 ! $ free1 ! $ free1 ! $ free1 ! $ free1 ! $ free1 ! $ free1 ! $ free0 ! $
@@ -280,9 +281,9 @@ module _ {M : Type 1} (𝓤 : URA M) (H : Heap 𝓤) (A : Atoms 𝓤) (W : Given
         alloc1 ! (λ l₀. alloc1 ! (λ l₁. alloc1 ! (λ l₂. alloc1 ! (λ l₃. alloc1 ! (λ l₄. alloc1 ! (λ l₅. alloc1 ! (λ l₆. alloc1 ! (λ l₇. alloc1 ! (λ l₈. alloc1 ! (λ l₉. alloc1 ! (λ l₁₀. alloc1 ! (λ l₁₁. alloc1 ! (λ l₁₂. alloc1 ! (λ l₁₃. alloc1 ! (λ l₁₄. alloc0 ! $ params1 ! $
         -- [_14; ..; _13; .. down to _0; ..; the token; what the parameters own]
         pass1 ! (init ! 26 refl (tt, (tt, (record { fits = room .0 }, tt)))) $ pass1 ! (init ! 24 refl (LL.lawful S.the-type S′.the-laws 𝓤 H A W .typed into _ is .0)) $ pass0 ! $
-        assigns ! (of-opd ! (load ! (from ! (fld ! refl (stop !))) (look-in ! 24 (sub ! 0 refl (whole !))))) (from ! (stop !)) (init ! 22 refl (typed 𝓤 H A W xs₀ _ (owed .0))) $
-        assigns ! (of-opd ! (load ! (from ! (fld ! refl (stop !))) (look-in ! 24 (sub ! 1 refl (whole !))))) (from ! (stop !)) (init ! 20 refl (typed 𝓤 H A W zs₀ _ (owed .1 .0))) $
-        assigns ! (of-opd ! (lit ! tt)) (from ! (stop !)) (init ! 18 refl (tt, record { fits = lit< tt })) $ forget ! 24 refl $
+        sets ! (of-opd ! (member ! refl (look-in ! 24 (sub ! 0 refl (whole !))))) (init ! 22 refl (typed 𝓤 H A W xs₀ _ (owed .0))) $
+        sets ! (of-opd ! (member ! refl (look-in ! 24 (sub ! 1 refl (whole !))))) (init ! 20 refl (typed 𝓤 H A W zs₀ _ (owed .1 .0))) $
+        sets ! (of-opd ! (lit ! tt)) (init ! 18 refl (tt, record { fits = lit< tt })) $ forget ! 24 refl $
         move ! (22 ∷ []) $ spreads W u64 ! tt (uint-makes 𝓤 H A W w64) count xs₀ l₃ _ (owed .0) $ move ! (21 ∷ []) $ spreads W u64 ! tt (uint-makes 𝓤 H A W w64) count zs₀ l₄ _ (owed .1 .0) $
         move ! (31 ∷ []) $ fsplit ! $ move ! (32 ∷ []) $ split ! $
         -- [the token; true; Own; what `into` owns; the elements of _4; of _3; _14; .. ; _5; ..; that _4 and _3 die; _2; ..; _1; ..; _0; ..]

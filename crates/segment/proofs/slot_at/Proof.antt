@@ -19,7 +19,7 @@ use contract.Monad.{Fun}
 use contract.Running.{givenOf, tables, tablesOf}
 use types.Kit.{Given, ‵, _⊛_, _$_, _∵_, !, qed, by, move, keep, split, join, rewrite, fsplit, fjoin, suffices, frame, done}
 use types.Part.{whole, sub, look-in}
-use types.Run.{look, look-raw, init, forget, stop, hop, fld, from, load, lit, of-opd, bin, assigns, returns, enter, alloc1, alloc0, params1, pass1, pass0, free1, free0}
+use types.Run.{look, look-raw, init, forget, stop, hop, from, load, lit, of-opd, bin, returns, enter, alloc1, alloc0, params1, pass1, pass0, free1, free0}
 use sound.WpLaws.{WpFn-mono}
 use denote.RattleType.{owns}
 use denote.Laws.{Is, shows}
@@ -37,6 +37,7 @@ use denote.Triple.Walked.{says, needs, Stays, stay-dropped, walkOf, Walks, ends-
 use denote.Exit.{yes}
 use Rattle.segment.specs.Run.{emptySlot}
 use Rattle.segment.specs.declared.Slot.{Slot}
+use Rattle.segment.proofs.Locals.{local, member, sets}
 use Rattle.segment.proofs.Steps.{run-place, number-place}
 use Rattle.segment.proofs.Slot as T
 use Rattle.segment.proofs.Slot.Laws as T′
@@ -87,14 +88,14 @@ module _ {M : Type 1} (𝓤 : URA M) (H : Heap 𝓤) (A : Atoms 𝓤) (W : Given
         alloc1 ! (λ l₀. alloc1 ! (λ l₁. alloc1 ! (λ l₂. alloc1 ! (λ l₃. alloc1 ! (λ l₄. alloc1 ! (λ l₅. alloc0 ! $ params1 ! $
         -- [_5; ..; _4; ..; _3; ..; _2; ..; _1; ..; _0; ..; the token; what the parameters own]
         pass1 ! (init ! 8 refl (tt, (tt, (record { fits = gn .0 }, tt)))) $ pass1 ! (init ! 6 refl (tt, record { fits = gi })) $ pass0 ! $
-        assigns ! (bin ! (load ! (from ! (stop !)) (look ! 6 refl)) (lit ! tt) (record { fits = bytes-fit i (length ys) l (gn .1) })) (from ! (stop !)) (init ! 4 refl (tt, record { fits = bytes-fit i (length ys) l (gn .1) })) $
-        assigns ! (bin ! (load ! (from ! (fld ! refl (stop !))) (look-in ! 8 (sub ! 0 refl (whole !)))) (load ! (from ! (stop !)) (look ! 4 refl)) tt) (from ! (stop !)) (init ! 2 refl (tt, tt)) $
+        sets ! (bin ! (local ! (look ! 6 refl)) (lit ! tt) (record { fits = bytes-fit i (length ys) l (gn .1) })) (init ! 4 refl (tt, record { fits = bytes-fit i (length ys) l (gn .1) })) $
+        sets ! (bin ! (member ! refl (look-in ! 8 (sub ! 0 refl (whole !)))) (local ! (look ! 4 refl)) tt) (init ! 2 refl (tt, tt)) $
         rewrite ! 2 (λ (p : ℕ). ‵ (fat fullShare tyPtr l₄ 0 (vptr b p))) (sym (place-is 16 o i)) refl $
         move ! (13 ∷ []) $ fsplit ! $ fsplit ! $ move ! (1 ∷ []) $ fsplit ! $ move ! (16 ∷ []) $ split ! $ move ! (3 ∷ 0 ∷ []) $
         looks-slice ! tt T.the-row (Is T.the-row) (shows 𝓤 H A T.the-row) vals (LL.tells T.the-type T′.the-laws) (LL.copy T.the-type T′.the-copy 𝓤 H A W) ys b o (λ q′. elem-out ! T.the-row (Is T.the-row) (shows 𝓤 H A T.the-row) vals (LL.tells T.the-type T′.the-laws) q′ ys i emptySlot b o l (λ g.
         -- [slots[i]; what it owns; the others; what shuts; the fractured borrow; true; res; slots' fact; i's; _5; ..; _4; ..; _3; ..; _2; ..; _1; ..; _0; ..]
-        assigns ! (of-opd ! (load ! (from ! (hop ! (look ! 11 refl) (stop !))) (look-raw ! 0 refl))) (from ! (stop !)) (init ! 9 refl (LL.lawful T.the-type T′.the-laws 𝓤 H A W .typed elem (mach ∷ []) g .0)) $
-        assigns ! (of-opd ! (load ! (from ! (stop !)) (look ! 9 refl))) (from ! (stop !)) (init ! 19 refl (LL.lawful T.the-type T′.the-laws 𝓤 H A W .typed elem (mach ∷ []) g .0)) $
+        sets ! (of-opd ! (load ! (from ! (hop ! (look ! 11 refl) (stop !))) (look-raw ! 0 refl))) (init ! 9 refl (LL.lawful T.the-type T′.the-laws 𝓤 H A W .typed elem (mach ∷ []) g .0)) $
+        sets ! (of-opd ! (local ! (look ! 9 refl))) (init ! 19 refl (LL.lawful T.the-type T′.the-laws 𝓤 H A W .typed elem (mach ∷ []) g .0)) $
         elem-back ! T.the-row q′ ys i emptySlot (mach ∷ []) b o l $ shuts-slice ! tt T.the-row q′ ys b o $
         returns ! (look ! 16 refl) $ forget ! 6 refl $ forget ! 8 refl $ forget ! 10 refl $ forget ! 12 refl $ forget ! 14 refl $ forget ! 16 refl $
         move ! (16 ∷ 17 ∷ []) $ free1 ! $ move ! (14 ∷ 15 ∷ []) $ free1 ! $ move ! (12 ∷ 13 ∷ []) $ free1 ! $ move ! (10 ∷ 11 ∷ []) $ free1 ! $ move ! (8 ∷ 9 ∷ []) $ free1 ! $ move ! (6 ∷ 7 ∷ []) $ free1 ! $ free0 ! $

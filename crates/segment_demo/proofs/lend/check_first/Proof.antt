@@ -23,7 +23,7 @@ use types.Kit.{Given, ‵, raw, _⊛_, ⋆, some, later, _$_, _∵_, !, qed, by,
 use types.Part.{agg}
 use types.Share.{arr-parts}
 use types.Tokens.{lft-new, lft-end, lent-back}
-use types.Run.{look, init, forget, stop, from, load, addr, of-opd, and-then, no-more, assigns, land, returns, enter, alloc1, alloc0, params1, pass1, pass0, free1, free0}
+use types.Run.{look, init, forget, stop, from, addr, of-opd, and-then, no-more, returns, enter, alloc1, alloc0, params1, pass1, pass0, free1, free0}
 use sound.WpLaws.{FmC, fmOf, WpFn-mono}
 use denote.Array.{Array, array-vals, array-tells, array-lawful}
 use denote.Ask.Asked.{asked}
@@ -48,6 +48,7 @@ use denote.Exit.{yes}
 use borrow.Table.Elements.{length-take-le}
 use Rattle.segment.specs.Run.{runPasses}
 use Rattle.segment.specs.declared.Slot.{Slot}
+use Rattle.segment.proofs.Locals.{local, sets, lands}
 use Rattle.segment.proofs.Steps.{count, answers-as, returned, number}
 use Rattle.segment.proofs.Arrays.{array, spreads, gathers, cuts, joins}
 use Rattle.segment.proofs.Slot as T
@@ -151,9 +152,9 @@ module _ {M : Type 1} (𝓤 : URA M) (H : Heap 𝓤) (A : Atoms 𝓤) (W : Given
         alloc1 ! (λ l₀. alloc1 ! (λ l₁. alloc1 ! (λ l₂. alloc1 ! (λ l₃. alloc1 ! (λ l₄. alloc1 ! (λ l₅. alloc1 ! (λ l₆. alloc1 ! (λ l₇. alloc1 ! (λ l₈. alloc0 ! $ params1 ! $
         pass1 ! (init ! 14 refl typed) $ pass1 ! (init ! 12 refl (tt, record { fits = k-fits })) $ pass1 ! (init ! 10 refl (tt, record { fits = clock-fits })) $ pass1 ! (init ! 8 refl (tt, record { fits = sample-fits })) $ pass1 ! (init ! 6 refl (tt, record { fits = line-fits })) $ pass0 ! $
         -- [_8; ..; _7; ..; _6; ..; _5; ..; _4; ..; _3; ..; _2; ..; _1; ..; _0; ..; what is had at entry]
-        assigns ! (of-opd ! (load ! (from ! (stop !)) (look ! 14 refl))) (from ! (stop !)) (init ! 4 refl typed) $
-        assigns ! (addr ! (from ! (stop !))) (from ! (stop !)) (init ! 2 refl (tt, tt)) $
-        assigns ! (agg ! (and-then ! (load ! (from ! (stop !)) (look ! 2 refl)) (and-then ! (load ! (from ! (stop !)) (look ! 12 refl)) (no-more !)))) (from ! (stop !)) (init ! 0 refl (tt, (tt, (record { fits = k-fits }, tt)))) $
+        sets ! (of-opd ! (local ! (look ! 14 refl))) (init ! 4 refl typed) $
+        sets ! (addr ! (from ! (stop !))) (init ! 2 refl (tt, tt)) $
+        sets ! (agg ! (and-then ! (local ! (look ! 2 refl)) (and-then ! (local ! (look ! 12 refl)) (no-more !)))) (init ! 0 refl (tt, (tt, (record { fits = k-fits }, tt)))) $
         rewrite ! 0 (λ (m : ℕ). ‵ (fat fullShare slice l₈ 0 (sliceVal (l₆, 0) m))) (sym (length-take-le k ys there)) refl $
         -- the first records of _6 are lent, for a lifetime that is made here
         move ! (4 ∷ []) $ spreads W T.the-row ! tt (LL.makes T.the-type T′.the-plain 𝓤 H A) room ys l₆ u is $ cuts W T.the-row ! ys k l₆ $ feqI ! ℕ (length front) (length front) refl $ fjoin ! $
@@ -162,9 +163,9 @@ module _ {M : Type 1} (𝓤 : URA M) (H : Heap 𝓤) (A : Atoms 𝓤) (W : Given
         (lends-shr-slice 𝓤 H A W T.the-row (named 0) (α ∷ []) fullShare front l₆ 0 front-room) $ await ! tt $ pick ! (λ γ. split ! $
         -- [what the slice owns; the lender's part; the token; the other records; _8; ..; _7; ..; that _6 dies; _5; ..; down to _0; ..; entry]
         move ! (2 ∷ 0 ∷ []) $ use2 W (raw (Run 𝓤 H A mem run .pre (to (α ∷ []) l₆ γ))) (goes (α ∷ []) l₆ γ) $
-        calls-at ! fm (Run 𝓤 H A mem run) known (to (α ∷ []) l₆ γ) (and-then ! (load ! (from ! (stop !)) (look ! 3 refl)) (and-then ! (load ! (from ! (stop !)) (look ! 12 refl)) (and-then ! (load ! (from ! (stop !)) (look ! 10 refl)) (and-then ! (load ! (from ! (stop !)) (look ! 8 refl)) (no-more !))))) (λ w.
+        calls-at ! fm (Run 𝓤 H A mem run) known (to (α ∷ []) l₆ γ) (and-then ! (local ! (look ! 3 refl)) (and-then ! (local ! (look ! 12 refl)) (and-then ! (local ! (look ! 10 refl)) (and-then ! (local ! (look ! 8 refl)) (no-more !))))) (λ w.
         answers-as W ! tt g.ended (g.clauses 𝓤 H A mem run) (to (α ∷ []) l₆ γ) w Said (λ r ws. id⊢ 𝓤 _) (λ r ris.
-        land ! (from ! (stop !)) (init ! 20 refl (bool-lawful 𝓤 H A W .typed r _ ris .0)) $ returned W ! (α ∷ []) fullShare $
+        lands ! (init ! 20 refl (bool-lawful 𝓤 H A W .typed r _ ris .0)) $ returned W ! (α ∷ []) fullShare $
         -- the lifetime is ended, and the local is whole again: [the token; the clause; the lender's part; the other records; _8; ..]
         move ! (0 ∷ 2 ∷ []) $ lft-end ! tt $ lent-back ! tt $ fsplit ! $ drop ! $ move ! (0 ∷ 2 ∷ []) $ joins W T.the-row ! ys k l₆ $
         gathers W T.the-row ! vals (LL.tells T.the-type T′.the-laws) room ys l₆ ny (λ u′ _.
