@@ -17,13 +17,13 @@ use types.Part.{agg}
 use types.Run.{look, init, forget, stop, from, load, and-then, no-more, assigns, returns, enter, alloc1, alloc0, params1, pass1, pass0, free1, free0}
 use denote.Builtin.{u8}
 use denote.Plain.{uint-vals, uint-tells}
-use denote.Slice.{slice-vals, shr-slice-tells, shr-slice-lawful}
+use denote.Slice.{slice-vals, shr-slice-tells}
 use denote.Triple.Entry.{alive, onEntry}
 use denote.Triple.Spec.{Meets, tripleOf}
 use denote.Triple.Table.{entered}
 use Rattle.reader.specs.Reader.{standing}
 use Rattle.reader.proofs.Reader.Laws as T′
-use Rattle.reader.proofs.Held.{Held, lent, Parts, together}
+use Rattle.reader.proofs.Held.{Held, lent, Parts, text-typed, together}
 use Rattle.reader.proofs.Walk.{ends, walks}
 use Rattle.reader.proofs.at_place.Key.{name as #reader·at-place}
 use Rattle.reader.proofs.at_place as f
@@ -36,7 +36,7 @@ module _ {M : Type 1} (𝓤 : URA M) (H : Heap 𝓤) (A : Atoms 𝓤) (W : Given
       let text = a .0 in
       let at = a .1 .0 in
       let made = T′.lowered (standing text at) in
-      let wt = shr-slice-lawful 𝓤 H A W (named 0) (κs .0) u8 .typed text _ (are .0) .0 in
+      let wt = text-typed 𝓤 H A W (κs .0) text (are .0) in
       qed W (raw (onEntry 𝓤 H A f.signature κs qs a _) ∷ []) ∵ enter ! (𝓣 .C) (𝓣 .Λ) code.function _ _ $
       alloc1 ! (λ l₀. alloc1 ! (λ l₁. alloc1 ! (λ l₂. alloc0 ! $ params1 ! $ pass1 ! (init ! 2 refl wt) $ pass1 ! (init ! 0 refl (tt, record { fits = are .1 .0 .1 })) $ pass0 ! $
       -- [_2; …; _1; …; room for _0; …; what is had at entry]
