@@ -16,7 +16,6 @@ use contract.Running.{givenOf, tables, tablesOf}
 use types.Kit.{Given, raw, _$_, _∵_, !, qed, by, move, use1}
 use types.Part.{whole, sub, look-in}
 use types.Run.{look, init, forget, stop, fld, from, load, of-opd, and-then, no-more, assigns, land, returns, enter, alloc1, alloc0, params1, pass1, pass0, free1, free0}
-use denote.Enum.Laws as EL
 use denote.Ref.{now}
 use denote.Signature.{namedLft}
 use denote.Struct.Laws as LL
@@ -24,8 +23,6 @@ use denote.Triple.Entry.{alive, onEntry}
 use denote.Triple.Spec.{Meets, tripleOf}
 use denote.Triple.Table.{entered, cited}
 use Rattle.trace.specs.Record.{recordAt}
-use Rattle.trace.proofs.RecordAt as S
-use Rattle.trace.proofs.RecordAt.Laws as S′
 use Rattle.trace.proofs.record_at as g
 use Rattle.trace.proofs.record_at.Symbol as g-def
 use Rattle.trace.proofs.record_at.Symbol.{name as #trace·record-at}
@@ -33,7 +30,7 @@ use Rattle.trace.proofs.record_at.Met as g-thm
 use Rattle.reader.specs.declared.Reader.{Reader}
 use Rattle.reader.proofs.Reader as T
 use Rattle.reader.proofs.Reader.Laws as T′
-use Rattle.reader.proofs.Held.{Held, Typed, lent, passed-typed, apart}
+use Rattle.reader.proofs.Held.{Held, Typed, lent, reader-typed, found-typed, apart}
 use Rattle.reader.proofs.Walk.{Reached, ends, walks, calls}
 use Rattle.reader.proofs.next.Key.{name as #reader·next}
 use Rattle.reader.proofs.next as f
@@ -58,7 +55,7 @@ module _ {M : Type 1} (𝓤 : URA M) (H : Heap 𝓤) (A : Atoms 𝓤) (W : Given
         calls W ! (fmOf 𝓤 H (W .laws) 𝓣) g.ended (g.clauses 𝓤 H A mem run) parser ((κs, qs, tt, (r .text, (r .at, tt)), (lent (r .text) ∷ [], (vint w64 (r .at) ∷ [], tt))), tt) (id⊢ 𝓤 (emp 𝓤)) (λ x. x ≡ recordAt (now (r .text)) (r .at)) (λ x ws. id⊢ 𝓤 _)
         (and-then ! (load ! (from ! (stop !)) (look ! 3 refl)) (and-then ! (load ! (from ! (stop !)) (look ! 1 refl)) (no-more !))) (λ v x e is.
         -- [the result; the tokens; _3; …; _2; …; _1; …; room for _0; …]
-        land ! (from ! (stop !)) (init ! 8 refl (EL.lawful S.the-type S′.the-laws 𝓤 H A W tt .typed x _ is .0)) $
+        land ! (from ! (stop !)) (init ! 8 refl (found-typed 𝓤 H A W (κs .0) x v is)) $
         returns ! (look ! 8 refl) $ forget ! 2 refl $ forget ! 4 refl $ forget ! 6 refl $ forget ! 8 refl $
         move ! (8 ∷ 9 ∷ []) $ free1 ! $ move ! (6 ∷ 7 ∷ []) $ free1 ! $ move ! (4 ∷ 5 ∷ []) $ free1 ! $ move ! (2 ∷ 3 ∷ []) $ free1 ! $ free0 ! $
         by ! (ends 𝓤 H A W f.ended (f.clauses 𝓤 H A mem run) ((κs, qs, tt, (r, tt), (T′.lowered r ∷ [], tt)), tt) v x (tt, tt) (factI 𝓤 _ (emp 𝓤) e)))))))
@@ -66,7 +63,7 @@ module _ {M : Type 1} (𝓤 : URA M) (H : Heap 𝓤) (A : Atoms 𝓤) (W : Given
     meets : Meets 𝓤 H A f.signature (WpFn 𝓤 H (𝓣 .C) (𝓣 .Λ) code.function) (f.spec 𝓤 H A mem run)
     meets = walks 𝓤 H A W f.ended (f.clauses 𝓤 H A mem run) 𝓣 code.function ((λ κs x f. refl), tt)
         (λ κs. (LL.vals (T.the-type (namedLft 1 0 tt κs)) (T′.the-laws (namedLft 1 0 tt κs)), tt)) (λ κs. (LL.tells (T.the-type (namedLft 1 0 tt κs)) (T′.the-laws (namedLft 1 0 tt κs)), tt))
-        (λ κs qs bounds a u are. walk κs qs (a .0) (passed-typed 𝓤 H A W (κs .0) (a .0) (are .0)))
+        (λ κs qs bounds a u are. walk κs qs (a .0) (reader-typed 𝓤 H A W (κs .0) (a .0) (T′.lowered (a .0)) (are .0)))
 
 pub next-spec : {M : Type 1} → stated.statement M
 unfolding code.routine tablesOf
