@@ -37,8 +37,12 @@ Held κ = T.the-row (namedLft 1 0 tt (κ, tt))
 abbrev pub lent : RefT (List ℕ) → Val
 lent s = sliceVal (s .ptr) (length (s .now))
 
+-- a machine value has a type
 abbrev pub Typed : Ty → Val → Type 0
 Typed t v = Holds (hasTy t v) × WT v
+
+abbrev pub TextTyped : RefT (List ℕ) → Type 0
+TextTyped s = Typed (sliceTy (tyRef (named 0) imm (tyInt w8))) (lent s)
 
 -- what a lent text and a place own
 abbrev pub Parts : Lft → RefT (List ℕ) → ℕ → Fml
@@ -46,7 +50,7 @@ Parts κ s n = owns (ShrSlice (named 0) κ u8 ∷ usize ∷ []) (s, (n, tt)) (le
 
 module _ {M : Type 1} (𝓤 : URA M) (H : Heap 𝓤) (A : Atoms 𝓤) (W : Given 𝓤 H A) (κ : Lft) where
   -- the machine values have their types: of a text, of a reader in a signature, of one in a local, where MIR erases the lifetime, and of what is found
-  pub text-typed : (s : RefT (List ℕ)) → Is (ShrSlice (named 0) κ u8) s (lent s ∷ []) → Typed (sliceTy (tyRef (named 0) imm (tyInt w8))) (lent s)
+  pub text-typed : (s : RefT (List ℕ)) → Is (ShrSlice (named 0) κ u8) s (lent s ∷ []) → TextTyped s
   text-typed s is = shr-slice-lawful 𝓤 H A W (named 0) κ u8 .typed s (lent s ∷ []) is .0
 
   pub reader-typed : (r : Reader) (v : Val) → Is (Held κ) r (v ∷ []) → Typed (T′.mir (named 0)) v
