@@ -33,7 +33,7 @@ pub fn run_part(s: &[u8], from: usize, table: Table, buf: &mut [u8]) -> Progress
     let mut at = from;
     let mut filled: usize = 0;
     while at != s.len() {
-        let found = trace::record_at(s, at);
+        let found = reader::next_record(s, at);
         let RecordAt::Is(r, next) = found else {
             return Progress {
                 table: t,

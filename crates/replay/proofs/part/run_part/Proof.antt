@@ -15,7 +15,7 @@ use Rattle.replay.proofs.part.run_part.Reads as reads
 use Rattle.replay.proofs.part.run_part.Lts as lts
 use Rattle.replay.proofs.part.store_at.Reads as store-at-reads
 use Rattle.replay.proofs.record.run_record.Reads as run-record-reads
-use Rattle.trace.proofs.record_at.Reads as record-at-reads
+use Rattle.reader.proofs.next_record.Reads as next-record-reads
 
 abbrev Inv-loop : tie.InvT-loop
 Inv-loop s from buf₀ t₀ at₀ filled₀ buf t at filled = (length buf ≡ length buf₀) × (length (t .txids) ≡ length (t₀ .txids)) × (Boundary s from → Running (length (t₀ .txids)) s from t₀ buf₀ buf t at filled)
@@ -26,8 +26,8 @@ abbrev μ-loop : tie.MeasureT-loop
 loop-holds : tie.Need-loop-holds Inv-loop μ-loop
 loop-holds c = (refl, refl, λ h. running-start _ _ _ _ _ refl h)
 
-record-at-requires : tie.Need-record-at-requires Inv-loop μ-loop
-record-at-requires c κs = search needs
+next-record-requires : tie.Need-next-record-requires Inv-loop μ-loop
+next-record-requires c κs = search needs
 
 enum-known-found : tie.Need-enum-known-found Inv-loop μ-loop
 enum-known-found c = search needs
@@ -43,7 +43,7 @@ returns c =
     λ h.
     let l = c .before .before .before .before .loop in
     let w = l .inv .2 h in
-    absurd (none-broken _ _ _ (w .boundary) (c .before .before .before .loop-test .taken) (sym (c .before .before .record-at .ensures) ∙ c .enum-told .given .1))
+    absurd (none-broken _ _ _ (w .boundary) (c .before .before .before .loop-test .taken) (sym (c .before .before .next-record .ensures) ∙ c .enum-told .given .1))
 
 run-record-requires : tie.Need-run-record-requires Inv-loop μ-loop
 run-record-requires c κs = search needs
@@ -63,7 +63,7 @@ returns-2 c =
     let l = c .before .before .before .before .before .before .before .before .before .before .before .before .before .before .before .before .before .loop in
     let s = c .before .before .before .before .before .before .before .before .before .before .before .before .before .before .before .before .before .before .before .before in
     let size = simp length-map at (s .good .1 .1 .0 .1 .1 .0 .1 .0 .1) in
-    let q = sym (c .before .before .before .before .before .before .before .before .before .before .before .before .before .before .before .record-at .ensures) ∙ c .before .before .before .before .before .before .before .before .before .before .before .before .before .found .given .1 in
+    let q = sym (c .before .before .before .before .before .before .before .before .before .before .before .before .before .before .before .next-record .ensures) ∙ c .before .before .before .before .before .before .before .before .before .before .before .before .before .found .given .1 in
     let ran = c .before .before .before .before .before .run-record in
     let step = ran .ensures (slot-small _ _ _ _ q) (l .t) (record { column = refl; counters = refl; few = le-of-eq (l .inv .1 ∙ size) }) refl in
     running-full _ _ _ _ _ (rw size at (l .inv .2 h)) _ _ q step (c .enum-told2 .given .1)
@@ -77,7 +77,7 @@ store-at-requires-2 c κs = search needs
 loop-less : tie.Need-loop-less Inv-loop μ-loop
 loop-less c =
     let l = c .before .before .before .before .before .before .before .before .before .before .before .before .before .before .before .before .before .before .before .before .before .before .before .loop in
-    let q = sym (c .before .before .before .before .before .before .before .before .before .before .before .before .before .before .before .before .before .before .before .before .before .record-at .ensures) ∙ c .before .before .before .before .before .before .before .before .before .before .before .before .before .before .before .before .before .before .before .found .given .1 in
+    let q = sym (c .before .before .before .before .before .before .before .before .before .before .before .before .before .before .before .before .before .before .before .before .before .next-record .ensures) ∙ c .before .before .before .before .before .before .before .before .before .before .before .before .before .before .before .before .before .before .before .found .given .1 in
     let m = moves _ _ _ _ q in
     omega arith
 
@@ -93,7 +93,7 @@ loop-again c =
           let l = c .before .before .before .before .before .before .before .before .before .before .before .before .before .before .before .before .before .before .before .before .before .before .before .loop in
           let s = c .before .before .before .before .before .before .before .before .before .before .before .before .before .before .before .before .before .before .before .before .before .before .before .before .before .before in
           let size = simp length-map at (s .good .1 .1 .0 .1 .1 .0 .1 .0 .1) in
-          let q = sym (c .before .before .before .before .before .before .before .before .before .before .before .before .before .before .before .before .before .before .before .before .before .record-at .ensures) ∙ c .before .before .before .before .before .before .before .before .before .before .before .before .before .before .before .before .before .before .before .found .given .1 in
+          let q = sym (c .before .before .before .before .before .before .before .before .before .before .before .before .before .before .before .before .before .before .before .before .before .next-record .ensures) ∙ c .before .before .before .before .before .before .before .before .before .before .before .before .before .before .before .before .before .before .before .found .given .1 in
           let ran = c .before .before .before .before .before .before .before .before .before .before .before .run-record in
           let step = ran .ensures (slot-small _ _ _ _ q) (l .t) (record { column = refl; counters = refl; few = le-of-eq (l .inv .1 ∙ size) }) refl in
           rw size (running-more _ _ _ _ _ (rw size at (l .inv .2 h)) _ _ q step (c .before .before .before .before .before .before .put .given .1) kept (stored-applied _ (l .t) (ran .result .change) one two) (long ∙ l .inv .1 ∙ size)),
@@ -117,7 +117,7 @@ run-part-spec =
     Inv-loop
     μ-loop
     loop-holds
-    record-at-requires
+    next-record-requires
     enum-known-found
     enum-told
     same-length

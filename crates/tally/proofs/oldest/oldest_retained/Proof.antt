@@ -1,5 +1,5 @@
-use Prim.Native.Nat.{_≤_, _+_, _-_}
-use mathlib.Core.Path.{_≡_, refl, sym, ap, _∙_}
+use Prim.Native.Nat.{_≤_, _-_}
+use mathlib.Core.Path.{_≡_, refl, sym, _∙_}
 use native.Mathlib.Omega.{arith}
 use borrow.Author.Needs.{needs}
 use lib.ListN.{length, drop}
@@ -7,9 +7,6 @@ use Rattle.rules.specs.Tally.{oldestOf}
 use Rattle.tally.proofs.Slots.{oldest-miss, oldest-hit, oldest-none, oldest-short}
 use Rattle.tally.proofs.oldest.oldest_retained.Statement.{statement}
 use Rattle.tally.proofs.oldest.oldest_retained.Tie as tie
-use Rattle.tally.proofs.oldest.oldest_retained.Reads as reads
-use Rattle.tally.proofs.oldest.oldest_retained.Lts as lts
-use Rattle.kinds.proofs.lesser.Reads as lesser-reads
 
 abbrev Inv-loop : tie.InvT-loop
 Inv-loop txids xmins sample low₀ i₀ low i = (i ≤ length txids) × (oldestOf txids xmins sample ≡ oldestOf (drop i txids) (drop i xmins) low)
@@ -26,41 +23,41 @@ returns c =
     let a = c .before .before .before .before .before .args in
     sym (l .inv .1 ∙ oldest-short (a .txids .now) (l .i) (a .xmins .now) (l .low) (omega arith) (omega arith))
 
-mul-txid : tie.Need-mul-txid Inv-loop μ-loop
-mul-txid c = search needs
-
-shared-slice-read-txid : tie.Need-shared-slice-read-txid Inv-loop μ-loop
-shared-slice-read-txid c = search needs
-
-mul-xmin : tie.Need-mul-xmin Inv-loop μ-loop
-mul-xmin c = search needs
-
-shared-slice-read-xmin : tie.Need-shared-slice-read-xmin Inv-loop μ-loop
-shared-slice-read-xmin c = search needs
-
 add-i : tie.Need-add-i Inv-loop μ-loop
 add-i c = search needs
+
+mul-if2 : tie.Need-mul-if2 Inv-loop μ-loop
+mul-if2 c = search needs
+
+shared-slice-read-if2 : tie.Need-shared-slice-read-if2 Inv-loop μ-loop
+shared-slice-read-if2 c = search needs
+
+mul-lesser : tie.Need-mul-lesser Inv-loop μ-loop
+mul-lesser c = search needs
+
+shared-slice-read-lesser : tie.Need-shared-slice-read-lesser Inv-loop μ-loop
+shared-slice-read-lesser c = search needs
+
+lesser-requires : tie.Need-lesser-requires Inv-loop μ-loop
+lesser-requires c κs = search needs
 
 loop-less : tie.Need-loop-less Inv-loop μ-loop
 loop-less c = search needs
 
 loop-again : tie.Need-loop-again Inv-loop μ-loop
 loop-again c =
-    let l = c .before .before .before .before .before .loop in
-    let a = c .before .before .before .before .before .before .before .before .args in
-    (omega arith, l .inv .1 ∙ oldest-miss (a .txids .now) (l .i) (a .xmins .now) (l .low) (omega arith) (omega arith) (c .if2 .taken))
-
-lesser-requires : tie.Need-lesser-requires Inv-loop μ-loop
-lesser-requires c κs = search needs
+    let l = c .before .before .before .before .before .before .loop in
+    let a = c .before .before .before .before .before .before .before .before .before .args in
+    (omega arith, rw (c .lesser .ensures) (l .inv .1 ∙ oldest-hit (a .txids .now) (l .i) (a .xmins .now) (l .low) (omega arith) (omega arith) (c .before .before .if2 .taken)))
 
 loop-less-2 : tie.Need-loop-less-2 Inv-loop μ-loop
 loop-less-2 c = search needs
 
 loop-again-2 : tie.Need-loop-again-2 Inv-loop μ-loop
 loop-again-2 c =
-    let l = c .before .before .before .before .before .before .loop in
-    let a = c .before .before .before .before .before .before .before .before .before .args in
-    (omega arith, rw (c .lesser .ensures) (l .inv .1 ∙ oldest-hit (a .txids .now) (l .i) (a .xmins .now) (l .low) (omega arith) (omega arith) (c .before .if2 .left)))
+    let l = c .before .before .before .before .loop in
+    let a = c .before .before .before .before .before .before .before .args in
+    (omega arith, l .inv .1 ∙ oldest-miss (a .txids .now) (l .i) (a .xmins .now) (l .low) (omega arith) (omega arith) (c .if2 .left))
 
 returns-2 : tie.Need-returns-2 Inv-loop μ-loop
 returns-2 c =
@@ -76,14 +73,14 @@ oldest-retained-spec =
     μ-loop
     loop-holds
     returns
-    mul-txid
-    shared-slice-read-txid
-    mul-xmin
-    shared-slice-read-xmin
     add-i
+    mul-if2
+    shared-slice-read-if2
+    mul-lesser
+    shared-slice-read-lesser
+    lesser-requires
     loop-less
     loop-again
-    lesser-requires
     loop-less-2
     loop-again-2
     returns-2)
