@@ -1,6 +1,6 @@
 -- A decision is known once the tests that the code made are known.
 use Prim.Native.Nat.{ℕ, _<_, _≤_, max}
-use mathlib.Core.Path.{_≡_, refl, sym, ap, _∙_}
+use mathlib.Core.Path.{_≡_, sym, ap, _∙_}
 use mathlib.Core.List.{List}
 use native.Mathlib.Omega.{arith}
 use borrow.Author.Tests.{lt-ltb, le-ltb}
@@ -14,15 +14,11 @@ use Rattle.verdicts.specs.declared.Judged.{Judged}
 use Rattle.verdicts.specs.declared.Judged.the-variants.{Passed}
 use Rattle.verdicts.specs.Judged.{judged}
 use Rattle.decide.specs.declared.change.Counters.{Counters}
-use Rattle.decide.specs.declared.begin.BeginDecision.{BeginDecision}
-use Rattle.decide.specs.declared.end.EndDecision.{EndDecision}
-use Rattle.decide.specs.declared.snapshot.SnapshotDecision.{SnapshotDecision}
 use Rattle.decide.specs.declared.oldest.OldestDecision.{OldestDecision}
 use Rattle.decide.specs.declared.oldest.Oldest.{Oldest}
 use Rattle.decide.specs.declared.oldest.Oldest.the-variants.{Xmin, Refused as OldestRefused}
 use Rattle.decide.specs.declared.oldest.VacuumDecision.{VacuumDecision}
 use Rattle.decide.specs.declared.oldest.Vacuumed.the-variants.{Line}
-use Rattle.decide.specs.declared.stamp.StampDecision.{StampDecision}
 use Rattle.decide.specs.Changes.{unchangedFrom}
 use Rattle.decide.specs.Decisions.{beginFree, beginFull, linedFrom, vacuumBy, vacuumDecision, beginBy, beginDecision, endBy, endDecision, snapBy, snapDecision, ownBy, ownDecision, oldestBy, oldestDecision, stampBy, stampDecision, finishBy, finishDecision}
 

@@ -1,33 +1,29 @@
 -- Each decision is what the rules say of its call: the table that its change leaves, and what its answer tells.
-use Prim.Native.Nat.{ℕ, _+_, _-_, _≤_, _<_, min}
+use Prim.Native.Nat.{ℕ, _+_, _-_, _≤_}
 use mathlib.Core.Path.{_≡_, refl, sym, ap, _∙_}
-use mathlib.Core.List.{List, []}
-use mathlib.Core.Bool.{Bool, true, false, true≢false, false≢true}
+use mathlib.Core.Bool.{Bool, true, false, false≢true}
 use native.Mathlib.Nat.{le-refl}
 use native.Mathlib.Omega.{arith}
 use lib.Dec.{ltb}
-use lib.ListN.{length, take, replicate, set, getD}
+use lib.ListN.{length, take, replicate, set}
 use lib.Seq.{take-all, take-append-seam, set-getD}
 use borrow.Author.Tests.{lt-ltb, le-ltb, lt-leb, le-leb, ltb-true, ltb-false}
 use Rattle.kinds.specs.declared.Stamp.{Stamp}
 use Rattle.kinds.specs.declared.SlotNo.{SlotNo}
 use Rattle.kinds.specs.declared.Txid.{Txid}
 use Rattle.kinds.specs.declared.refusal.Refusal.{Refusal}
-use Rattle.kinds.specs.declared.refusal.Refusal.the-variants.{NoFreeSlot}
-use Rattle.kinds.specs.Pick.{pick}
-use Rattle.kinds.specs.Kinds.{top, nextHeld, txidOf}
+use Rattle.kinds.specs.Kinds.{nextHeld}
 use Rattle.kinds.specs.Refusals.{told}
-use Rattle.settled.specs.declared.Snapshot.{Snapshot}
 use Rattle.rules.specs.declared.Table.{Table}
 use Rattle.rules.specs.Tally.{active, lowestEmpty, snapshotOf}
-use Rattle.rules.specs.Tests.{Verdict, pass, refuse, then, ownerTest, reservationTest, fullTest, observationTest}
-use Rattle.rules.specs.Calls.{Call, begin, end, snap, own, oldest, vacuum, stamp, finish, refusal, afterAccepted, afterRefused, afterBy, after, Answer, answerTold, answerAccepted, answerBy, answer, shownBy, shown}
+use Rattle.rules.specs.Tests.{Verdict, pass, refuse, then, ownerTest, reservationTest, observationTest}
+use Rattle.rules.specs.Calls.{Call, begin, end, snap, own, oldest, vacuum, stamp, finish, refusal, afterAccepted, afterRefused, after, Answer, answerTold, answerAccepted, answer, shownBy, shown}
 use Rattle.rules.proofs.Tests.{owns, reserves}
 use Rattle.rules.proofs.Refused.{Refused, stays, spends, refused}
 use Rattle.decide.specs.declared.change.Change.{Change}
-use Rattle.decide.specs.Changes.{countersOf, unchangedFrom, reservedFrom, observedFrom, applied}
+use Rattle.decide.specs.Changes.{countersOf, unchangedFrom, applied}
 use Rattle.decide.specs.Papers.{paperBegun, paperEnded, paperTaken, paperOldest, paperVacuumed, paperStamped, Decided}
-use Rattle.decide.specs.Decisions.{slotChange, beginBy, beginDecision, endBy, endDecision, snapshotRefused, snapBy, snapDecision, ownBy, ownDecision, oldestBy, oldestDecision, vacuumBy, vacuumDecision, stampRefused, stampBy, stampDecision, finishBy, finishDecision}
+use Rattle.decide.specs.Decisions.{beginBy, beginDecision, endBy, endDecision, snapshotRefused, snapBy, snapDecision, ownBy, ownDecision, oldestBy, oldestDecision, vacuumBy, vacuumDecision, stampRefused, stampBy, stampDecision, finishBy, finishDecision}
 
 abbrev is-begin : Call → Bool
 is-begin (begin number) = true

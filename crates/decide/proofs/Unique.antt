@@ -1,9 +1,6 @@
 -- At most one answer tells what document 01 says of a call.
 use Prim.Native.Nat.{ℕ}
 use mathlib.Core.Path.{_≡_, refl, sym, ap, _∙_}
-use Rattle.kinds.specs.declared.Stamp.{Stamp}
-use Rattle.kinds.specs.declared.SlotNo.{SlotNo}
-use Rattle.kinds.specs.declared.Txid.{Txid}
 use Rattle.kinds.specs.declared.refusal.Refusal.{Refusal}
 use Rattle.kinds.specs.Refusals.{Told, told}
 use Rattle.kinds.proofs.Unique.{same-slot, same-txid, same-stamp, told-unique, told-positive}

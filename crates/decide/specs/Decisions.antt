@@ -1,5 +1,5 @@
 -- What each call decides, on the columns and the counters of a table of n slots: the shape of the code, tied to the rules by proofs/.
-use Prim.Native.Nat.{ℕ, _+_, max}
+use Prim.Native.Nat.{ℕ, max}
 use mathlib.Core.List.{List}
 use lib.Dec.{ltb}
 use lib.ListN.{take}

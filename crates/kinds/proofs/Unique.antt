@@ -1,5 +1,4 @@
 -- A refusal is known by what it tells: no two tell the same number and values.
-use Prim.Native.Nat.{ℕ}
 use mathlib.Core.Path.{_≡_, refl, sym, ap, _∙_}
 use native.Mathlib.Omega.{arith}
 use lib.Dec.{eqb}

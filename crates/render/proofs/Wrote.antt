@@ -12,7 +12,6 @@ use borrow.Author.Tests.{leb-true}
 use Rattle.rules.proofs.Bools.{and-true}
 use Rattle.text.specs.declared.Put.{Put}
 use Rattle.text.specs.declared.Put.the-variants.{Past, NoRoom}
-use Rattle.text.specs.Decimal.{decimal}
 use Rattle.text.specs.Line.{lineText}
 use Rattle.text.specs.Write.{spliced, putAt, written}
 use Rattle.text.proofs.Decimal.{length-word}

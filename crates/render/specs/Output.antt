@@ -4,7 +4,7 @@ use mathlib.Core.Path.{_≡_}
 use mathlib.Core.Bool.{Bool, cond, _&&_}
 use mathlib.Core.List.{List, [], _∷_, _++_}
 use lib.Dec.{leb}
-use lib.ListN.{length, take}
+use lib.ListN.{length}
 use Rattle.kinds.specs.Refusals.{told}
 use Rattle.rules.specs.Calls.{Answer, answerTold}
 use Rattle.decide.specs.declared.snapshot.Taken.{Taken}

@@ -2,7 +2,7 @@
 use Prim.Native.Nat.{ℕ, _+_, _≤_, _<_, _^_}
 use mathlib.Core.Path.{_≡_, refl, sym, ap, _∙_}
 use mathlib.Core.Bool.{Bool, true, false}
-use mathlib.Core.List.{List, [], _∷_, _++_}
+use mathlib.Core.List.{List}
 use native.Mathlib.Nat.{zero-add}
 use native.Mathlib.Omega.{arith}
 use lib.Dec.{leb}
@@ -16,7 +16,6 @@ use Rattle.text.specs.Line.{lineText}
 use Rattle.text.specs.Write.{putAt, written}
 use Rattle.render.specs.Output.{answerKey, Wrote}
 use Rattle.render.proofs.Wrote.{line-wrote, line-put-there, wrote-then}
-use Rattle.replay.specs.declared.into.Replayed.{Replayed}
 use Rattle.replay.specs.declared.into.Replayed.the-variants.{Written}
 use Rattle.replay.specs.declared.into.Replayed.the-variants.{NoRoom as Short}
 use Rattle.replay.specs.Replay.{recordsKey, atKey, brokenText}

@@ -1,18 +1,17 @@
 -- What is written for a decided call is what the call prints.
 use Prim.Native.Nat.{ℕ, _-_}
 use mathlib.Core.Path.{_≡_, refl, sym, ap, _∙_}
-use mathlib.Core.List.{List, [], _∷_, _++_}
+use mathlib.Core.List.{List, [], _++_}
 use lib.ListN.{length, take, replicate}
 use lib.Seq.{take-append-seam}
 use Rattle.kinds.specs.declared.SlotNo.{SlotNo}
 use Rattle.kinds.specs.declared.Txid.{Txid}
-use Rattle.kinds.specs.Refusals.{told}
 use Rattle.settled.specs.declared.Snapshot.{Snapshot}
 use Rattle.settled.specs.Snapshots.{noSnapshot}
 use Rattle.rules.specs.declared.Table.{Table}
 use Rattle.rules.specs.Tally.{active, snapshotOf}
 use Rattle.rules.specs.Tests.{Verdict, pass, refuse, ownerTest, observationTest}
-use Rattle.rules.specs.Calls.{Call, Answer, after, answer, answerTold}
+use Rattle.rules.specs.Calls.{Call, Answer, after, answer}
 use Rattle.decide.specs.declared.change.Counters.{Counters}
 use Rattle.decide.specs.declared.change.Change.{Change}
 use Rattle.decide.specs.declared.begin.Begun.{Begun}
@@ -34,7 +33,6 @@ use Rattle.decide.specs.Decisions.{snapshotRefused, snapBy, snapDecision, ownBy
 use Rattle.text.specs.declared.Put.{Put}
 use Rattle.render.specs.declared.printed.Printed.{Printed}
 use Rattle.render.specs.Output.{printedOf, printedTaken, eightLines, inLines, answerText, putText, leftText}
-use Rattle.replay.specs.declared.record.Outcome.{Outcome}
 use Rattle.replay.specs.Replay.{outputOf}
 use Rattle.replay.specs.Records.{Ran}
 

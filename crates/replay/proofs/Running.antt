@@ -1,27 +1,25 @@
 -- Where a run of records stands: what it has printed, and that the rest of the run goes on from here.
-use Prim.Native.Nat.{ℕ, _+_, _*_, _≤_, _<_}
+use Prim.Native.Nat.{ℕ, _+_, _≤_}
 use mathlib.Core.Path.{_≡_, refl, sym, ap, _∙_}
 use mathlib.Core.Bool.{Bool, true, false}
-use mathlib.Core.List.{List, [], _∷_, _++_, append-assoc, append-nil}
+use mathlib.Core.List.{List, [], _++_, append-assoc, append-nil}
 use native.Mathlib.Nat.{zero-add}
 use native.Mathlib.Omega.{arith}
-use lib.ListN.{length, take, drop, length-append, length-take, length-drop}
+use lib.ListN.{length, length-append, length-take, length-drop}
 use Rattle.rules.specs.declared.Table.{Table}
 use Rattle.rules.specs.Calls.{after, answer}
 use Rattle.decide.specs.Changes.{applied}
-use Rattle.text.specs.declared.Put.{Put}
 use Rattle.text.specs.declared.Put.the-variants.{Past, NoRoom}
 use Rattle.text.specs.Write.{spliced}
 use Rattle.text.proofs.Splice.{splice-none, splice-append}
 use Rattle.trace.specs.declared.Record.{Record}
-use Rattle.trace.specs.declared.RecordAt.the-variants.{Is, Broken}
+use Rattle.trace.specs.declared.RecordAt.the-variants.{Is}
 use Rattle.trace.specs.Record.{recordAt}
 use Rattle.trace.specs.Trace.{recordsFrom, Boundary}
 use Rattle.trace.proofs.Loop.{next-record, none-left}
 use Rattle.render.specs.Output.{fits, putText, leftText}
 use Rattle.replay.specs.declared.record.Outcome.{Outcome}
-use Rattle.replay.specs.declared.part.Progress.{Progress}
-use Rattle.replay.specs.Replay.{callOf, outputOf, Part, withText, partOf}
+use Rattle.replay.specs.Replay.{callOf, outputOf, withText, partOf}
 use Rattle.replay.specs.Records.{Ran, PartFits}
 
 -- a text that leaves the length as it was ends inside

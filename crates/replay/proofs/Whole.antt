@@ -1,7 +1,7 @@
 -- A whole replay into a buffer, by what was read and how far its records went.
-use Prim.Native.Nat.{ℕ, _+_, _≤_, _<_}
+use Prim.Native.Nat.{ℕ, _+_}
 use mathlib.Core.Path.{_≡_, refl, sym, ap, _∙_}
-use mathlib.Core.Bool.{Bool, true, false, cond}
+use mathlib.Core.Bool.{Bool, true, false}
 use mathlib.Core.List.{List, [], _∷_, _++_}
 use native.Mathlib.Nat.{zero-add}
 use native.Mathlib.Omega.{arith}
@@ -14,13 +14,12 @@ use Rattle.text.specs.Write.{spliced, written}
 use Rattle.text.proofs.Splice.{splice-none, splice-append}
 use Rattle.trace.specs.declared.Record.{Record}
 use Rattle.trace.specs.declared.Reading.the-variants as reads
-use Rattle.trace.specs.Trace.{Found, Records, Breaks, traceOf, counted, reading, recordsFrom, firstRecord, Boundary}
+use Rattle.trace.specs.Trace.{Found, Records, Breaks, traceOf, counted, reading, recordsFrom, firstRecord}
 use Rattle.trace.proofs.Grammar.{begun}
 use Rattle.trace.proofs.Loop.{none-left, end-only}
-use Rattle.replay.specs.declared.part.Progress.{Progress}
 use Rattle.replay.specs.declared.into.Replayed.{Replayed}
 use Rattle.replay.specs.declared.into.Replayed.the-variants.{Written, NoRoom}
-use Rattle.replay.specs.Replay.{recordsKey, brokenText, Part, partOf, Into, whole, cut, textIn, intoEnd, intoBy, intoOf}
+use Rattle.replay.specs.Replay.{recordsKey, brokenText, Part, partOf, Into, whole, cut, textIn, intoEnd, intoOf}
 use Rattle.replay.specs.Records.{PartFits, BrokenFits, EndFits, replayed, IntoFits}
 
 broken-found : (f : Found) {line : ℕ} → counted f ≡ reads.Broken line → f ≡ Breaks line

@@ -1,14 +1,14 @@
 -- The twelve situations at the edges, document 01, as one list.
 use Prim.Native.Nat.{ℕ, zero, suc, _+_, _-_}
 use mathlib.Core.Path.{_≡_}
-use mathlib.Core.List.{List, [], _∷_, _++_}
+use mathlib.Core.List.{List, [], _∷_}
 use lib.ListN.{replicate}
 use Rattle.kinds.specs.declared.Stamp.{Stamp}
 use Rattle.kinds.specs.declared.SlotNo.{SlotNo}
 use Rattle.kinds.specs.declared.Txid.{Txid}
 use Rattle.rules.specs.declared.Table.{Table}
 use Rattle.rules.specs.Tables.{freshTable}
-use Rattle.rules.specs.Calls.{Call, begin, end, snap, own, oldest, vacuum, stamp, finish, Answer, values, after, answer}
+use Rattle.rules.specs.Calls.{Call, begin, end, snap, oldest, vacuum, Answer, values, after, answer}
 
 -- what is seen of a call: its answer, and the clock and the line after it
 pub record Seen : Type 0 where

@@ -4,7 +4,6 @@ use mathlib.Core.List.{List}
 use mathlib.Core.Bool.{true≢false, false≢true}
 use Prim.Native.Nat.{ℕ}
 use Rattle.kinds.specs.declared.Txid.{Txid}
-use Rattle.kinds.specs.Refusals.{Told}
 use Rattle.kinds.proofs.Unique.{told-unique, told-positive}
 use Rattle.settled.specs.declared.Settled.{Settled}
 use Rattle.settled.specs.declared.Settled.the-variants.{Yes, No, Refused}

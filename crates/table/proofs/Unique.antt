@@ -4,7 +4,6 @@ use mathlib.Core.Path.{_≡_, sym, _∙_, ap}
 use Rattle.kinds.specs.declared.Stamp.{Stamp}
 use Rattle.kinds.specs.declared.SlotNo.{SlotNo}
 use Rattle.kinds.specs.declared.Txid.{Txid}
-use Rattle.settled.specs.declared.Snapshot.{Snapshot}
 use Rattle.rules.specs.declared.Table.{Table}
 use Rattle.decide.specs.Papers.{paperTaken}
 use Rattle.decide.proofs.Unique.{begun-unique, ended-unique, taken-unique, oldest-unique as oldest-answer-unique, vacuumed-unique, stamped-unique}

@@ -1,7 +1,7 @@
 -- What a scan has seen when it stands before slot i: the tallies of all the slots are those of the slots left, taken up from the present numbers.
 use mathlib.Core.Path.{_≡_, refl, _∙_, sym, ap}
 use mathlib.Core.List.{List, [], _∷_, _++_}
-use Prim.Native.Nat.{ℕ, suc, _+_, _-_, _<_, _≤_, min, max}
+use Prim.Native.Nat.{ℕ, _+_, _-_, _<_, _≤_, min, max}
 use native.Mathlib.Numerals.{add-one}
 use native.Mathlib.Nat.{zero-add}
 use native.Mathlib.Omega.{arith}

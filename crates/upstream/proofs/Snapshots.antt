@@ -1,10 +1,10 @@
 -- L.snapshot_locked, L.create_snapshot, L.create_transaction_snapshot: our snapshots meet upstream's contracts where none of 4 to 8 is given.
-use Prim.Native.Nat.{ℕ, zero, suc, _+_, _-_, _<_, _≤_, min, max}
+use Prim.Native.Nat.{ℕ, suc, _+_, _-_, _<_, _≤_, min, max}
 use mathlib.Core.Path.{_≡_, refl, sym, ap, _∙_}
 use mathlib.Core.Logic.{_≢_}
 use mathlib.Core.Bool.{Bool, true, false}
 use mathlib.Core.List.{List, [], _∷_}
-use native.Mathlib.Nat.{suc-ne-zero, le-trans, le-refl}
+use native.Mathlib.Nat.{suc-ne-zero, le-refl}
 use native.Mathlib.Decide.{ℕ-discrete}
 use native.Mathlib.Omega.{arith}
 use lib.Dec.{ltb}
@@ -24,7 +24,7 @@ use Rattle.settled.specs.declared.Snapshot.{Snapshot}
 use Rattle.rules.specs.Accepted.{Observes}
 use Rattle.rules.proofs.Tallies.{minimum-member, minimum-bound, maximum-bound, taken-active, active-taken, used-places}
 use Rattle.rules.proofs.BelowTop.{BelowTop}
-use Rattle.upstream.specs.States.{Slot, State, slot, at, pairs, stateOf, stateAfter, historyBy, Foreseen}
+use Rattle.upstream.specs.States.{State, slot, at, pairs, stateOf, stateAfter, historyBy, Foreseen}
 use Rattle.upstream.specs.Relations.{HistoryOf, WellFormed, Sound, Coherent}
 use Rattle.upstream.specs.Clauses.{SnapshotLocked, CreateSnapshot, CreateTransactionSnapshot}
 use Rattle.upstream.proofs.Pairs.{pairs-length, pairs-set-xmin}

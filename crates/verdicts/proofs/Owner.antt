@@ -1,6 +1,6 @@
 -- What the owner test says, by the slot's check and what the slot holds.
 use Prim.Native.Nat.{ℕ}
-use mathlib.Core.Path.{_≡_, refl, sym, ap, _∙_}
+use mathlib.Core.Path.{_≡_, sym, ap, _∙_}
 use mathlib.Core.List.{List}
 use lib.ListN.{getD}
 use borrow.Author.Tests.{eq-eqb, ne-eqb}
@@ -8,7 +8,7 @@ use Rattle.kinds.specs.declared.SlotNo.{SlotNo}
 use Rattle.kinds.specs.declared.Txid.{Txid}
 use Rattle.kinds.specs.declared.refusal.Refusal.{Refusal}
 use Rattle.kinds.specs.declared.refusal.Refusal.the-variants.{ZeroTxid, SlotOwnershipMismatch}
-use Rattle.rules.specs.Tests.{Verdict, pass, refuse, slotTest, ownerTest}
+use Rattle.rules.specs.Tests.{pass, refuse, slotTest, ownerTest}
 use Rattle.verdicts.specs.declared.Checked.{Checked}
 use Rattle.verdicts.specs.declared.Checked.the-variants.{At}
 use Rattle.verdicts.specs.declared.Checked.the-variants.{Refused as Unchecked}

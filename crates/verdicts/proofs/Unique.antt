@@ -3,7 +3,6 @@ use Prim.Native.Nat.{ℕ}
 use mathlib.Core.Path.{_≡_, refl, sym, ap, _∙_}
 use native.Mathlib.Omega.{arith}
 use Rattle.kinds.specs.declared.SlotNo.{SlotNo}
-use Rattle.rules.specs.Tests.{Verdict, pass, refuse}
 use Rattle.verdicts.specs.declared.Judged.{Judged}
 use Rattle.verdicts.specs.declared.Judged.the-variants.{Passed, Refused}
 use Rattle.verdicts.specs.declared.Checked.{Checked}

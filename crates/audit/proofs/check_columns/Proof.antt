@@ -2,11 +2,6 @@ use Rattle.rules.specs.Check.{passes}
 use borrow.Author.Needs.{needs}
 use Rattle.audit.proofs.check_columns.Statement.{statement}
 use Rattle.audit.proofs.check_columns.Tie as tie
-use Rattle.audit.proofs.check_columns.Reads as reads
-use Rattle.audit.proofs.check_columns.Lts as lts
-use Rattle.audit.proofs.differ.txids_differ.Reads as txids-differ-reads
-use Rattle.audit.proofs.numbers.numbers_pass.Reads as numbers-pass-reads
-use Rattle.audit.proofs.slots.slots_pass.Reads as slots-pass-reads
 
 numbers-pass-requires : tie.Need-numbers-pass-requires
 numbers-pass-requires c κs = search needs

@@ -1,12 +1,8 @@
 use borrow.Author.Tests.{lt-ltb, le-ltb, eq-eqb, ne-eqb}
-use Rattle.kinds.specs.Refusals.{told}
 use Rattle.settled.specs.Settled.{settledTest}
 use borrow.Author.Needs.{needs}
 use Rattle.settled.proofs.is_settled_among.Statement.{statement}
 use Rattle.settled.proofs.is_settled_among.Tie as tie
-use Rattle.settled.proofs.is_settled_among.Reads as reads
-use Rattle.settled.proofs.is_settled_among.Lts as lts
-use Rattle.settled.proofs.is_listed.Reads as is-listed-reads
 
 returns : tie.Need-returns
 unfolding settledTest

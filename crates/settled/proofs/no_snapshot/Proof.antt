@@ -2,9 +2,6 @@ use borrow.Author.Needs.{needs}
 use Rattle.settled.specs.Snapshots.{noSnapshot}
 use Rattle.settled.proofs.no_snapshot.Statement.{statement}
 use Rattle.settled.proofs.no_snapshot.Tie as tie
-use Rattle.settled.proofs.no_snapshot.Reads as reads
-use Rattle.settled.proofs.no_snapshot.Lts as lts
-use Rattle.kinds.proofs.zeros.Reads as zeros-reads
 
 -- src/lib.rt:23:9
 zeros-requires : tie.Need-zeros-requires

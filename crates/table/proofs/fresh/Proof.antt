@@ -2,9 +2,6 @@ use Rattle.rules.specs.Tables.{freshTable}
 use borrow.Author.Needs.{needs}
 use Rattle.table.proofs.fresh.Statement.{statement}
 use Rattle.table.proofs.fresh.Tie as tie
-use Rattle.table.proofs.fresh.Reads as reads
-use Rattle.table.proofs.fresh.Lts as lts
-use Rattle.kinds.proofs.zeros.Reads as zeros-reads
 
 zeros-requires : tie.Need-zeros-requires
 zeros-requires c κs = search needs

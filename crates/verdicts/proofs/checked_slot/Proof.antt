@@ -1,10 +1,8 @@
-use borrow.Author.Tests.{lt-ltb, le-ltb, le-leb, lt-leb, eq-eqb, ne-eqb}
-use mathlib.Core.Path.{_≡_, refl, sym, ap, _∙_}
+use borrow.Author.Tests.{le-leb, lt-leb}
+use mathlib.Core.Path.{refl}
 use borrow.Author.Needs.{needs}
 use Rattle.verdicts.proofs.checked_slot.Statement.{statement}
 use Rattle.verdicts.proofs.checked_slot.Tie as tie
-use Rattle.verdicts.proofs.checked_slot.Reads as reads
-use Rattle.verdicts.proofs.checked_slot.Lts as lts
 
 cast-at : tie.Need-cast-at
 cast-at c = search needs

@@ -2,10 +2,6 @@ use Rattle.verdicts.proofs.Owner.{owner-unchecked, owner-zero, owner-pa
 use borrow.Author.Needs.{needs}
 use Rattle.verdicts.proofs.owner_test.Statement.{statement}
 use Rattle.verdicts.proofs.owner_test.Tie as tie
-use Rattle.verdicts.proofs.owner_test.Reads as reads
-use Rattle.verdicts.proofs.owner_test.Lts as lts
-use Rattle.verdicts.proofs.checked_slot.Reads as checked-slot-reads
-use Rattle.verdicts.proofs.place_at.Reads as place-at-reads
 
 checked-slot-requires : tie.Need-checked-slot-requires
 checked-slot-requires c κs = search needs

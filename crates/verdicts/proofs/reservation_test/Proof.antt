@@ -1,9 +1,6 @@
 use borrow.Author.Tests.{lt-ltb, le-ltb, le-leb, lt-leb, eq-eqb, ne-eqb}
-use native.Mathlib.Omega.{arith}
 use Rattle.verdicts.proofs.reservation_test.Statement.{statement}
 use Rattle.verdicts.proofs.reservation_test.Tie as tie
-use Rattle.verdicts.proofs.reservation_test.Reads as reads
-use Rattle.verdicts.proofs.reservation_test.Lts as lts
 
 returns : tie.Need-returns
 returns c = rw (le-leb _ _ (c .if1 .taken))

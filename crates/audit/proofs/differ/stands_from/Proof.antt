@@ -1,5 +1,5 @@
-use Prim.Native.Nat.{_≤_, _-_}
-use mathlib.Core.Path.{_≡_, refl, sym, ap, _∙_}
+use Prim.Native.Nat.{_-_}
+use mathlib.Core.Path.{_≡_, refl, sym, _∙_}
 use native.Mathlib.Omega.{arith}
 use borrow.Author.Needs.{needs}
 use lib.ListN.{length, drop}
@@ -7,8 +7,6 @@ use Rattle.settled.specs.Settled.{listed}
 use Rattle.audit.proofs.Rest.{stands-here, stands-later, stands-nowhere}
 use Rattle.audit.proofs.differ.stands_from.Statement.{statement}
 use Rattle.audit.proofs.differ.stands_from.Tie as tie
-use Rattle.audit.proofs.differ.stands_from.Reads as reads
-use Rattle.audit.proofs.differ.stands_from.Lts as lts
 
 abbrev Inv-loop : tie.InvT-loop
 Inv-loop txids from x i₀ i = listed x (drop from txids) ≡ listed x (drop i txids)

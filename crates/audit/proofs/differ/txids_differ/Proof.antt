@@ -1,5 +1,5 @@
-use Prim.Native.Nat.{_≤_, _-_}
-use mathlib.Core.Path.{_≡_, refl, sym, ap, _∙_}
+use Prim.Native.Nat.{_-_}
+use mathlib.Core.Path.{_≡_, refl, sym, _∙_}
 use native.Mathlib.Omega.{arith}
 use borrow.Author.Needs.{needs}
 use lib.ListN.{length, drop}
@@ -7,9 +7,6 @@ use Rattle.rules.specs.Check.{differ}
 use Rattle.audit.proofs.Rest.{differ-empty, differ-twice, differ-once, differ-none}
 use Rattle.audit.proofs.differ.txids_differ.Statement.{statement}
 use Rattle.audit.proofs.differ.txids_differ.Tie as tie
-use Rattle.audit.proofs.differ.txids_differ.Reads as reads
-use Rattle.audit.proofs.differ.txids_differ.Lts as lts
-use Rattle.audit.proofs.differ.stands_from.Reads as stands-from-reads
 
 abbrev Inv-loop : tie.InvT-loop
 Inv-loop txids i₀ i = differ txids ≡ differ (drop i txids)

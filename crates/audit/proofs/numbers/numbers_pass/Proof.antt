@@ -1,8 +1,6 @@
-use borrow.Author.Tests.{lt-ltb, le-ltb, le-leb, lt-leb, eq-eqb, ne-eqb}
+use borrow.Author.Tests.{le-leb, lt-leb, eq-eqb, ne-eqb}
 use Rattle.audit.proofs.numbers.numbers_pass.Statement.{statement}
 use Rattle.audit.proofs.numbers.numbers_pass.Tie as tie
-use Rattle.audit.proofs.numbers.numbers_pass.Reads as reads
-use Rattle.audit.proofs.numbers.numbers_pass.Lts as lts
 
 returns : tie.Need-returns
 returns c = rw (ne-eqb _ _ (c .if1 .taken))

@@ -1,8 +1,6 @@
 use borrow.Author.Tests.{lt-ltb, le-ltb, le-leb, lt-leb, eq-eqb, ne-eqb}
 use Rattle.audit.proofs.slots.slot_passes.Statement.{statement}
 use Rattle.audit.proofs.slots.slot_passes.Tie as tie
-use Rattle.audit.proofs.slots.slot_passes.Reads as reads
-use Rattle.audit.proofs.slots.slot_passes.Lts as lts
 
 returns : tie.Need-returns
 returns c = rw (eq-eqb _ _ (c .if1 .taken))

@@ -1,5 +1,5 @@
 use Prim.Native.Nat.{_≤_, _-_}
-use mathlib.Core.Path.{_≡_, refl, sym, ap, _∙_}
+use mathlib.Core.Path.{_≡_, refl, sym, _∙_}
 use native.Mathlib.Omega.{arith}
 use borrow.Author.Needs.{needs}
 use lib.ListN.{length, drop}
@@ -7,9 +7,6 @@ use Rattle.rules.specs.Check.{slotsPass}
 use Rattle.audit.proofs.Rest.{slots-short, slots-bad, slots-good, slots-long, slots-over}
 use Rattle.audit.proofs.slots.slots_pass.Statement.{statement}
 use Rattle.audit.proofs.slots.slots_pass.Tie as tie
-use Rattle.audit.proofs.slots.slots_pass.Reads as reads
-use Rattle.audit.proofs.slots.slots_pass.Lts as lts
-use Rattle.audit.proofs.slots.slot_passes.Reads as slot-passes-reads
 
 abbrev Inv-loop : tie.InvT-loop
 Inv-loop txids xmins clock line i₀ i = (i ≤ length txids) × (slotsPass clock line txids xmins ≡ slotsPass clock line (drop i txids) (drop i xmins))

@@ -2,13 +2,6 @@ use Rattle.decide.proofs.Judge.{begin-by, begin-free, begin-full}
 use borrow.Author.Needs.{needs}
 use Rattle.decide.proofs.begin.decide_begin.Statement.{statement}
 use Rattle.decide.proofs.begin.decide_begin.Tie as tie
-use Rattle.decide.proofs.begin.decide_begin.Reads as reads
-use Rattle.decide.proofs.begin.decide_begin.Lts as lts
-use Rattle.decide.proofs.change.counters_only.Reads as counters-only-reads
-use Rattle.decide.proofs.change.reserved.Reads as reserved-reads
-use Rattle.kinds.proofs.txid_of_stamp.Reads as txid-of-stamp-reads
-use Rattle.tally.proofs.lowest_empty.Reads as lowest-empty-reads
-use Rattle.verdicts.proofs.reservation_test.Reads as reservation-test-reads
 
 reservation-test-requires : tie.Need-reservation-test-requires
 reservation-test-requires c κs = search needs

@@ -1,12 +1,7 @@
 use Rattle.decide.proofs.Judge.{end-by}
-use Rattle.decide.specs.Decisions.{endDecision}
 use borrow.Author.Needs.{needs}
 use Rattle.decide.proofs.end.decide_end.Statement.{statement}
 use Rattle.decide.proofs.end.decide_end.Tie as tie
-use Rattle.decide.proofs.end.decide_end.Reads as reads
-use Rattle.decide.proofs.end.decide_end.Lts as lts
-use Rattle.decide.proofs.change.counters_only.Reads as counters-only-reads
-use Rattle.verdicts.proofs.owner_test.Reads as owner-test-reads
 
 owner-test-requires : tie.Need-owner-test-requires
 owner-test-requires c κs = search needs

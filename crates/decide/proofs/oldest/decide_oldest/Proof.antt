@@ -1,14 +1,7 @@
 use Rattle.decide.proofs.Judge.{oldest-by}
-use Rattle.decide.specs.Decisions.{oldestDecision}
 use borrow.Author.Needs.{needs}
 use Rattle.decide.proofs.oldest.decide_oldest.Statement.{statement}
 use Rattle.decide.proofs.oldest.decide_oldest.Tie as tie
-use Rattle.decide.proofs.oldest.decide_oldest.Reads as reads
-use Rattle.decide.proofs.oldest.decide_oldest.Lts as lts
-use Rattle.decide.proofs.change.counters_only.Reads as counters-only-reads
-use Rattle.decide.proofs.change.observed.Reads as observed-reads
-use Rattle.tally.proofs.oldest_retained.Reads as oldest-retained-reads
-use Rattle.verdicts.proofs.observation_test.Reads as observation-test-reads
 
 observation-test-requires : tie.Need-observation-test-requires
 observation-test-requires c κs = search needs

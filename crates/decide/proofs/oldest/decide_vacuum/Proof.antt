@@ -2,11 +2,6 @@ use Rattle.decide.proofs.Judge.{vacuum-refused, vacuum-lined}
 use borrow.Author.Needs.{needs}
 use Rattle.decide.proofs.oldest.decide_vacuum.Statement.{statement}
 use Rattle.decide.proofs.oldest.decide_vacuum.Tie as tie
-use Rattle.decide.proofs.oldest.decide_vacuum.Reads as reads
-use Rattle.decide.proofs.oldest.decide_vacuum.Lts as lts
-use Rattle.decide.proofs.change.counters_only.Reads as counters-only-reads
-use Rattle.decide.proofs.oldest.decide_oldest.Reads as decide-oldest-reads
-use Rattle.kinds.proofs.greater.Reads as greater-reads
 
 decide-oldest-requires : tie.Need-decide-oldest-requires
 decide-oldest-requires c κs = search needs

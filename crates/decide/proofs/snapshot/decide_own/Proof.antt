@@ -1,15 +1,8 @@
 use Rattle.decide.proofs.Judge.{said, own-by}
-use mathlib.Core.Path.{_≡_, refl, sym, ap, _∙_}
+use mathlib.Core.Path.{refl}
 use borrow.Author.Needs.{needs}
 use Rattle.decide.proofs.snapshot.decide_own.Statement.{statement}
 use Rattle.decide.proofs.snapshot.decide_own.Tie as tie
-use Rattle.decide.proofs.snapshot.decide_own.Reads as reads
-use Rattle.decide.proofs.snapshot.decide_own.Lts as lts
-use Rattle.decide.proofs.change.observed.Reads as observed-reads
-use Rattle.decide.proofs.snapshot.snapshot_refused.Reads as snapshot-refused-reads
-use Rattle.tally.proofs.take_snapshot.Reads as take-snapshot-reads
-use Rattle.verdicts.proofs.observation_test.Reads as observation-test-reads
-use Rattle.verdicts.proofs.owner_test.Reads as owner-test-reads
 
 owner-test-requires : tie.Need-owner-test-requires
 owner-test-requires c κs = search needs

@@ -2,13 +2,6 @@ use Rattle.decide.proofs.Judge.{snap-by}
 use borrow.Author.Needs.{needs}
 use Rattle.decide.proofs.snapshot.decide_snap.Statement.{statement}
 use Rattle.decide.proofs.snapshot.decide_snap.Tie as tie
-use Rattle.decide.proofs.snapshot.decide_snap.Reads as reads
-use Rattle.decide.proofs.snapshot.decide_snap.Lts as lts
-use Rattle.decide.proofs.change.counters_only.Reads as counters-only-reads
-use Rattle.decide.proofs.change.observed.Reads as observed-reads
-use Rattle.decide.proofs.snapshot.snapshot_refused.Reads as snapshot-refused-reads
-use Rattle.tally.proofs.take_snapshot.Reads as take-snapshot-reads
-use Rattle.verdicts.proofs.observation_test.Reads as observation-test-reads
 
 observation-test-requires : tie.Need-observation-test-requires
 observation-test-requires c κs = search needs

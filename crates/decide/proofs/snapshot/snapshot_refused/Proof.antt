@@ -2,10 +2,6 @@ use Rattle.decide.specs.Decisions.{snapshotRefused}
 use borrow.Author.Needs.{needs}
 use Rattle.decide.proofs.snapshot.snapshot_refused.Statement.{statement}
 use Rattle.decide.proofs.snapshot.snapshot_refused.Tie as tie
-use Rattle.decide.proofs.snapshot.snapshot_refused.Reads as reads
-use Rattle.decide.proofs.snapshot.snapshot_refused.Lts as lts
-use Rattle.decide.proofs.change.counters_only.Reads as counters-only-reads
-use Rattle.settled.proofs.no_snapshot.Reads as no-snapshot-reads
 
 no-snapshot-requires : tie.Need-no-snapshot-requires
 no-snapshot-requires c κs = search needs

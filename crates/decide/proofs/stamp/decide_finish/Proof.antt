@@ -1,14 +1,8 @@
 use Rattle.decide.proofs.Judge.{said, finish-by}
-use mathlib.Core.Path.{_≡_, refl, sym, ap, _∙_}
+use mathlib.Core.Path.{refl}
 use borrow.Author.Needs.{needs}
 use Rattle.decide.proofs.stamp.decide_finish.Statement.{statement}
 use Rattle.decide.proofs.stamp.decide_finish.Tie as tie
-use Rattle.decide.proofs.stamp.decide_finish.Reads as reads
-use Rattle.decide.proofs.stamp.decide_finish.Lts as lts
-use Rattle.decide.proofs.change.reserved.Reads as reserved-reads
-use Rattle.decide.proofs.stamp.stamp_refused.Reads as stamp-refused-reads
-use Rattle.verdicts.proofs.owner_test.Reads as owner-test-reads
-use Rattle.verdicts.proofs.reservation_test.Reads as reservation-test-reads
 
 owner-test-requires : tie.Need-owner-test-requires
 owner-test-requires c κs = search needs

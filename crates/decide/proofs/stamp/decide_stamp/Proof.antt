@@ -3,12 +3,6 @@ use mathlib.Core.List.{[]}
 use borrow.Author.Needs.{needs}
 use Rattle.decide.proofs.stamp.decide_stamp.Statement.{statement}
 use Rattle.decide.proofs.stamp.decide_stamp.Tie as tie
-use Rattle.decide.proofs.stamp.decide_stamp.Reads as reads
-use Rattle.decide.proofs.stamp.decide_stamp.Lts as lts
-use Rattle.decide.proofs.change.counters_only.Reads as counters-only-reads
-use Rattle.decide.proofs.change.reserved.Reads as reserved-reads
-use Rattle.decide.proofs.stamp.stamp_refused.Reads as stamp-refused-reads
-use Rattle.verdicts.proofs.reservation_test.Reads as reservation-test-reads
 
 reservation-test-requires : tie.Need-reservation-test-requires
 reservation-test-requires c κs = search needs

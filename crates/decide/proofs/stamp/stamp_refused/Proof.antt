@@ -2,9 +2,6 @@ use Rattle.decide.specs.Decisions.{stampRefused}
 use borrow.Author.Needs.{needs}
 use Rattle.decide.proofs.stamp.stamp_refused.Statement.{statement}
 use Rattle.decide.proofs.stamp.stamp_refused.Tie as tie
-use Rattle.decide.proofs.stamp.stamp_refused.Reads as reads
-use Rattle.decide.proofs.stamp.stamp_refused.Lts as lts
-use Rattle.decide.proofs.change.counters_only.Reads as counters-only-reads
 
 counters-only-requires : tie.Need-counters-only-requires
 counters-only-requires c κs = search needs

@@ -6,9 +6,6 @@ use Rattle.render.specs.Output.{eightLines}
 use borrow.Author.Needs.{needs}
 use Rattle.render.proofs.lines.eight_lines.Statement.{statement}
 use Rattle.render.proofs.lines.eight_lines.Tie as tie
-use Rattle.render.proofs.lines.eight_lines.Reads as reads
-use Rattle.render.proofs.lines.eight_lines.Lts as lts
-use Rattle.render.proofs.lines.line.Reads as line-reads
 
 slice-aggregate-line : tie.Need-slice-aggregate-line
 slice-aggregate-line c = search needs

@@ -4,8 +4,6 @@ use native.Mathlib.Omega.{arith}
 use borrow.Author.Needs.{needs}
 use Rattle.render.proofs.lines.has_room.Statement.{statement}
 use Rattle.render.proofs.lines.has_room.Tie as tie
-use Rattle.render.proofs.lines.has_room.Reads as reads
-use Rattle.render.proofs.lines.has_room.Lts as lts
 
 returns : tie.Need-returns
 returns c = rw (lt-leb _ _ (c .if1 .taken))

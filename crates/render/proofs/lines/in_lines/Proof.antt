@@ -1,5 +1,5 @@
-use Prim.Native.Nat.{ℕ, _≤_, _-_, _*_, _+_, min}
-use mathlib.Core.Path.{_≡_, refl, sym, ap, _∙_}
+use Prim.Native.Nat.{ℕ, _≤_, _-_, _*_, min}
+use mathlib.Core.Path.{_≡_, sym, ap, _∙_}
 use native.Mathlib.Omega.{arith}
 use borrow.Author.Needs.{needs}
 use lib.ListN.{length, take}
@@ -8,9 +8,6 @@ use Rattle.render.specs.Output.{Wrote, inLines}
 use Rattle.render.proofs.Wrote.{wrote-none, wrote-then, wrote-at-most, wrote-same, one-more-id}
 use Rattle.render.proofs.lines.in_lines.Statement.{statement}
 use Rattle.render.proofs.lines.in_lines.Tie as tie
-use Rattle.render.proofs.lines.in_lines.Reads as reads
-use Rattle.render.proofs.lines.in_lines.Lts as lts
-use Rattle.render.proofs.lines.in_line.Reads as in-line-reads
 
 abbrev Inv-loop : tie.InvT-loop
 Inv-loop buf₀ at ids count past₀ i₀ buf past i = (i ≤ min count (length ids)) × Wrote buf₀ at (inLines (take i ids)) buf past (24 * i)

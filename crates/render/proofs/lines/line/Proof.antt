@@ -2,9 +2,6 @@ use Rattle.render.proofs.Wrote.{line-wrote, line-put-there}
 use borrow.Author.Needs.{needs}
 use Rattle.render.proofs.lines.line.Statement.{statement}
 use Rattle.render.proofs.lines.line.Tie as tie
-use Rattle.render.proofs.lines.line.Reads as reads
-use Rattle.render.proofs.lines.line.Lts as lts
-use Rattle.text.proofs.put_line.Reads as put-line-reads
 
 put-line-requires : tie.Need-put-line-requires
 put-line-requires c κs = search needs

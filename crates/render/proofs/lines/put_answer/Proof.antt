@@ -1,16 +1,11 @@
 use Prim.Native.Nat.{_≤_}
-use mathlib.Core.Path.{_≡_, sym, _∙_}
+use mathlib.Core.Path.{sym, _∙_}
 use native.Mathlib.Omega.{arith}
 use lib.ListN.{length}
 use Rattle.render.proofs.Wrote.{wrote-then, fits-room, put-room, put-no-room}
 use borrow.Author.Needs.{needs}
 use Rattle.render.proofs.lines.put_answer.Statement.{statement}
 use Rattle.render.proofs.lines.put_answer.Tie as tie
-use Rattle.render.proofs.lines.put_answer.Reads as reads
-use Rattle.render.proofs.lines.put_answer.Lts as lts
-use Rattle.render.proofs.lines.eight_lines.Reads as eight-lines-reads
-use Rattle.render.proofs.lines.has_room.Reads as has-room-reads
-use Rattle.render.proofs.lines.in_lines.Reads as in-lines-reads
 
 has-room-requires : tie.Need-has-room-requires
 has-room-requires c κs = search needs

@@ -1,10 +1,6 @@
 use borrow.Author.Needs.{needs}
 use Rattle.render.proofs.printed.of_begun.Statement.{statement}
 use Rattle.render.proofs.printed.of_begun.Tie as tie
-use Rattle.render.proofs.printed.of_begun.Reads as reads
-use Rattle.render.proofs.printed.of_begun.Lts as lts
-use Rattle.render.proofs.printed.of_refusal.Reads as of-refusal-reads
-use Rattle.render.proofs.printed.with_numbers.Reads as with-numbers-reads
 
 enum-known-answer : tie.Need-enum-known-answer
 enum-known-answer c = search needs

@@ -1,9 +1,6 @@
 use borrow.Author.Needs.{needs}
 use Rattle.render.proofs.printed.of_oldest.Statement.{statement}
 use Rattle.render.proofs.printed.of_oldest.Tie as tie
-use Rattle.render.proofs.printed.of_oldest.Reads as reads
-use Rattle.render.proofs.printed.of_oldest.Lts as lts
-use Rattle.render.proofs.printed.of_refusal.Reads as of-refusal-reads
 
 enum-known-answer : tie.Need-enum-known-answer
 enum-known-answer c = search needs

@@ -2,9 +2,6 @@ use Rattle.kinds.specs.Refusals.{told}
 use borrow.Author.Needs.{needs}
 use Rattle.render.proofs.printed.of_refusal.Statement.{statement}
 use Rattle.render.proofs.printed.of_refusal.Tie as tie
-use Rattle.render.proofs.printed.of_refusal.Reads as reads
-use Rattle.render.proofs.printed.of_refusal.Lts as lts
-use Rattle.render.proofs.printed.with_numbers.Reads as with-numbers-reads
 
 enum-known-r : tie.Need-enum-known-r
 enum-known-r c = search needs

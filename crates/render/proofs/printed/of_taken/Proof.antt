@@ -1,9 +1,6 @@
 use borrow.Author.Needs.{needs}
 use Rattle.render.proofs.printed.of_taken.Statement.{statement}
 use Rattle.render.proofs.printed.of_taken.Tie as tie
-use Rattle.render.proofs.printed.of_taken.Reads as reads
-use Rattle.render.proofs.printed.of_taken.Lts as lts
-use Rattle.render.proofs.printed.of_refusal.Reads as of-refusal-reads
 
 enum-told : tie.Need-enum-told
 enum-told c = search needs

@@ -2,9 +2,6 @@ use Rattle.replay.proofs.Ends.{broken-short, first-there, second-there,
 use borrow.Author.Needs.{needs}
 use Rattle.replay.proofs.into.put_broken.Statement.{statement}
 use Rattle.replay.proofs.into.put_broken.Tie as tie
-use Rattle.replay.proofs.into.put_broken.Reads as reads
-use Rattle.replay.proofs.into.put_broken.Lts as lts
-use Rattle.text.proofs.put_line.Reads as put-line-reads
 
 returns : tie.Need-returns
 returns c = broken-short (c .before .before .args .line) (c .before .before .args .buf .now) (c .if1 .taken)

@@ -2,9 +2,6 @@ use Rattle.replay.proofs.Ends.{end-written, end-short}
 use borrow.Author.Needs.{needs}
 use Rattle.replay.proofs.into.put_records.Statement.{statement}
 use Rattle.replay.proofs.into.put_records.Tie as tie
-use Rattle.replay.proofs.into.put_records.Reads as reads
-use Rattle.replay.proofs.into.put_records.Lts as lts
-use Rattle.text.proofs.put_line.Reads as put-line-reads
 
 slice-aggregate-put-line : tie.Need-slice-aggregate-put-line
 slice-aggregate-put-line c = search needs

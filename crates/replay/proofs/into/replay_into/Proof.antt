@@ -1,17 +1,9 @@
-use mathlib.Core.Path.{_≡_, sym, _∙_}
+use mathlib.Core.Path.{sym, _∙_}
 use Rattle.trace.proofs.Grammar.{begun}
 use Rattle.replay.proofs.Whole.{into-broken, into-whole, into-cut}
 use borrow.Author.Needs.{needs}
 use Rattle.replay.proofs.into.replay_into.Statement.{statement}
 use Rattle.replay.proofs.into.replay_into.Tie as tie
-use Rattle.replay.proofs.into.replay_into.Reads as reads
-use Rattle.replay.proofs.into.replay_into.Lts as lts
-use Rattle.replay.proofs.into.put_broken.Reads as put-broken-reads
-use Rattle.replay.proofs.into.put_records.Reads as put-records-reads
-use Rattle.replay.proofs.part.run_part.Reads as run-part-reads
-use Rattle.table.proofs.fresh.Reads as fresh-reads
-use Rattle.trace.proofs.first_record.Reads as first-record-reads
-use Rattle.trace.proofs.read_trace.Reads as read-trace-reads
 
 read-trace-requires : tie.Need-read-trace-requires
 read-trace-requires c κs = search needs

@@ -1,18 +1,9 @@
 use Prim.Native.Nat.{_-_}
-use mathlib.Core.Path.{_≡_, refl}
+use mathlib.Core.Path.{_≡_}
 use lib.ListN.{length}
 use borrow.Author.Needs.{needs}
 use Rattle.replay.proofs.out.run_to.Statement.{statement}
 use Rattle.replay.proofs.out.run_to.Tie as tie
-use Rattle.replay.proofs.out.run_to.Reads as reads
-use Rattle.replay.proofs.out.run_to.Lts as lts
-use Rattle.io.proofs.large_buffer.Reads as large-buffer-reads
-use Rattle.replay.proofs.into.put_records.Reads as put-records-reads
-use Rattle.replay.proofs.out.write_replayed.Reads as write-replayed-reads
-use Rattle.replay.proofs.out.write_start.Reads as write-start-reads
-use Rattle.replay.proofs.part.run_part.Reads as run-part-reads
-use Rattle.table.proofs.fresh.Reads as fresh-reads
-use Rattle.trace.proofs.first_record.Reads as first-record-reads
 
 abbrev Inv-loop : tie.InvT-loop
 Inv-loop s count fd buf₀ table₀ at₀ buf table at = length buf ≡ length buf₀

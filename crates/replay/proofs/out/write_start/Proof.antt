@@ -3,9 +3,6 @@ use lib.Seq.{length-take-le}
 use borrow.Author.Needs.{needs}
 use Rattle.replay.proofs.out.write_start.Statement.{statement}
 use Rattle.replay.proofs.out.write_start.Tie as tie
-use Rattle.replay.proofs.out.write_start.Reads as reads
-use Rattle.replay.proofs.out.write_start.Lts as lts
-use Rattle.io.proofs.write_all.Reads as write-all-reads
 
 slice-aggregate-write-all : tie.Need-slice-aggregate-write-all
 slice-aggregate-write-all c = sym (length-take-le _ _ (c .before .if1 .taken))

@@ -11,11 +11,6 @@ use Rattle.trace.specs.Trace.{Boundary}
 use Rattle.replay.proofs.Running.{Running, running-start, running-more, running-full, running-over}
 use Rattle.replay.proofs.part.run_part.Statement.{statement}
 use Rattle.replay.proofs.part.run_part.Tie as tie
-use Rattle.replay.proofs.part.run_part.Reads as reads
-use Rattle.replay.proofs.part.run_part.Lts as lts
-use Rattle.replay.proofs.part.store_at.Reads as store-at-reads
-use Rattle.replay.proofs.record.run_record.Reads as run-record-reads
-use Rattle.reader.proofs.next_record.Reads as next-record-reads
 
 abbrev Inv-loop : tie.InvT-loop
 Inv-loop s from buf₀ t₀ at₀ filled₀ buf t at filled = (length buf ≡ length buf₀) × (length (t .txids) ≡ length (t₀ .txids)) × (Boundary s from → Running (length (t₀ .txids)) s from t₀ buf₀ buf t at filled)

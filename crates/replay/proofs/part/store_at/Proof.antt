@@ -3,8 +3,6 @@ use Rattle.replay.specs.Records.{storedAt}
 use borrow.Author.Needs.{needs}
 use Rattle.replay.proofs.part.store_at.Statement.{statement}
 use Rattle.replay.proofs.part.store_at.Tie as tie
-use Rattle.replay.proofs.part.store_at.Reads as reads
-use Rattle.replay.proofs.part.store_at.Lts as lts
 
 mul-column : tie.Need-mul-column
 mul-column c = search needs

@@ -3,11 +3,6 @@ use Rattle.replay.proofs.Ran.{ran-plain, begun-lists-none}
 use borrow.Author.Needs.{needs}
 use Rattle.replay.proofs.record.run_begin.Statement.{statement}
 use Rattle.replay.proofs.record.run_begin.Tie as tie
-use Rattle.replay.proofs.record.run_begin.Reads as reads
-use Rattle.replay.proofs.record.run_begin.Lts as lts
-use Rattle.decide.proofs.decide_begin.Reads as decide-begin-reads
-use Rattle.render.proofs.put_answer.Reads as put-answer-reads
-use Rattle.render.proofs.of_begun.Reads as of-begun-reads
 
 decide-begin-requires : tie.Need-decide-begin-requires
 decide-begin-requires c κs = search needs

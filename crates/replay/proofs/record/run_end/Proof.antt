@@ -3,11 +3,6 @@ use Rattle.replay.proofs.Ran.{ran-plain, ended-lists-none}
 use borrow.Author.Needs.{needs}
 use Rattle.replay.proofs.record.run_end.Statement.{statement}
 use Rattle.replay.proofs.record.run_end.Tie as tie
-use Rattle.replay.proofs.record.run_end.Reads as reads
-use Rattle.replay.proofs.record.run_end.Lts as lts
-use Rattle.decide.proofs.decide_end.Reads as decide-end-reads
-use Rattle.render.proofs.put_answer.Reads as put-answer-reads
-use Rattle.render.proofs.of_ended.Reads as of-ended-reads
 
 decide-end-requires : tie.Need-decide-end-requires
 decide-end-requires c κs = search needs

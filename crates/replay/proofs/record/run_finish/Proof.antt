@@ -3,11 +3,6 @@ use Rattle.replay.proofs.Ran.{ran-plain, stamped-lists-none}
 use borrow.Author.Needs.{needs}
 use Rattle.replay.proofs.record.run_finish.Statement.{statement}
 use Rattle.replay.proofs.record.run_finish.Tie as tie
-use Rattle.replay.proofs.record.run_finish.Reads as reads
-use Rattle.replay.proofs.record.run_finish.Lts as lts
-use Rattle.decide.proofs.decide_finish.Reads as decide-finish-reads
-use Rattle.render.proofs.put_answer.Reads as put-answer-reads
-use Rattle.render.proofs.of_stamped.Reads as of-stamped-reads
 
 decide-finish-requires : tie.Need-decide-finish-requires
 decide-finish-requires c κs = search needs

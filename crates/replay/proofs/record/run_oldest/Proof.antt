@@ -3,11 +3,6 @@ use Rattle.replay.proofs.Ran.{ran-plain, oldest-lists-none}
 use borrow.Author.Needs.{needs}
 use Rattle.replay.proofs.record.run_oldest.Statement.{statement}
 use Rattle.replay.proofs.record.run_oldest.Tie as tie
-use Rattle.replay.proofs.record.run_oldest.Reads as reads
-use Rattle.replay.proofs.record.run_oldest.Lts as lts
-use Rattle.decide.proofs.decide_oldest.Reads as decide-oldest-reads
-use Rattle.render.proofs.put_answer.Reads as put-answer-reads
-use Rattle.render.proofs.of_oldest.Reads as of-oldest-reads
 
 decide-oldest-requires : tie.Need-decide-oldest-requires
 decide-oldest-requires c κs = search needs

@@ -1,14 +1,9 @@
-use mathlib.Core.Path.{_≡_, sym, ap, _∙_}
+use mathlib.Core.Path.{_∙_}
 use Rattle.replay.proofs.Lent.{own-lent}
 use Rattle.replay.proofs.Ran.{ran, printed-taken, own-lists}
 use borrow.Author.Needs.{needs}
 use Rattle.replay.proofs.record.run_own.Statement.{statement}
 use Rattle.replay.proofs.record.run_own.Tie as tie
-use Rattle.replay.proofs.record.run_own.Reads as reads
-use Rattle.replay.proofs.record.run_own.Lts as lts
-use Rattle.decide.proofs.decide_own.Reads as decide-own-reads
-use Rattle.render.proofs.put_answer.Reads as put-answer-reads
-use Rattle.render.proofs.of_taken.Reads as of-taken-reads
 
 decide-own-requires : tie.Need-decide-own-requires
 decide-own-requires c κs = search needs

@@ -3,16 +3,6 @@ use Rattle.replay.specs.Replay.{callOf}
 use borrow.Author.Needs.{needs}
 use Rattle.replay.proofs.record.run_record.Statement.{statement}
 use Rattle.replay.proofs.record.run_record.Tie as tie
-use Rattle.replay.proofs.record.run_record.Reads as reads
-use Rattle.replay.proofs.record.run_record.Lts as lts
-use Rattle.replay.proofs.record.run_begin.Reads as run-begin-reads
-use Rattle.replay.proofs.record.run_end.Reads as run-end-reads
-use Rattle.replay.proofs.record.run_finish.Reads as run-finish-reads
-use Rattle.replay.proofs.record.run_oldest.Reads as run-oldest-reads
-use Rattle.replay.proofs.record.run_own.Reads as run-own-reads
-use Rattle.replay.proofs.record.run_snap.Reads as run-snap-reads
-use Rattle.replay.proofs.record.run_stamp.Reads as run-stamp-reads
-use Rattle.replay.proofs.record.run_vacuum.Reads as run-vacuum-reads
 
 cast-t12 : tie.Need-cast-t12
 cast-t12 c = search needs

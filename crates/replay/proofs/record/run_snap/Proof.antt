@@ -1,14 +1,9 @@
-use mathlib.Core.Path.{_≡_, sym, ap, _∙_}
+use mathlib.Core.Path.{_∙_}
 use Rattle.replay.proofs.Lent.{snap-lent}
 use Rattle.replay.proofs.Ran.{ran, printed-taken, snap-lists}
 use borrow.Author.Needs.{needs}
 use Rattle.replay.proofs.record.run_snap.Statement.{statement}
 use Rattle.replay.proofs.record.run_snap.Tie as tie
-use Rattle.replay.proofs.record.run_snap.Reads as reads
-use Rattle.replay.proofs.record.run_snap.Lts as lts
-use Rattle.decide.proofs.decide_snap.Reads as decide-snap-reads
-use Rattle.render.proofs.put_answer.Reads as put-answer-reads
-use Rattle.render.proofs.of_taken.Reads as of-taken-reads
 
 decide-snap-requires : tie.Need-decide-snap-requires
 decide-snap-requires c κs = search needs

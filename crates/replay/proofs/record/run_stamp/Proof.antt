@@ -3,11 +3,6 @@ use Rattle.replay.proofs.Ran.{ran-plain, stamped-lists-none}
 use borrow.Author.Needs.{needs}
 use Rattle.replay.proofs.record.run_stamp.Statement.{statement}
 use Rattle.replay.proofs.record.run_stamp.Tie as tie
-use Rattle.replay.proofs.record.run_stamp.Reads as reads
-use Rattle.replay.proofs.record.run_stamp.Lts as lts
-use Rattle.decide.proofs.decide_stamp.Reads as decide-stamp-reads
-use Rattle.render.proofs.put_answer.Reads as put-answer-reads
-use Rattle.render.proofs.of_stamped.Reads as of-stamped-reads
 
 decide-stamp-requires : tie.Need-decide-stamp-requires
 decide-stamp-requires c κs = search needs

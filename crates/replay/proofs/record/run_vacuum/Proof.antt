@@ -3,11 +3,6 @@ use Rattle.replay.proofs.Ran.{ran-plain, vacuumed-lists-none}
 use borrow.Author.Needs.{needs}
 use Rattle.replay.proofs.record.run_vacuum.Statement.{statement}
 use Rattle.replay.proofs.record.run_vacuum.Tie as tie
-use Rattle.replay.proofs.record.run_vacuum.Reads as reads
-use Rattle.replay.proofs.record.run_vacuum.Lts as lts
-use Rattle.decide.proofs.decide_vacuum.Reads as decide-vacuum-reads
-use Rattle.render.proofs.put_answer.Reads as put-answer-reads
-use Rattle.render.proofs.of_vacuumed.Reads as of-vacuumed-reads
 
 decide-vacuum-requires : tie.Need-decide-vacuum-requires
 decide-vacuum-requires c κs = search needs

@@ -1,12 +1,8 @@
-use mathlib.Core.Path.{_≡_, _∙_}
+use mathlib.Core.Path.{_∙_}
 use Rattle.decide.proofs.Rules.{begin-rules}
 use borrow.Author.Needs.{needs}
 use Rattle.table.proofs.begin.begin_transaction.Statement.{statement}
 use Rattle.table.proofs.begin.begin_transaction.Tie as tie
-use Rattle.table.proofs.begin.begin_transaction.Reads as reads
-use Rattle.table.proofs.begin.begin_transaction.Lts as lts
-use Rattle.decide.proofs.decide_begin.Reads as decide-begin-reads
-use Rattle.table.proofs.change.apply.Reads as apply-reads
 
 decide-begin-requires : tie.Need-decide-begin-requires
 decide-begin-requires c κs = search needs

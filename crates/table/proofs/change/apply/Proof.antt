@@ -3,8 +3,6 @@ use Rattle.decide.specs.Changes.{applied}
 use borrow.Author.Needs.{needs}
 use Rattle.table.proofs.change.apply.Statement.{statement}
 use Rattle.table.proofs.change.apply.Tie as tie
-use Rattle.table.proofs.change.apply.Reads as reads
-use Rattle.table.proofs.change.apply.Lts as lts
 
 mul-next : tie.Need-mul-next
 mul-next c = search needs

@@ -1,12 +1,8 @@
-use mathlib.Core.Path.{_≡_, _∙_}
+use mathlib.Core.Path.{_∙_}
 use Rattle.decide.proofs.Rules.{end-rules}
 use borrow.Author.Needs.{needs}
 use Rattle.table.proofs.end.end_transaction.Statement.{statement}
 use Rattle.table.proofs.end.end_transaction.Tie as tie
-use Rattle.table.proofs.end.end_transaction.Reads as reads
-use Rattle.table.proofs.end.end_transaction.Lts as lts
-use Rattle.decide.proofs.decide_end.Reads as decide-end-reads
-use Rattle.table.proofs.change.apply.Reads as apply-reads
 
 decide-end-requires : tie.Need-decide-end-requires
 decide-end-requires c κs = search needs

@@ -1,12 +1,8 @@
-use mathlib.Core.Path.{_≡_, _∙_}
+use mathlib.Core.Path.{_∙_}
 use Rattle.decide.proofs.Rules.{oldest-rules}
 use borrow.Author.Needs.{needs}
 use Rattle.table.proofs.oldest.oldest_snapshot_xmin.Statement.{statement}
 use Rattle.table.proofs.oldest.oldest_snapshot_xmin.Tie as tie
-use Rattle.table.proofs.oldest.oldest_snapshot_xmin.Reads as reads
-use Rattle.table.proofs.oldest.oldest_snapshot_xmin.Lts as lts
-use Rattle.decide.proofs.decide_oldest.Reads as decide-oldest-reads
-use Rattle.table.proofs.change.apply.Reads as apply-reads
 
 decide-oldest-requires : tie.Need-decide-oldest-requires
 decide-oldest-requires c κs = search needs

@@ -1,12 +1,8 @@
-use mathlib.Core.Path.{_≡_, _∙_}
+use mathlib.Core.Path.{_∙_}
 use Rattle.decide.proofs.Rules.{vacuum-rules}
 use borrow.Author.Needs.{needs}
 use Rattle.table.proofs.oldest.vacuum.Statement.{statement}
 use Rattle.table.proofs.oldest.vacuum.Tie as tie
-use Rattle.table.proofs.oldest.vacuum.Reads as reads
-use Rattle.table.proofs.oldest.vacuum.Lts as lts
-use Rattle.decide.proofs.decide_vacuum.Reads as decide-vacuum-reads
-use Rattle.table.proofs.change.apply.Reads as apply-reads
 
 decide-vacuum-requires : tie.Need-decide-vacuum-requires
 decide-vacuum-requires c κs = search needs

@@ -6,8 +6,6 @@ use Rattle.rules.specs.Calls.{refusal, afterAccepted, afterRefused, after, answ
 use Rattle.rules.specs.Rows.{seenFrom, RowsHold, rows}
 use Rattle.table.proofs.rows.rows_hold.Statement.{statement}
 use Rattle.table.proofs.rows.rows_hold.Tie as tie
-use Rattle.table.proofs.rows.rows_hold.Reads as reads
-use Rattle.table.proofs.rows.rows_hold.Lts as lts
 
 returns : tie.Need-returns
 unfolding told active retained lowestEmpty minimum maximum snapshotOf freshTable refusal afterAccepted afterRefused after answerAccepted answer seenFrom RowsHold rows

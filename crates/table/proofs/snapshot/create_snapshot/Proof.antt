@@ -1,16 +1,10 @@
 use native.Mathlib.Nat.{le-of-eq}
 use lib.ListN.{length-map}
-use native.Mathlib.Omega.{arith}
-use mathlib.Core.Path.{_≡_, _∙_}
+use mathlib.Core.Path.{_∙_}
 use Rattle.decide.proofs.Rules.{snap-rules, snap-shows}
-use Prim.Native.Nat.{_≤_}
 use borrow.Author.Needs.{needs}
 use Rattle.table.proofs.snapshot.create_snapshot.Statement.{statement}
 use Rattle.table.proofs.snapshot.create_snapshot.Tie as tie
-use Rattle.table.proofs.snapshot.create_snapshot.Reads as reads
-use Rattle.table.proofs.snapshot.create_snapshot.Lts as lts
-use Rattle.decide.proofs.decide_snap.Reads as decide-snap-reads
-use Rattle.table.proofs.change.apply.Reads as apply-reads
 
 decide-snap-requires : tie.Need-decide-snap-requires
 decide-snap-requires c κs = search needs

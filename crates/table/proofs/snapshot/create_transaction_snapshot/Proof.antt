@@ -1,16 +1,10 @@
 use native.Mathlib.Nat.{le-of-eq}
 use lib.ListN.{length-map}
-use native.Mathlib.Omega.{arith}
-use mathlib.Core.Path.{_≡_, _∙_}
+use mathlib.Core.Path.{_∙_}
 use Rattle.decide.proofs.Rules.{own-rules, own-shows}
-use Prim.Native.Nat.{_≤_}
 use borrow.Author.Needs.{needs}
 use Rattle.table.proofs.snapshot.create_transaction_snapshot.Statement.{statement}
 use Rattle.table.proofs.snapshot.create_transaction_snapshot.Tie as tie
-use Rattle.table.proofs.snapshot.create_transaction_snapshot.Reads as reads
-use Rattle.table.proofs.snapshot.create_transaction_snapshot.Lts as lts
-use Rattle.decide.proofs.decide_own.Reads as decide-own-reads
-use Rattle.table.proofs.change.apply.Reads as apply-reads
 
 decide-own-requires : tie.Need-decide-own-requires
 decide-own-requires c κs = search needs

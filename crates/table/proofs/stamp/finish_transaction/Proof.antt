@@ -1,12 +1,8 @@
-use mathlib.Core.Path.{_≡_, _∙_}
+use mathlib.Core.Path.{_∙_}
 use Rattle.decide.proofs.Rules.{finish-rules}
 use borrow.Author.Needs.{needs}
 use Rattle.table.proofs.stamp.finish_transaction.Statement.{statement}
 use Rattle.table.proofs.stamp.finish_transaction.Tie as tie
-use Rattle.table.proofs.stamp.finish_transaction.Reads as reads
-use Rattle.table.proofs.stamp.finish_transaction.Lts as lts
-use Rattle.decide.proofs.decide_finish.Reads as decide-finish-reads
-use Rattle.table.proofs.change.apply.Reads as apply-reads
 
 decide-finish-requires : tie.Need-decide-finish-requires
 decide-finish-requires c κs = search needs

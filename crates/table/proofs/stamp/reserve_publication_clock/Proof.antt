@@ -1,12 +1,8 @@
-use mathlib.Core.Path.{_≡_, _∙_}
+use mathlib.Core.Path.{_∙_}
 use Rattle.decide.proofs.Rules.{stamp-rules}
 use borrow.Author.Needs.{needs}
 use Rattle.table.proofs.stamp.reserve_publication_clock.Statement.{statement}
 use Rattle.table.proofs.stamp.reserve_publication_clock.Tie as tie
-use Rattle.table.proofs.stamp.reserve_publication_clock.Reads as reads
-use Rattle.table.proofs.stamp.reserve_publication_clock.Lts as lts
-use Rattle.decide.proofs.decide_stamp.Reads as decide-stamp-reads
-use Rattle.table.proofs.change.apply.Reads as apply-reads
 
 decide-stamp-requires : tie.Need-decide-stamp-requires
 decide-stamp-requires c κs = search needs

@@ -1,5 +1,5 @@
 use Prim.Native.Nat.{_≤_, _+_, _-_}
-use mathlib.Core.Path.{_≡_, refl, sym, ap, _∙_}
+use mathlib.Core.Path.{_≡_}
 use native.Mathlib.Omega.{arith}
 use borrow.Author.Needs.{needs}
 use lib.ListN.{length, drop}
@@ -7,8 +7,6 @@ use Rattle.rules.specs.Tally.{lowestEmpty}
 use Rattle.tally.proofs.Slots.{empty-here, taken-here, no-more-slots}
 use Rattle.tally.proofs.lowest.lowest_empty.Statement.{statement}
 use Rattle.tally.proofs.lowest.lowest_empty.Tie as tie
-use Rattle.tally.proofs.lowest.lowest_empty.Reads as reads
-use Rattle.tally.proofs.lowest.lowest_empty.Lts as lts
 
 abbrev Inv-loop : tie.InvT-loop
 Inv-loop txids i₀ i = (i ≤ length txids) × (lowestEmpty txids ≡ i + lowestEmpty (drop i txids))

@@ -1,19 +1,12 @@
-use Prim.Native.Nat.{_≤_, _+_, _-_, max}
+use Prim.Native.Nat.{_-_, max}
 use Rattle.tally.proofs.Scan.{Scanned, scanned-none, scanned-miss, scanned-hit, here, read, room, over-nothing, over-some}
-use mathlib.Core.Path.{_≡_, refl, sym, ap, _∙_}
+use mathlib.Core.Path.{sym, ap, _∙_}
 use native.Mathlib.Omega.{arith}
 use borrow.Author.Needs.{needs}
-use lib.ListN.{length, drop}
+use lib.ListN.{length}
 use lib.ListN.{length, take}
 use Rattle.tally.proofs.snapshot.take_snapshot.Statement.{statement}
 use Rattle.tally.proofs.snapshot.take_snapshot.Tie as tie
-use Rattle.tally.proofs.snapshot.take_snapshot.Reads as reads
-use Rattle.tally.proofs.snapshot.take_snapshot.Lts as lts
-use Rattle.kinds.proofs.greater.Reads as greater-reads
-use Rattle.kinds.proofs.lesser.Reads as lesser-reads
-use Rattle.kinds.proofs.next_held.Reads as next-held-reads
-use Rattle.kinds.proofs.zeros.Reads as zeros-reads
-use Rattle.tally.proofs.snapshot.shorter.Reads as shorter-reads
 
 abbrev Inv-loop : tie.InvT-loop
 Inv-loop txids sample end ids₀ count₀ low₀ high₀ i₀ ids count low high i = Scanned sample (take (length ids₀) txids) ids₀ ids count low high i

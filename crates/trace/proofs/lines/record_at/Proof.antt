@@ -5,7 +5,6 @@ use Rattle.text.specs.Line.{linesAt}
 use Rattle.trace.specs.Record.{rules, recordAt}
 use Rattle.trace.proofs.lines.record_at.Statement.{statement}
 use Rattle.trace.proofs.lines.record_at.Tie as tie
-use Rattle.trace.proofs.lines.record_at.Reads as reads
 
 op-at-requires : tie.Need-op-at-requires
 op-at-requires c κs = search needs
