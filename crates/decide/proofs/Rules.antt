@@ -17,7 +17,8 @@ use Rattle.kinds.specs.Refusals.{told}
 use Rattle.rules.specs.declared.Table.{Table}
 use Rattle.rules.specs.Tally.{active, lowestEmpty, snapshotOf}
 use Rattle.rules.specs.Tests.{Verdict, pass, refuse, then, ownerTest, reservationTest, observationTest}
-use Rattle.rules.specs.Calls.{Call, begin, end, snap, own, oldest, vacuum, stamp, finish, refusal, afterAccepted, afterRefused, after, Answer, answerTold, answerAccepted, answer, shownBy, shown}
+use Rattle.rules.specs.Answers.{Answer, answerTold}
+use Rattle.rules.specs.Calls.{Call, begin, end, snap, own, oldest, vacuum, stamp, finish, refusal, afterAccepted, afterRefused, after, answerAccepted, answer, shownBy, shown}
 use Rattle.rules.proofs.Tests.{owns, reserves}
 use Rattle.rules.proofs.Refused.{Refused, stays, spends, refused}
 use Rattle.decide.specs.declared.change.Change.{Change}

@@ -5,7 +5,7 @@ use Rattle.kinds.specs.declared.refusal.Refusal.{Refusal}
 use Rattle.kinds.specs.Refusals.{Told, told}
 use Rattle.kinds.proofs.Unique.{same-slot, same-txid, same-stamp, told-unique, told-positive}
 use Rattle.settled.specs.declared.Snapshot.{Snapshot}
-use Rattle.rules.specs.Calls.{Answer, answerTold}
+use Rattle.rules.specs.Answers.{Answer, answerTold}
 use Rattle.decide.specs.declared.begin.Begun.{Begun}
 use Rattle.decide.specs.declared.begin.Begun.the-variants.{Accepted as Begins, Refused as BeginRefused}
 use Rattle.decide.specs.declared.end.Ended.{Ended}

@@ -1,12 +1,12 @@
 -- What each answer tells: document 01's number and values for every case of every answer.
 use Prim.Native.Nat.{ℕ}
 use mathlib.Core.Path.{_≡_}
-use mathlib.Core.List.{[]}
 use lib.ListN.{take}
 use Rattle.kinds.specs.Refusals.{told}
 use Rattle.settled.specs.declared.Snapshot.{Snapshot}
 use Rattle.rules.specs.declared.Table.{Table}
-use Rattle.rules.specs.Calls.{Call, Answer, values, answerTold, after, answer}
+use Rattle.rules.specs.Answers.{Answer, registered, done, snapped, oldestIs, lineIs, stamped, answerTold}
+use Rattle.rules.specs.Calls.{Call, after, answer}
 use Rattle.decide.specs.declared.change.Change.{Change}
 use Rattle.decide.specs.declared.begin.Begun.{Begun}
 use Rattle.decide.specs.declared.begin.Begun.the-variants.{Accepted as Begins, Refused as BeginRefused}
@@ -23,28 +23,28 @@ use Rattle.decide.specs.declared.stamp.Stamped.the-variants.{Accepted as
 use Rattle.decide.specs.Changes.{applied}
 
 abbrev pub paperBegun : Begun → Answer
-paperBegun (Begins slot txid) = values (slot .0) (txid .0) 0 0 0 []
+paperBegun (Begins slot txid) = registered (slot .0) (txid .0)
 paperBegun (BeginRefused r) = answerTold (told r)
 
 abbrev pub paperEnded : Ended → Answer
-paperEnded Ends = values 0 0 0 0 0 []
+paperEnded Ends = done
 paperEnded (EndRefused r) = answerTold (told r)
 
 -- the snapshot stands beside the answer, which lists its first count ids
 abbrev pub paperTaken : Taken → Snapshot → Answer
-paperTaken Takes s = values 0 0 (s .xmin) (s .xmax) 0 (take (s .count) (s .ids))
+paperTaken Takes s = snapped (s .xmin) (s .xmax) (take (s .count) (s .ids))
 paperTaken (TakeRefused r) s = answerTold (told r)
 
 abbrev pub paperOldest : Oldest → Answer
-paperOldest (Xmin xmin) = values 0 0 xmin 0 0 []
+paperOldest (Xmin xmin) = oldestIs xmin
 paperOldest (OldestRefused r) = answerTold (told r)
 
 abbrev pub paperVacuumed : Vacuumed → Answer
-paperVacuumed (Line line) = values 0 0 0 0 line []
+paperVacuumed (Line line) = lineIs line
 paperVacuumed (VacuumRefused r) = answerTold (told r)
 
 abbrev pub paperStamped : Stamped → Answer
-paperStamped (Stamps number) = values 0 (number .0) 0 0 0 []
+paperStamped (Stamps number) = stamped (number .0)
 paperStamped (StampRefused r) = answerTold (told r)
 
 -- a change and an answer are those that the rules give for this call on this table

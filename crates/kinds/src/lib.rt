@@ -2,7 +2,6 @@
 mod arith;
 mod refusal;
 
-pub use arith::TOP;
 pub use arith::greater;
 pub use arith::lesser;
 pub use arith::next_held;

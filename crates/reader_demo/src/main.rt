@@ -27,7 +27,7 @@ fn line(key: &[u8], n: u64) {
 fn record(r: Record) {
     let op = r.op;
     op_line(op);
-    line(b"slot=", r.slot);
+    line(b"slot=", r.slot as u64);
     line(b"id=", r.id);
     line(b"stamp=", r.stamp);
     line(b"clock=", r.clock);

@@ -6,7 +6,7 @@ use mathlib.Core.List.{List, [], _∷_, _++_}
 use lib.Dec.{leb}
 use lib.ListN.{length}
 use Rattle.kinds.specs.Refusals.{told}
-use Rattle.rules.specs.Calls.{Answer, answerTold}
+use Rattle.rules.specs.Answers.{Answer, answerTold}
 use Rattle.decide.specs.declared.snapshot.Taken.{Taken}
 use Rattle.decide.specs.declared.snapshot.Taken.the-variants.{Accepted, Refused}
 use Rattle.text.specs.declared.Put.{Put}

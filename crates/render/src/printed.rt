@@ -8,7 +8,7 @@ use decide::Vacuumed;
 use kinds::Refusal;
 ghost use mathlib.Core.Path.{_≡_};
 ghost use Rattle.kinds.specs.Refusals.{told};
-ghost use Rattle.rules.specs.Calls.{answerTold};
+ghost use Rattle.rules.specs.Answers.{answerTold};
 ghost use Rattle.decide.specs.Papers.{paperBegun, paperEnded, paperOldest, paperVacuumed, paperStamped};
 ghost use Rattle.render.specs.Output.{numbers, printedOf, printedTaken};
 

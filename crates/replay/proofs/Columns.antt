@@ -1,33 +1,15 @@
--- Facts that the loop over records needs of the numbers it reads and the places it writes.
-use Prim.Native.Nat.{ℕ, _≤_, _<_}
+-- What storing a change leaves of a column, and of a table.
+use Prim.Native.Nat.{ℕ}
 use mathlib.Core.Path.{_≡_, refl}
 use mathlib.Core.Bool.{Bool, true, false}
 use mathlib.Core.List.{List}
-use native.Mathlib.Omega.{arith}
 use lib.Dec.{ltb}
 use lib.ListN.{length, set, length-set}
 use Rattle.kinds.specs.Pick.{pick}
 use Rattle.rules.specs.declared.Table.{Table}
 use Rattle.decide.specs.declared.change.Change.{Change}
 use Rattle.decide.specs.Changes.{applied}
-use Rattle.trace.specs.declared.Record.{Record}
-use Rattle.trace.specs.declared.RecordAt.the-variants.{Is}
-use Rattle.trace.specs.Op.{readsOwner}
-use Rattle.trace.specs.Record.{mostSlot, limit, recordAt}
-use Rattle.trace.proofs.Records.{record-text}
 use Rattle.replay.specs.Records.{storedAt}
-
--- a slot number that was read is one that a slot number holds
-limit-at-most : (b : Bool) (n : ℕ) → limit b n ≤ n
-unfolding limit
-limit-at-most true n = omega arith
-limit-at-most false n = omega arith
-
-pub slot-small : (s : List ℕ) (at : ℕ) (r : Record) (e : ℕ) → recordAt s at ≡ Is r e → r .slot < 65536
-slot-small s at r e q =
-    let h = record-text s at r e q .expressible .slot in
-    let k = limit-at-most (readsOwner (r .op)) mostSlot in
-    omega arith
 
 -- a store leaves a column as long as it was
 pub stored-length : (n : ℕ) (l : List ℕ) (i x : ℕ) → length (storedAt n l i x) ≡ length l

@@ -11,7 +11,8 @@ use Rattle.settled.specs.Snapshots.{noSnapshot}
 use Rattle.rules.specs.declared.Table.{Table}
 use Rattle.rules.specs.Tally.{active, snapshotOf}
 use Rattle.rules.specs.Tests.{Verdict, pass, refuse, ownerTest, observationTest}
-use Rattle.rules.specs.Calls.{Call, Answer, after, answer}
+use Rattle.rules.specs.Answers.{Answer}
+use Rattle.rules.specs.Calls.{Call, after, answer}
 use Rattle.decide.specs.declared.change.Counters.{Counters}
 use Rattle.decide.specs.declared.change.Change.{Change}
 use Rattle.decide.specs.declared.begin.Begun.{Begun}

@@ -40,10 +40,6 @@ abbrev pub RanByBoth : ℕ → List ℕ → List ℕ → Counters → Call → L
 RanByBoth n txids xmins was c xs at ys o =
     (t : Table) → Lent n t txids was → t .«snapshot_xmins» ≡ xmins → Ran n t c xs at ys o
 
--- the call that a record names, whose slot number a text can express
-abbrev pub RecordRan : ℕ → List ℕ → List ℕ → Counters → Record → List ℕ → ℕ → List ℕ → Outcome → Type 0
-RecordRan n txids xmins was r xs at ys o = r .slot < 65536 → RanByBoth n txids xmins was (callOf r) xs at ys o
-
 -- a place of a column that is written where the column has it
 unfoldable pub storedAt : ℕ → List ℕ → ℕ → ℕ → List ℕ
 storedAt n l i x = pick (ltb i n) (set l i x) l

@@ -8,7 +8,8 @@ use text::Put;
 use trace::Op;
 use trace::Record;
 ghost use Rattle.rules.specs.Calls.{begin, end, snap, own, oldest, vacuum, stamp, finish};
-ghost use Rattle.replay.specs.Records.{RanBy, RanByBoth, RecordRan};
+ghost use Rattle.replay.specs.Replay.{callOf};
+ghost use Rattle.replay.specs.Records.{RanBy, RanByBoth};
 
 // Where the answer's text ends, or that it had no room; and what the call changes.
 pub struct Outcome {
@@ -163,7 +164,7 @@ fn run_own(
     Outcome { put, change }
 }
 
-// The call that a record names. A text has no slot number above 65,535.
+// The call that a record names.
 pub fn run_record<'a>(
     txids: &'a [u64],
     xmins: &'a [u64],
@@ -172,10 +173,10 @@ pub fn run_record<'a>(
     buf: &mut [u8],
     at: usize,
 ) -> Outcome
-    ensures { λ o. do ⌜ RecordRan (← ⟦kinds::SLOTS⟧ .entry) (now (txids .entry)) (now (xmins .entry)) was r (now (buf .entry)) at (now (buf .exit)) o ⌝ }
+    ensures { λ o. do ⌜ RanByBoth (← ⟦kinds::SLOTS⟧ .entry) (now (txids .entry)) (now (xmins .entry)) was (callOf r) (now (buf .entry)) at (now (buf .exit)) o ⌝ }
 {
     let op = r.op;
-    let slot = SlotNo((r.slot % 65536) as u16);
+    let slot = SlotNo(r.slot);
     let id = Txid(r.id);
     let number = Stamp(r.stamp);
     match op {

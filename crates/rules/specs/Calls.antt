@@ -1,17 +1,17 @@
 -- The eight calls on a table of n slots: when each is refused, the table after it, and what it answers.
 use Prim.Native.Nat.{ℕ, _+_, max}
-use mathlib.Core.List.{List, []}
 use Rattle.kinds.specs.declared.Stamp.{Stamp}
 use Rattle.kinds.specs.declared.SlotNo.{SlotNo}
 use Rattle.kinds.specs.declared.Txid.{Txid}
 use Rattle.kinds.specs.declared.refusal.Refusal.{Refusal}
 use Rattle.kinds.specs.declared.refusal.Refusal.the-variants.{NoFreeSlot, InvalidSlot, SlotOwnershipMismatch, ZeroTxid, ClockExhausted, BadReservation, BadClock, BadSample, BadTrace, BadSnapshot}
-use Rattle.kinds.specs.Refusals.{Told, told}
+use Rattle.kinds.specs.Refusals.{told}
 use Rattle.settled.specs.declared.Snapshot.{Snapshot}
 use Rattle.settled.specs.Snapshots.{noSnapshot}
 use Rattle.rules.specs.declared.Table.{Table}
 use Rattle.rules.specs.Tally.{active, lowestEmpty, xminOf, xmaxOf, snapshotOf, oldestOf}
 use Rattle.rules.specs.Tables.{withSlot, withXmin, withClock, observed, withLine}
+use Rattle.rules.specs.Answers.{Answer, registered, done, snapped, oldestIs, lineIs, stamped, answerTold}
 use Rattle.rules.specs.Tests.{Verdict, pass, refuse, then, ownerTest, reservationTest, fullTest, observationTest}
 
 -- a call with what the host hands in: a reserved number; a registration; a clock with a sample of it
@@ -72,42 +72,19 @@ afterBy (refuse r) t c = afterRefused t r
 unfoldable pub after : ℕ → Table → Call → Table
 after n t c = afterBy (refusal n t c) t c
 
--- this paper's number and values of an answer; what a call doesn't give is 0, and no id
-pub record Answer : Type 0 where
-  pub number : ℕ
-  pub slot : ℕ
-  pub id : ℕ
-  pub seen : ℕ
-  -- the line of text that a refusal names
-  pub at : ℕ
-  pub xmin : ℕ
-  pub xmax : ℕ
-  -- the line that a vacuum answers
-  pub line : ℕ
-  -- the ids listed in flight; their number is the count
-  pub ids : List ℕ
-
--- an accepted call's number is 0
-abbrev pub values : ℕ → ℕ → ℕ → ℕ → ℕ → List ℕ → Answer
-values slot id xmin xmax line ids =
-    record { number = 0; slot = slot; id = id; seen = 0; at = 0; xmin = xmin; xmax = xmax; line = line; ids = ids }
-
-abbrev pub answerTold : Told → Answer
-answerTold r =
-    record { number = r .number; slot = r .slot; id = r .id; seen = r .seen; at = r .at; xmin = 0; xmax = 0; line = 0; ids = [] }
-
+-- what an accepted call answers
 unfoldable pub answerAccepted : Table → Call → Answer
-answerAccepted t (begin number) = values (lowestEmpty (t .txids)) (number .0) 0 0 0 []
-answerAccepted t (end slot id) = values 0 0 0 0 0 []
+answerAccepted t (begin number) = registered (lowestEmpty (t .txids)) (number .0)
+answerAccepted t (end slot id) = done
 answerAccepted t (snap clock sample) =
-    values 0 0 (xminOf sample (active (t .txids))) (xmaxOf sample (active (t .txids))) 0 (active (t .txids))
+    snapped (xminOf sample (active (t .txids))) (xmaxOf sample (active (t .txids))) (active (t .txids))
 answerAccepted t (own slot id clock sample) =
-    values 0 0 (xminOf sample (active (t .txids))) (xmaxOf sample (active (t .txids))) 0 (active (t .txids))
-answerAccepted t (oldest clock sample) = values 0 0 (oldestOf (t .txids) (t .«snapshot_xmins») sample) 0 0 []
+    snapped (xminOf sample (active (t .txids))) (xmaxOf sample (active (t .txids))) (active (t .txids))
+answerAccepted t (oldest clock sample) = oldestIs (oldestOf (t .txids) (t .«snapshot_xmins») sample)
 answerAccepted t (vacuum clock sample) =
-    values 0 0 0 0 (max (t .line) (oldestOf (t .txids) (t .«snapshot_xmins») sample)) []
-answerAccepted t (stamp number) = values 0 (number .0) 0 0 0 []
-answerAccepted t (finish slot id number) = values 0 (number .0) 0 0 0 []
+    lineIs (max (t .line) (oldestOf (t .txids) (t .«snapshot_xmins») sample))
+answerAccepted t (stamp number) = stamped (number .0)
+answerAccepted t (finish slot id number) = stamped (number .0)
 
 abbrev pub answerBy : Verdict → Table → Call → Answer
 answerBy pass t c = answerAccepted t c

@@ -8,7 +8,8 @@ use Rattle.kinds.specs.declared.SlotNo.{SlotNo}
 use Rattle.kinds.specs.declared.Txid.{Txid}
 use Rattle.rules.specs.declared.Table.{Table}
 use Rattle.rules.specs.Tables.{freshTable}
-use Rattle.rules.specs.Calls.{Call, begin, end, snap, oldest, vacuum, Answer, values, after, answer}
+use Rattle.rules.specs.Answers.{Answer, registered, done, snapped, oldestIs, lineIs}
+use Rattle.rules.specs.Calls.{Call, begin, end, snap, oldest, vacuum, after, answer}
 
 -- what is seen of a call: its answer, and the clock and the line after it
 pub record Seen : Type 0 where
@@ -58,9 +59,6 @@ abbrev refused : ℕ → ℕ → ℕ → ℕ → Answer
 refused k slot id observed =
     record { number = k; slot = slot; id = id; seen = observed; at = 0; xmin = 0; xmax = 0; line = 0; ids = [] }
 
-abbrev snapped : ℕ → ℕ → List ℕ → Answer
-snapped xmin xmax ids = values 0 0 xmin xmax 0 ids
-
 -- three slots hold 9, 4, 7
 abbrev three : ℕ → Table
 three n = holding (9 ∷ 4 ∷ 7 ∷ replicate (n - 3) 0) 12
@@ -74,7 +72,7 @@ rows n any =
     ∷ record {
       start = freshTable n;
       calls = begin (number 5) ∷ snap 9 3 ∷ [];
-      sees = seen (values 0 5 0 0 0 []) 6 1 ∷ seen (snapped 3 6 (5 ∷ [])) 9 1 ∷ [];
+      sees = seen (registered 0 5) 6 1 ∷ seen (snapped 3 6 (5 ∷ [])) 9 1 ∷ [];
     }
     -- P3 slots 0 to 2 hold 9, 4, 7; clock 12, sample 2
     ∷ record { start = three n; calls = snap 12 2 ∷ []; sees = seen (snapped 2 10 (9 ∷ 4 ∷ 7 ∷ [])) 12 1 ∷ [] }
@@ -90,14 +88,14 @@ rows n any =
     ∷ record {
       start = freshTable n;
       calls = begin (number 18446744073709551614) ∷ [];
-      sees = seen (values 0 18446744073709551614 0 0 0 []) 18446744073709551615 1 ∷ [];
+      sees = seen (registered 0 18446744073709551614) 18446744073709551615 1 ∷ [];
     }
     -- P7 any begin then: 5
     ∷ record {
       start = freshTable n;
       calls = begin (number 18446744073709551614) ∷ begin any ∷ [];
       sees =
-          seen (values 0 18446744073709551614 0 0 0 []) 18446744073709551615 1
+          seen (registered 0 18446744073709551614) 18446744073709551615 1
           ∷ seen (refused 5 0 0 0) 18446744073709551615 1
           ∷ [];
     }
@@ -116,8 +114,8 @@ rows n any =
       start = freshTable n;
       calls = begin (number 5) ∷ end (slot 0) (txid 5) ∷ end (slot 0) (txid 5) ∷ [];
       sees =
-          seen (values 0 5 0 0 0 []) 6 1
-          ∷ seen (values 0 0 0 0 0 []) 6 1
+          seen (registered 0 5) 6 1
+          ∷ seen done 6 1
           ∷ seen (refused 3 0 5 0) 6 1
           ∷ [];
     }
@@ -126,9 +124,9 @@ rows n any =
       start = freshTable n;
       calls = vacuum 100 100 ∷ vacuum 100 50 ∷ oldest 100 50 ∷ [];
       sees =
-          seen (values 0 0 0 0 100 []) 100 100
-          ∷ seen (values 0 0 0 0 100 []) 100 100
-          ∷ seen (values 0 0 50 0 0 []) 100 100
+          seen (lineIs 100) 100 100
+          ∷ seen (lineIs 100) 100 100
+          ∷ seen (oldestIs 50) 100 100
           ∷ [];
     }
     ∷ []

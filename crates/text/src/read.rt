@@ -6,8 +6,6 @@ ghost use Rattle.text.specs.Decimal.{goesOn, numberAt};
 ghost use Rattle.text.specs.Bytes.{starts};
 ghost use Rattle.text.specs.Line.{fieldAt};
 
-const MOST: u64 = 18446744073709551615;
-
 fn wide(b: u8) -> u64
     ensures { λ r. ⌜ r ≡ b ⌝ }
 {
@@ -28,10 +26,10 @@ fn goes_on(n: u64, b: u8) -> bool
     if n == 0 {
         return false;
     }
-    if n < MOST / 10 {
+    if n < u64::MAX / 10 {
         return true;
     }
-    if MOST / 10 < n {
+    if u64::MAX / 10 < n {
         return false;
     }
     b <= b'5'

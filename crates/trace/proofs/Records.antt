@@ -5,11 +5,12 @@ use mathlib.Core.Path.{_≡_, refl, sym, ap, _∙_}
 use mathlib.Core.List.{List, [], _∷_, _++_, append-assoc}
 use mathlib.Core.Bool.{Bool, true, false}
 use lib.ListN.{length, take, drop, length-append, length-drop}
-use Rattle.text.specs.Line.{lineTexts, joined, Within, none, also, Lines, Read, Breaks, linesAt}
+use Rattle.text.specs.Line.{lineTexts, joined, Within, none, also, Lines, Read, Breaks, fieldAt, linesAt}
 use Rattle.text.proofs.Places.{rest-of, There, then}
-use Rattle.text.proofs.Lines.{lines-of, lines-text, Spelled, lines-open, Opening, lines-late}
+use Rattle.text.proofs.Lines.{field-text, Line, lines-of, lines-text, Spelled, lines-open, Opening, lines-late}
+use Rattle.text.specs.declared.Number.the-variants as number
 use Rattle.trace.specs.Op.{readsStamp, readsOwner, readsClock, opLine, opAt}
-use Rattle.trace.specs.Record.{most, limit, rules, Expressible, recordLines, recordText, recordOf, onOp, onLines, recordAt}
+use Rattle.trace.specs.Record.{most, mostSlot, limit, rules, Expressible, recordLines, recordText, recordOf, onOp, onLines, recordAt}
 use Rattle.trace.specs.declared.Op.{Op}
 use Rattle.trace.specs.declared.Op.the-variants.{Begin}
 use Rattle.trace.specs.declared.ops.OpAt.{OpAt}
@@ -26,6 +27,18 @@ limit-fits : (b : Bool) (n m : ℕ) → m < 2 ^ 64 → n ≤ limit b m → n < 2
 unfolding limit
 limit-fits true n m h g = omega arith
 limit-fits false n m h g = omega arith
+
+limit-at-most : (b : Bool) (m : ℕ) → limit b m ≤ m
+unfolding limit
+limit-at-most true m = omega arith
+limit-at-most false m = omega arith
+
+-- a slot number that was read is one of 16 bits
+pub slot-fits : (s : List ℕ) (at : ℕ) (key : List ℕ) (b : Bool) (n e : ℕ) → fieldAt s at key (limit b mostSlot) ≡ number.Is n e → n < 2 ^ 16
+slot-fits s at key b n e q =
+    let small = field-text s at key n (limit b mostSlot) e q .small in
+    let most-is = limit-at-most b mostSlot in
+    omega arith
 
 expressible-within : (r : Record) → Expressible r → Within (rules (r .op)) (numbersOf r)
 unfolding rules

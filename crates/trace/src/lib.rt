@@ -22,7 +22,7 @@ pub enum Op {
 // One call of a captured run. A field that the op doesn't read is 0.
 pub struct Record {
     pub op: Op,
-    pub slot: u64,
+    pub slot: u16,
     pub id: u64,
     pub stamp: u64,
     pub clock: u64,

@@ -7,8 +7,6 @@ ghost use mathlib.Core.Path.{_≡_};
 ghost use Rattle.text.specs.Line.{fieldAt};
 ghost use Rattle.trace.specs.Record.{limit, recordAt};
 
-const MOST: u64 = 18446744073709551615;
-
 const MOST_SLOT: u64 = 65535;
 
 // The largest number of a field: 0 where the op doesn't read it.
@@ -41,22 +39,22 @@ pub fn record_at(s: &[u8], at: usize) -> RecordAt
     let Number::Is(slot, b) = field_if(s, a, b"slot=", owner, MOST_SLOT) else {
         return RecordAt::Broken(2);
     };
-    let Number::Is(id, c) = field_if(s, b, b"id=", owner, MOST) else {
+    let Number::Is(id, c) = field_if(s, b, b"id=", owner, u64::MAX) else {
         return RecordAt::Broken(3);
     };
-    let Number::Is(stamp, d) = field_if(s, c, b"stamp=", stamped, MOST) else {
+    let Number::Is(stamp, d) = field_if(s, c, b"stamp=", stamped, u64::MAX) else {
         return RecordAt::Broken(4);
     };
-    let Number::Is(clock, e) = field_if(s, d, b"clock=", timed, MOST) else {
+    let Number::Is(clock, e) = field_if(s, d, b"clock=", timed, u64::MAX) else {
         return RecordAt::Broken(5);
     };
-    let Number::Is(sample, f) = field_if(s, e, b"sample=", timed, MOST) else {
+    let Number::Is(sample, f) = field_if(s, e, b"sample=", timed, u64::MAX) else {
         return RecordAt::Broken(6);
     };
     RecordAt::Is(
         Record {
             op,
-            slot,
+            slot: slot as u16,
             id,
             stamp,
             clock,

@@ -20,7 +20,8 @@ use Rattle.rules.specs.declared.Table.{Table}
 use Rattle.rules.specs.Tally.{oldestOf, snapshotOf}
 use Rattle.rules.specs.Tables.{freshTable, withSlot, withClock, withLine, observed}
 use Rattle.rules.specs.Tests.{pass, refuse}
-use Rattle.rules.specs.Calls.{Answer, values, answerTold, afterAccepted, answerAccepted}
+use Rattle.rules.specs.Answers.{Answer, registered, oldestIs, stamped, answerTold}
+use Rattle.rules.specs.Calls.{afterAccepted, answerAccepted}
 use Rattle.rules.specs.Accepted.{Reserves, Observes}
 use Rattle.rules.specs.History.{run}
 use Rattle.rules.specs.Reservations.{reservationsFrom}
@@ -55,7 +56,7 @@ module _ (n : ℕ) (t : Table) (history : List ℕ) (y : Sound n t) where
   pub any-slot-sample-one :
       (i k : ℕ) → Reserves (t .clock) k → i < n → getD (t .txids) i 0 ≡ 0 →
       BeginTransaction n (stateOf t history)
-      (stateOf (observed (k + 1) 1 (withSlot i k k (withClock (k + 1) t))) (push history k)) (values i k 0 0 0 [])
+      (stateOf (observed (k + 1) 1 (withSlot i k k (withClock (k + 1) t))) (push history k)) (registered i k)
   any-slot-sample-one i k f h e =
       record {
         l-begin-e1 =
@@ -91,7 +92,7 @@ module _ (n : ℕ) (t : Table) (history : List ℕ) (y : Sound n t) where
   pub always-oldest-one :
       (c : ℕ) → t .clock ≤ c →
       OldestSnapshotXmin n (stateOf t history) (stateOf (observed c 1 t) history)
-      (values 0 0 (oldestOf (t .txids) (t .«snapshot_xmins») 1) 0 0 [])
+      (oldestIs (oldestOf (t .txids) (t .«snapshot_xmins») 1))
   unfolding afterAccepted answerAccepted
   always-oldest-one c h = oldest-run n t history c 1 y pass (seen (one c h))
 
@@ -125,7 +126,7 @@ module _ (n : ℕ) (t : Table) (history : List ℕ) (y : Sound n t) where
   pub empties-all :
       (i : SlotNo) (id : Txid) (k : Stamp) → id .0 ≢ 0 → Reserves (t .clock) (k .0) →
       DeregisterThenReserve n (stateOf t history) (stateOf (observed (k .0 + 1) 1 (freshTable n)) (push history (k .0))) id
-      (values 0 (k .0) 0 0 0 [])
+      (stamped (k .0))
   unfolding freshTable run reservationsFrom
   empties-all i id k z f =
       record {

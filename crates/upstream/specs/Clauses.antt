@@ -2,7 +2,6 @@
 use Prim.Native.Nat.{ℕ, _+_, _<_, _≤_}
 use mathlib.Core.Path.{_≡_}
 use mathlib.Core.Logic.{_≢_}
-use mathlib.Core.List.{[]}
 use lib.Dec.{eqb, leb}
 use lib.ListN.{length, set}
 use Rattle.kinds.specs.Pick.{pick}
@@ -13,7 +12,7 @@ use Rattle.kinds.specs.declared.refusal.Refusal.the-variants.{InvalidSlot, Slot
 use Rattle.kinds.specs.Refusals.{told}
 use Rattle.settled.specs.declared.Snapshot.{Snapshot}
 use Rattle.rules.specs.Tests.{Verdict, pass, refuse}
-use Rattle.rules.specs.Calls.{Answer, values, answerTold}
+use Rattle.rules.specs.Answers.{Answer, done, answerTold}
 use Rattle.upstream.specs.States.{State, slot, at, push}
 use Rattle.upstream.specs.Tallies.{«minimum_retention»}
 use Rattle.upstream.specs.Relations.{Contains, HistoryOf, WellFormed, Coherent, Observation, Reservation}
@@ -61,7 +60,7 @@ pub record EndOk (n : ℕ) (old new : State) (given : SlotNo) (id : Txid) : Type
 abbrev pub endResult : ℕ → State → SlotNo → Txid → Answer
 endResult n old given id =
     pick (leb n (given .0)) (answerTold (told (InvalidSlot given)))
-    (pick (eqb (at (old .slots) (given .0) .txid) (id .0)) (values 0 0 0 0 0 [])
+    (pick (eqb (at (old .slots) (given .0) .txid) (id .0)) done
     (answerTold (told (SlotOwnershipMismatch given id (record { 0 = at (old .slots) (given .0) .txid })))))
 
 pub record EndTransaction (n : ℕ) (old new : State) (given : SlotNo) (id : Txid) (result : Answer) : Type 0 where

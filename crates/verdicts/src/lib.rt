@@ -3,7 +3,6 @@ use kinds::Refusal;
 use kinds::SLOTS;
 use kinds::SlotNo;
 use kinds::Stamp;
-use kinds::TOP;
 use kinds::Txid;
 ghost use mathlib.Core.Path.{_≡_};
 ghost use lib.ListN.{getD};
@@ -72,7 +71,7 @@ pub fn owner_test(txids: &[u64], slot: SlotNo, id: Txid) -> Judged
 pub fn reservation_test(clock: u64, number: Stamp) -> Judged
     ensures { λ r. ⌜ judged r ≡ reservationTest clock number ⌝ }
 {
-    if TOP <= clock {
+    if u64::MAX <= clock {
         return Judged::Refused(Refusal::ClockExhausted);
     }
     let n = number.0;
@@ -82,7 +81,7 @@ pub fn reservation_test(clock: u64, number: Stamp) -> Judged
     if n < clock {
         return Judged::Refused(Refusal::BadReservation);
     }
-    if TOP <= n {
+    if u64::MAX <= n {
         return Judged::Refused(Refusal::BadReservation);
     }
     Judged::Passed

@@ -1,11 +1,7 @@
-use native.Mathlib.Nat.{mod-eq-of-lt}
 use Rattle.replay.specs.Replay.{callOf}
 use borrow.Author.Needs.{needs}
 use Rattle.replay.proofs.record.run_record.Statement.{statement}
 use Rattle.replay.proofs.record.run_record.Tie as tie
-
-cast-t12 : tie.Need-cast-t12
-cast-t12 c = search needs
 
 enum-told : tie.Need-enum-told
 enum-told c = search needs
@@ -60,62 +56,61 @@ same-length c = search needs
 
 returns : tie.Need-returns
 unfolding callOf
-returns c = λ h t l x. rw (c .before .before .before .before .enum-told .given .1) (c .before .before .run-begin .ensures t l)
+returns c = λ t l x. rw (c .before .before .before .before .enum-told .given .1) (c .before .before .run-begin .ensures t l)
 
 same-length-2 : tie.Need-same-length-2
 same-length-2 c = search needs
 
 returns-2 : tie.Need-returns-2
 unfolding callOf
-returns-2 c = λ h t l x. rw (c .before .before .before .before .enum-told2 .given .1, ← mod-eq-of-lt h) (c .before .before .run-end .ensures t l)
+returns-2 c = λ t l x. rw (c .before .before .before .before .enum-told2 .given .1) (c .before .before .run-end .ensures t l)
 
 same-length-3 : tie.Need-same-length-3
 same-length-3 c = search needs
 
 returns-3 : tie.Need-returns-3
 unfolding callOf
-returns-3 c = λ h t l x. rw (c .before .before .before .before .enum-told3 .given .1) (c .before .before .run-snap .ensures t l)
+returns-3 c = λ t l x. rw (c .before .before .before .before .enum-told3 .given .1) (c .before .before .run-snap .ensures t l)
 
 same-length-4 : tie.Need-same-length-4
 same-length-4 c = search needs
 
 returns-4 : tie.Need-returns-4
 unfolding callOf
-returns-4 c = λ h t l x. rw (c .before .before .before .before .enum-told4 .given .1, ← mod-eq-of-lt h) (c .before .before .run-own .ensures t l)
+returns-4 c = λ t l x. rw (c .before .before .before .before .enum-told4 .given .1) (c .before .before .run-own .ensures t l)
 
 same-length-5 : tie.Need-same-length-5
 same-length-5 c = search needs
 
 returns-5 : tie.Need-returns-5
 unfolding callOf
-returns-5 c = λ h t l x. rw (c .before .before .before .before .enum-told5 .given .1) (c .before .before .run-oldest .ensures t l x)
+returns-5 c = λ t l x. rw (c .before .before .before .before .enum-told5 .given .1) (c .before .before .run-oldest .ensures t l x)
 
 same-length-6 : tie.Need-same-length-6
 same-length-6 c = search needs
 
 returns-6 : tie.Need-returns-6
 unfolding callOf
-returns-6 c = λ h t l x. rw (c .before .before .before .before .enum-told6 .given .1) (c .before .before .run-vacuum .ensures t l x)
+returns-6 c = λ t l x. rw (c .before .before .before .before .enum-told6 .given .1) (c .before .before .run-vacuum .ensures t l x)
 
 same-length-7 : tie.Need-same-length-7
 same-length-7 c = search needs
 
 returns-7 : tie.Need-returns-7
 unfolding callOf
-returns-7 c = λ h t l x. rw (c .before .before .before .before .enum-told7 .given .1) (c .before .before .run-stamp .ensures t l)
+returns-7 c = λ t l x. rw (c .before .before .before .before .enum-told7 .given .1) (c .before .before .run-stamp .ensures t l)
 
 same-length-8 : tie.Need-same-length-8
 same-length-8 c = search needs
 
 returns-8 : tie.Need-returns-8
 unfolding callOf
-returns-8 c = λ h t l x. rw (c .before .before .before .before .enum-told8 .given .1, ← mod-eq-of-lt h) (c .before .before .run-finish .ensures t l)
+returns-8 c = λ t l x. rw (c .before .before .before .before .enum-told8 .given .1) (c .before .before .run-finish .ensures t l)
 
 pub run-record-spec : {M : Type 1} → statement M
 run-record-spec =
     tie.close
     (tie.spec
-    cast-t12
     enum-told
     run-begin-requires
     enum-told-2

@@ -1,8 +1,10 @@
 -- `record_at` meets its contract.
+use native.Mathlib.Omega.{arith}
 use mathlib.Core.Path.{sym, _∙_}
 use borrow.Author.Needs.{needs}
 use Rattle.text.specs.Line.{linesAt}
 use Rattle.trace.specs.Record.{rules, recordAt}
+use Rattle.trace.proofs.Records.{slot-fits}
 use Rattle.trace.proofs.lines.record_at.Statement.{statement}
 use Rattle.trace.proofs.lines.record_at.Tie as tie
 
@@ -168,6 +170,14 @@ returns-6 c =
       sym (c .before .before .field-if5 .ensures) ∙ c .enum-told6 .given .1,
     )
 
+cast-t39 : tie.Need-cast-t39
+cast-t39 c =
+    let clock-read = c .before .before .before .before .before .before in
+    let stamp-read = clock-read .before .before .before .before .before in
+    let id-read = stamp-read .before .before .before .before .before in
+    let slot-read = id-read .before .before .before .before .before in
+    omega (arith, slot-fits _ _ _ _ _ _ (sym (slot-read .before .before .field-if .ensures) ∙ slot-read .slot .given .1))
+
 returns-7 : tie.Need-returns-7
 unfolding recordAt rules linesAt
 returns-7 c =
@@ -225,4 +235,5 @@ record-at-spec =
     enum-known-sample
     enum-told-6
     returns-6
+    cast-t39
     returns-7)
