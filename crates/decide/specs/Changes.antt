@@ -1,9 +1,9 @@
 -- Changes as numbers, and the table that one leaves.
 use Prim.Native.Nat.{ℕ}
+use mathlib.Core.Bool.{cond}
 use lib.Dec.{ltb}
 use lib.ListN.{set}
 use Rattle.kinds.specs.declared.Stamp.{Stamp}
-use Rattle.kinds.specs.Pick.{pick}
 use Rattle.kinds.specs.Kinds.{nextHeld}
 use Rattle.rules.specs.declared.Table.{Table}
 use Rattle.decide.specs.declared.change.Counters.{Counters}
@@ -27,8 +27,8 @@ observedFrom was clock sample = record { clock = clock; «sampled_clock» = samp
 unfoldable pub applied : ℕ → Table → Change → Table
 applied n t c =
     record {
-      txids = pick (ltb (c .at) n) (set (t .txids) (c .at) (c .txid)) (t .txids);
-      «snapshot_xmins» = pick (ltb (c .at) n) (set (t .«snapshot_xmins») (c .at) (c .«snapshot_xmin»)) (t .«snapshot_xmins»);
+      txids = cond (ltb (c .at) n) (set (t .txids) (c .at) (c .txid)) (t .txids);
+      «snapshot_xmins» = cond (ltb (c .at) n) (set (t .«snapshot_xmins») (c .at) (c .«snapshot_xmin»)) (t .«snapshot_xmins»);
       clock = c .counters .clock;
       «sampled_clock» = c .counters .«sampled_clock»;
       line = c .counters .line;

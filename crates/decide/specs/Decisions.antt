@@ -1,6 +1,7 @@
 -- What each call decides, on the columns and the counters of a table of n slots: the shape of the code, tied to the rules by proofs/.
 use Prim.Native.Nat.{ℕ, max}
 use mathlib.Core.List.{List}
+use mathlib.Core.Bool.{cond}
 use lib.Dec.{ltb}
 use lib.ListN.{take}
 use Rattle.kinds.specs.declared.Stamp.{Stamp}
@@ -8,7 +9,6 @@ use Rattle.kinds.specs.declared.SlotNo.{SlotNo}
 use Rattle.kinds.specs.declared.Txid.{Txid}
 use Rattle.kinds.specs.declared.refusal.Refusal.{Refusal}
 use Rattle.kinds.specs.declared.refusal.Refusal.the-variants.{NoFreeSlot}
-use Rattle.kinds.specs.Pick.{pick}
 use Rattle.kinds.specs.Kinds.{txidOf}
 use Rattle.settled.specs.Snapshots.{noSnapshot}
 use Rattle.rules.specs.Tally.{lowestEmpty, snapshotOf, oldestOf}
@@ -49,7 +49,7 @@ beginFull n was number =
 
 abbrev pub beginBy : Verdict → ℕ → List ℕ → Counters → Stamp → BeginDecision
 beginBy pass n txids was number =
-    pick (ltb (lowestEmpty txids) n) (beginFree (lowestEmpty txids) was number) (beginFull n was number)
+    cond (ltb (lowestEmpty txids) n) (beginFree (lowestEmpty txids) was number) (beginFull n was number)
 beginBy (refuse r) n txids was number = record { answer = BeginRefused r; change = unchangedFrom n was }
 
 unfoldable pub beginDecision : ℕ → List ℕ → Counters → Stamp → BeginDecision

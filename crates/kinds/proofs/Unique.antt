@@ -1,5 +1,6 @@
 -- A refusal is known by what it tells: no two tell the same number and values.
 use mathlib.Core.Path.{_≡_, refl, sym, ap, _∙_}
+use mathlib.Core.Bool.{cond}
 use native.Mathlib.Omega.{arith}
 use lib.Dec.{eqb}
 use Rattle.kinds.specs.declared.SlotNo.{SlotNo}
@@ -7,7 +8,6 @@ use Rattle.kinds.specs.declared.Txid.{Txid}
 use Rattle.kinds.specs.declared.Stamp.{Stamp}
 use Rattle.kinds.specs.declared.refusal.Refusal.{Refusal}
 use Rattle.kinds.specs.declared.refusal.Refusal.the-variants.{NoFreeSlot, InvalidSlot, SlotOwnershipMismatch, ZeroTxid, ClockExhausted, BadReservation, BadClock, BadSample, BadTrace, BadSnapshot}
-use Rattle.kinds.specs.Pick.{pick}
 use Rattle.kinds.specs.Refusals.{Told, told}
 
 -- a contract that says `result ≡ x` fits one result at most
@@ -27,15 +27,15 @@ same-stamp a b e = λ i. record { 0 = e i }
 -- the refusal that tells these values
 abbrev told-by : Told → Refusal
 told-by t =
-    pick (eqb (t .number) 1) (NoFreeSlot (record { 0 = t .id }))
-    (pick (eqb (t .number) 2) (InvalidSlot (record { 0 = t .slot }))
-    (pick (eqb (t .number) 3) (SlotOwnershipMismatch (record { 0 = t .slot }) (record { 0 = t .id }) (record { 0 = t .seen }))
-    (pick (eqb (t .number) 4) ZeroTxid
-    (pick (eqb (t .number) 5) ClockExhausted
-    (pick (eqb (t .number) 6) BadReservation
-    (pick (eqb (t .number) 7) BadClock
-    (pick (eqb (t .number) 8) BadSample
-    (pick (eqb (t .number) 9) (BadTrace (t .at)) BadSnapshot))))))))
+    cond (eqb (t .number) 1) (NoFreeSlot (record { 0 = t .id }))
+    (cond (eqb (t .number) 2) (InvalidSlot (record { 0 = t .slot }))
+    (cond (eqb (t .number) 3) (SlotOwnershipMismatch (record { 0 = t .slot }) (record { 0 = t .id }) (record { 0 = t .seen }))
+    (cond (eqb (t .number) 4) ZeroTxid
+    (cond (eqb (t .number) 5) ClockExhausted
+    (cond (eqb (t .number) 6) BadReservation
+    (cond (eqb (t .number) 7) BadClock
+    (cond (eqb (t .number) 8) BadSample
+    (cond (eqb (t .number) 9) (BadTrace (t .at)) BadSnapshot))))))))
 
 back : (r : Refusal) → told-by (told r) ≡ r
 unfolding told

@@ -1,3 +1,2 @@
-pub mod Pick
 pub mod Kinds
 pub mod Refusals

@@ -1,11 +1,10 @@
 -- What storing a change leaves of a column, and of a table.
 use Prim.Native.Nat.{ℕ}
 use mathlib.Core.Path.{_≡_, refl}
-use mathlib.Core.Bool.{Bool, true, false}
+use mathlib.Core.Bool.{Bool, true, false, cond}
 use mathlib.Core.List.{List}
 use lib.Dec.{ltb}
 use lib.ListN.{length, set, length-set}
-use Rattle.kinds.specs.Pick.{pick}
 use Rattle.rules.specs.declared.Table.{Table}
 use Rattle.decide.specs.declared.change.Change.{Change}
 use Rattle.decide.specs.Changes.{applied}
@@ -16,7 +15,7 @@ pub stored-length : (n : ℕ) (l : List ℕ) (i x : ℕ) → length (storedAt n 
 unfolding storedAt
 stored-length n l i x = go (ltb i n)
   where
-    go : (b : Bool) → length (pick b (set l i x) l) ≡ length l
+    go : (b : Bool) → length (cond b (set l i x) l) ≡ length l
     go true = length-set l i x
     go false = refl
 

@@ -5,7 +5,6 @@ use mathlib.Core.Bool.{cond}
 use mathlib.Core.List.{List}
 use lib.Dec.{ltb, leb}
 use lib.ListN.{length, set}
-use Rattle.kinds.specs.Pick.{pick}
 use Rattle.rules.specs.declared.Table.{Table}
 use Rattle.rules.specs.Calls.{Call, after, answer}
 use Rattle.decide.specs.declared.change.Counters.{Counters}
@@ -42,7 +41,7 @@ RanByBoth n txids xmins was c xs at ys o =
 
 -- a place of a column that is written where the column has it
 unfoldable pub storedAt : ℕ → List ℕ → ℕ → ℕ → List ℕ
-storedAt n l i x = pick (ltb i n) (set l i x) l
+storedAt n l i x = cond (ltb i n) (set l i x) l
 
 -- what a part of a run leaves: its text at the buffer's start, its table, and the place of the records left
 pub record PartFits (n : ℕ) (s : List ℕ) (from : ℕ) (t : Table) (xs ys : List ℕ) (r : Progress) : Type 0 where

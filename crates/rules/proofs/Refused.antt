@@ -1,7 +1,7 @@
 -- What a refused call leaves: the table as it was, or, where a begin met a full table, the clock past its number.
 use Prim.Native.Nat.{ℕ, _≤_}
 use mathlib.Core.Path.{_≡_, refl, sym, ap, _∙_}
-use mathlib.Core.Bool.{Bool, true, false, _||_, false≢true}
+use mathlib.Core.Bool.{Bool, true, false, cond, _||_, false≢true}
 use mathlib.Core.List.{List, []}
 use lib.Dec.{ltb, leb, eqb}
 use lib.ListN.{getD}
@@ -11,7 +11,6 @@ use Rattle.kinds.specs.declared.SlotNo.{SlotNo}
 use Rattle.kinds.specs.declared.Txid.{Txid}
 use Rattle.kinds.specs.declared.refusal.Refusal.{Refusal}
 use Rattle.kinds.specs.declared.refusal.Refusal.the-variants.{NoFreeSlot, InvalidSlot, SlotOwnershipMismatch, ZeroTxid, ClockExhausted, BadReservation, BadClock, BadSample, BadTrace, BadSnapshot}
-use Rattle.kinds.specs.Pick.{pick}
 use Rattle.kinds.specs.Kinds.{top, txidOf}
 use Rattle.kinds.specs.Refusals.{Told, told, accepted}
 use Rattle.kinds.proofs.Unique.{same-txid}
@@ -43,7 +42,7 @@ then-full : (v w : Verdict) → is-full v ≡ false → is-full w ≡ false → 
 then-full pass w p q = q
 then-full (refuse r) w p q = p
 
-pick-full : (b : Bool) (v w : Verdict) → is-full v ≡ false → is-full w ≡ false → is-full (pick b v w) ≡ false
+pick-full : (b : Bool) (v w : Verdict) → is-full v ≡ false → is-full w ≡ false → is-full (cond b v w) ≡ false
 pick-full true v w p q = p
 pick-full false v w p q = q
 
@@ -75,7 +74,7 @@ full-spends n t number x e =
     first (reservationTest (t .clock) number) refl (reservation-full (t .clock) number) e
   where
     second : reservationTest (t .clock) number ≡ pass → (b : Bool) → leb n (lowestEmpty (t .txids)) ≡ b →
-        pick b (refuse (NoFreeSlot (txidOf number))) pass ≡ refuse (NoFreeSlot x) → Refused n t (begin number) (NoFreeSlot x)
+        cond b (refuse (NoFreeSlot (txidOf number))) pass ≡ refuse (NoFreeSlot x) → Refused n t (begin number) (NoFreeSlot x)
     second p true q h =
         spends number refl (ap NoFreeSlot (same-txid x (txidOf number) (sym (ap (λ (v : Verdict). tells v .id) h))))
         (reserves (t .clock) number p) (leb-true n (lowestEmpty (t .txids)) q)

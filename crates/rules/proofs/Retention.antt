@@ -2,7 +2,7 @@
 use Prim.Native.Nat.{ℕ, _≤_, _<_}
 use mathlib.Core.Path.{_≡_, refl, sym, _∙_, ap}
 use mathlib.Core.Logic.{_≢_}
-use mathlib.Core.Bool.{Bool, true, false, _&&_}
+use mathlib.Core.Bool.{Bool, true, false, cond, _&&_}
 use mathlib.Core.List.{List, [], _∷_}
 use mathlib.Core.Option.{Option, none, some}
 use native.Mathlib.Decide.{decLt}
@@ -14,7 +14,6 @@ use Rattle.kinds.specs.declared.Stamp.{Stamp}
 use Rattle.kinds.specs.declared.SlotNo.{SlotNo}
 use Rattle.kinds.specs.declared.Txid.{Txid}
 use Rattle.kinds.specs.declared.refusal.Refusal.{Refusal}
-use Rattle.kinds.specs.Pick.{pick}
 use Rattle.kinds.proofs.Unique.{same-slot, same-txid}
 use Rattle.settled.specs.declared.Snapshot.{Snapshot}
 use Rattle.rules.specs.declared.Table.{Table}
@@ -143,7 +142,7 @@ keeps-begin n t slot id number last k = go (eqb entered (slot .0)) refl
     u : Table
     u = afterAccepted t (begin number)
 
-    go : (b : Bool) → eqb entered (slot .0) ≡ b → KeepsLast n u slot id (pick b none last)
+    go : (b : Bool) → eqb entered (slot .0) ≡ b → KeepsLast n u slot id (cond b none last)
     go true e = tt
     go false e =
         let d : slot .0 ≢ entered = λ z. eqb-false entered (slot .0) e (sym z) in
@@ -168,7 +167,7 @@ keeps-own n t slot slot′ id id′ clock sample last g b a o k =
     u = afterAccepted t c
 
     go : (p : Bool) → eqb (slot′ .0) (slot .0) ≡ p → (q : Bool) → eqb (id′ .0) (id .0) ≡ q →
-        KeepsLast n u slot id (pick (p && q) (some (shown n t c sample)) last)
+        KeepsLast n u slot id (cond (p && q) (some (shown n t c sample)) last)
     go true p true q =
         let e : slot ≡ slot′ = same-slot slot slot′ (sym (eqb-true (slot′ .0) (slot .0) p)) in
         let f : id ≡ id′ = same-txid id id′ (sym (eqb-true (id′ .0) (id .0) q)) in

@@ -2,7 +2,7 @@
 use Prim.Native.Nat.{ℕ, zero, suc, _+_, _-_, _≤_, _<_, min, max}
 use mathlib.Core.Path.{_≡_, refl, sym, _∙_}
 use mathlib.Core.Logic.{_≢_, _⊎_, inl, inr}
-use mathlib.Core.Bool.{Bool, true, false, false≢true}
+use mathlib.Core.Bool.{Bool, true, false, cond, false≢true}
 use mathlib.Core.List.{List, [], _∷_}
 use native.Mathlib.Nat.{le-refl, not-suc-le-zero, le-of-suc-le-suc, suc-inj, suc-ne-zero}
 use native.Mathlib.Numerals.{add-one}
@@ -11,7 +11,6 @@ use lib.Dec.{eqb}
 use lib.ListN.{length, getD, set, take, replicate}
 use lib.Seq.{take-append-seam}
 use borrow.Author.Tests.{eqb-true, eqb-false, eq-eqb, ne-eqb}
-use Rattle.kinds.specs.Pick.{pick}
 use Rattle.settled.specs.Settled.{listed}
 use Rattle.rules.specs.Tally.{unless, active, retained, lowestEmpty, minimum, maximum, places}
 use Rattle.rules.proofs.Bools.{or-true, true-or-left, true-or-right}
@@ -162,13 +161,13 @@ lowest-inside (x ∷ xs) = go (eqb x 0) refl (lowest-inside xs)
 
 -- how many slots are taken: at most all, one more or less where one slot changes
 abbrev pub takenOne : ℕ → ℕ
-takenOne txid = pick (eqb txid 0) 0 1
+takenOne txid = cond (eqb txid 0) 0 1
 
 active-cons : (x : ℕ) (xs : List ℕ) → length (active (x ∷ xs)) ≡ takenOne x + length (active xs)
 unfolding active
 active-cons x xs = go (eqb x 0)
   where
-    go : (b : Bool) → length (unless b x (active xs)) ≡ pick {A = ℕ} b 0 1 + length (active xs)
+    go : (b : Bool) → length (unless b x (active xs)) ≡ cond {A = ℕ} b 0 1 + length (active xs)
     go true = omega arith
     go false = omega arith
 

@@ -2,7 +2,7 @@
 use Prim.Native.Nat.{ℕ, _<_}
 use mathlib.Core.Path.{_≡_, refl, ap}
 use mathlib.Core.Logic.{_≢_, _↔_}
-use mathlib.Core.Bool.{Bool, true, false, _||_, true≢false}
+use mathlib.Core.Bool.{Bool, true, false, cond, _||_, true≢false}
 use native.Mathlib.Omega.{arith}
 use lib.Dec.{ltb, leb, eqb}
 use borrow.Author.Tests.{ltb-false, leb-false, eqb-true, eqb-false, le-ltb, lt-leb, eq-eqb, ne-eqb}
@@ -10,7 +10,6 @@ use Rattle.kinds.specs.declared.Stamp.{Stamp}
 use Rattle.kinds.specs.declared.SlotNo.{SlotNo}
 use Rattle.kinds.specs.declared.Txid.{Txid}
 use Rattle.kinds.specs.declared.refusal.Refusal.{Refusal}
-use Rattle.kinds.specs.Pick.{pick}
 use Rattle.kinds.specs.Kinds.{top}
 use Rattle.rules.specs.declared.Table.{Table}
 use Rattle.rules.specs.Tally.{lowestEmpty}
@@ -29,11 +28,11 @@ pub refuse-not-pass : (r : Refusal) → refuse r ≡ pass → ⊥
 unfolding is-refused
 refuse-not-pass r e = true≢false (ap is-refused e)
 
-refused-first : (b : Bool) (r : Refusal) (v : Verdict) → pick b (refuse r) v ≡ pass → (b ≡ false) × (v ≡ pass)
+refused-first : (b : Bool) (r : Refusal) (v : Verdict) → cond b (refuse r) v ≡ pass → (b ≡ false) × (v ≡ pass)
 refused-first true r v e = absurd (refuse-not-pass r e)
 refused-first false r v e = (refl, e)
 
-passed-first : (b : Bool) (r : Refusal) → pick b pass (refuse r) ≡ pass → b ≡ true
+passed-first : (b : Bool) (r : Refusal) → cond b pass (refuse r) ≡ pass → b ≡ true
 passed-first true r e = refl
 passed-first false r e = absurd (refuse-not-pass r e)
 

@@ -1,17 +1,16 @@
 -- The table check of document 01, call 12, computed.
 use Prim.Native.Nat.{ℕ}
 use mathlib.Core.List.{List, [], _∷_}
-use mathlib.Core.Bool.{Bool, true, false, _&&_, _||_, not}
+use mathlib.Core.Bool.{Bool, true, false, cond, _&&_, _||_, not}
 use lib.Dec.{ltb, leb, eqb}
 use lib.ListN.{length}
-use Rattle.kinds.specs.Pick.{pick}
 use Rattle.settled.specs.Settled.{listed}
 use Rattle.rules.specs.declared.Table.{Table}
 
 -- an empty slot has snapshot_xmin 0; a taken one has 1 ≤ snapshot_xmin ≤ txid < clock, and line ≤ txid
 abbrev pub slotPasses : ℕ → ℕ → ℕ → ℕ → Bool
 slotPasses clock line txid xmin =
-    pick (eqb txid 0) (eqb xmin 0) (leb 1 xmin && (leb xmin txid && (ltb txid clock && leb line txid)))
+    cond (eqb txid 0) (eqb xmin 0) (leb 1 xmin && (leb xmin txid && (ltb txid clock && leb line txid)))
 
 -- every slot passes, and both columns have the same number of slots
 unfoldable pub slotsPass : ℕ → ℕ → List ℕ → List ℕ → Bool

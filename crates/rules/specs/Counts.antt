@@ -1,9 +1,8 @@
 -- How many calls of a kind a history accepted, and how many slots are taken.
 use Prim.Native.Nat.{ℕ, _+_}
 use mathlib.Core.List.{List, [], _∷_}
-use mathlib.Core.Bool.{Bool, true, false}
+use mathlib.Core.Bool.{Bool, true, false, cond}
 use lib.ListN.{length}
-use Rattle.kinds.specs.Pick.{pick}
 use Rattle.rules.specs.declared.Table.{Table}
 use Rattle.rules.specs.Tally.{active}
 use Rattle.rules.specs.Tables.{freshTable}
@@ -42,7 +41,7 @@ isFinish (finish slot id number) = true
 
 -- 1 for an accepted call of the kind, 0 for any other
 abbrev pub counts : Verdict → Bool → ℕ
-counts pass kind = pick kind 1 0
+counts pass kind = cond kind 1 0
 counts (refuse r) kind = 0
 
 -- how many calls of the kind were accepted

@@ -4,12 +4,11 @@ use mathlib.Core.Path.{_≡_}
 use mathlib.Core.Logic.{_≢_}
 use mathlib.Core.List.{List, [], _∷_, _++_}
 use mathlib.Core.Option.{Option, none, some}
-use mathlib.Core.Bool.{_&&_}
+use mathlib.Core.Bool.{cond, _&&_}
 use lib.Dec.{eqb}
 use Rattle.kinds.specs.declared.Stamp.{Stamp}
 use Rattle.kinds.specs.declared.SlotNo.{SlotNo}
 use Rattle.kinds.specs.declared.Txid.{Txid}
-use Rattle.kinds.specs.Pick.{pick}
 use Rattle.settled.specs.declared.Snapshot.{Snapshot}
 use Rattle.rules.specs.declared.Table.{Table}
 use Rattle.rules.specs.Tally.{lowestEmpty}
@@ -57,11 +56,11 @@ pub record IsRegistered (n : ℕ) (t : Table) (slot : SlotNo) (id : Txid) (cs : 
 
 -- the last transaction snapshot of (slot, id), by walking the calls: the begin of a transaction in the slot forgets it ..
 abbrev pub forgotten : ℕ → SlotNo → Option Snapshot → Option Snapshot
-forgotten entered slot last = pick (eqb entered (slot .0)) none last
+forgotten entered slot last = cond (eqb entered (slot .0)) none last
 
 -- .. and an accepted transaction snapshot of (slot, id) takes its place
 abbrev pub replaced : SlotNo → Txid → SlotNo → Txid → Snapshot → Option Snapshot → Option Snapshot
-replaced slot id slot′ id′ s last = pick (eqb (slot′ .0) (slot .0) && eqb (id′ .0) (id .0)) (some s) last
+replaced slot id slot′ id′ s last = cond (eqb (slot′ .0) (slot .0) && eqb (id′ .0) (id .0)) (some s) last
 
 abbrev pub notedAccepted : ℕ → SlotNo → Txid → Table → Call → Option Snapshot → Option Snapshot
 notedAccepted n slot id t (begin number) last = forgotten (lowestEmpty (t .txids)) slot last

@@ -2,12 +2,11 @@
 use Prim.Native.Nat.{ℕ}
 use mathlib.Core.Path.{_≡_}
 use mathlib.Core.List.{List, [], _∷_}
-use mathlib.Core.Bool.{Bool, true, false, _&&_, _||_, not}
+use mathlib.Core.Bool.{Bool, true, false, cond, _&&_, _||_, not}
 use lib.Dec.{eqb, ltb}
 use lib.ListN.{take}
 use Rattle.kinds.specs.declared.Txid.{Txid}
 use Rattle.kinds.specs.declared.refusal.Refusal.the-variants.{ZeroTxid, BadSnapshot}
-use Rattle.kinds.specs.Pick.{pick}
 use Rattle.kinds.specs.Refusals.{Told, told, accepted}
 use Rattle.settled.specs.declared.Settled.{Settled}
 use Rattle.settled.specs.declared.Settled.the-variants.{Yes, No, Refused}
@@ -34,8 +33,8 @@ paper (Refused r) = record { tells = told r; settled = false }
 -- refusal 10 where the count is above the number of slots, then 4 where the id is 0, then the test
 unfoldable pub settledTest : ℕ → ℕ → List ℕ → ℕ → ℕ → SettledAnswer
 settledTest n xmax ids count x =
-    pick (ltb n count) (record { tells = told BadSnapshot; settled = false })
-    (pick (eqb x 0) (record { tells = told ZeroTxid; settled = false })
+    cond (ltb n count) (record { tells = told BadSnapshot; settled = false })
+    (cond (eqb x 0) (record { tells = told ZeroTxid; settled = false })
     (record { tells = accepted; settled = settledIn xmax ids count x }))
 
 -- what the test promises of its answer

@@ -1,11 +1,10 @@
 -- L.checked_slot: our slot test meets upstream's contract, and says which error it is.
 use Prim.Native.Nat.{ℕ}
 use mathlib.Core.Path.{_≡_, refl}
-use mathlib.Core.Bool.{Bool, true, false}
+use mathlib.Core.Bool.{Bool, true, false, cond}
 use native.Mathlib.Omega.{arith}
 use lib.Dec.{leb}
 use borrow.Author.Tests.{leb-true, leb-false}
-use Rattle.kinds.specs.Pick.{pick}
 use Rattle.kinds.specs.declared.SlotNo.{SlotNo}
 use Rattle.kinds.specs.declared.refusal.Refusal.{Refusal}
 use Rattle.kinds.specs.declared.refusal.Refusal.the-variants.{InvalidSlot}
@@ -24,7 +23,7 @@ same-refusal r s e = cc
 pub checked-slot-meets : (n : ℕ) (slot : SlotNo) → CheckedSlot n slot (slotTest n slot)
 checked-slot-meets n slot = go (leb n (slot .0)) refl
   where
-    go : (b : Bool) → leb n (slot .0) ≡ b → CheckedSlot n slot (pick b (refuse (InvalidSlot slot)) pass)
+    go : (b : Bool) → leb n (slot .0) ≡ b → CheckedSlot n slot (cond b (refuse (InvalidSlot slot)) pass)
     go true e =
         record {
           l-checked-slot-e1 = λ p. not-passed _ p;
@@ -40,6 +39,6 @@ checked-slot-meets n slot = go (leb n (slot .0)) refl
 pub checked-slot-kind : (n : ℕ) (slot : SlotNo) (r : Refusal) → slotTest n slot ≡ refuse r → r ≡ InvalidSlot slot
 checked-slot-kind n slot r e = go (leb n (slot .0)) e
   where
-    go : (b : Bool) → pick b (refuse (InvalidSlot slot)) pass ≡ refuse r → r ≡ InvalidSlot slot
+    go : (b : Bool) → cond b (refuse (InvalidSlot slot)) pass ≡ refuse r → r ≡ InvalidSlot slot
     go true p = same-refusal r (InvalidSlot slot) p
     go false p = not-refused r p

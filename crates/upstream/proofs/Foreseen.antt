@@ -1,12 +1,11 @@
 -- What upstream required of a call, and what its trait promised of numbers, clocks and samples, keeps refusals 4 to 8 away.
 use Prim.Native.Nat.{ℕ, _<_}
 use mathlib.Core.Path.{_≡_}
-use mathlib.Core.Bool.{Bool, true, false}
+use mathlib.Core.Bool.{Bool, true, false, cond}
 use native.Mathlib.Omega.{arith}
 use lib.Dec.{eqb, leb}
 use lib.ListN.{getD}
 use borrow.Author.Tests.{ne-eqb}
-use Rattle.kinds.specs.Pick.{pick}
 use Rattle.kinds.specs.Kinds.{txidOf}
 use Rattle.kinds.specs.declared.Stamp.{Stamp}
 use Rattle.kinds.specs.declared.SlotNo.{SlotNo}
@@ -37,7 +36,7 @@ module _ (n : ℕ) (t : Table) where
   full-foreseen : (k : Stamp) → Foreseen (fullTest n (t .txids) k)
   full-foreseen k = go (leb n (lowestEmpty (t .txids)))
     where
-      go : (b : Bool) → Foreseen (pick b (refuse (NoFreeSlot (txidOf k))) pass)
+      go : (b : Bool) → Foreseen (cond b (refuse (NoFreeSlot (txidOf k))) pass)
       go true = tt
       go false = tt
 
@@ -48,7 +47,7 @@ module _ (n : ℕ) (t : Table) where
     where
       go :
           (a b : Bool) →
-          Foreseen (then (then (pick a (refuse (InvalidSlot i)) pass) (pick b pass (mismatch (t .txids) i id))) v)
+          Foreseen (then (then (cond a (refuse (InvalidSlot i)) pass) (cond b pass (mismatch (t .txids) i id))) v)
       go true b = tt
       go false true = f
       go false false = tt
@@ -86,7 +85,7 @@ module _ (n : ℕ) (t : Table) where
       rw (positive-passes id h) (go (leb n (i .0)) (eqb (getD (t .txids) (i .0) 0) (id .0)))
     where
       go :
-          (a b : Bool) → Foreseen (then (pick a (refuse (InvalidSlot i)) pass) (pick b pass (mismatch (t .txids) i id)))
+          (a b : Bool) → Foreseen (then (cond a (refuse (InvalidSlot i)) pass) (cond b pass (mismatch (t .txids) i id)))
       go true b = tt
       go false true = tt
       go false false = tt

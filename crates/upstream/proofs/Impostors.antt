@@ -2,14 +2,13 @@
 use Prim.Native.Nat.{ℕ, _+_, _<_, _≤_}
 use mathlib.Core.Path.{_≡_, refl, sym, ap, _∙_}
 use mathlib.Core.Logic.{_≢_}
-use mathlib.Core.Bool.{Bool, true, false}
+use mathlib.Core.Bool.{Bool, true, false, cond}
 use mathlib.Core.List.{List, []}
 use native.Mathlib.Nat.{le-refl, suc-ne-zero}
 use native.Mathlib.Omega.{arith}
 use lib.Dec.{leb}
 use lib.ListN.{getD, replicate}
 use borrow.Author.Tests.{leb-true, leb-false}
-use Rattle.kinds.specs.Pick.{pick}
 use Rattle.kinds.specs.declared.Stamp.{Stamp}
 use Rattle.kinds.specs.declared.SlotNo.{SlotNo}
 use Rattle.kinds.specs.declared.Txid.{Txid}
@@ -44,10 +43,10 @@ abbrev none-free : ℕ → Answer
 none-free id = answerTold (told (NoFreeSlot (record { 0 = id })))
 
 -- checked_slot: a slot outside is answered by any error x
-pub wrong-kind : (n : ℕ) (slot : SlotNo) (x : Refusal) → CheckedSlot n slot (pick (leb n (slot .0)) (refuse x) pass)
+pub wrong-kind : (n : ℕ) (slot : SlotNo) (x : Refusal) → CheckedSlot n slot (cond (leb n (slot .0)) (refuse x) pass)
 wrong-kind n slot x = go (leb n (slot .0)) refl
   where
-    go : (b : Bool) → leb n (slot .0) ≡ b → CheckedSlot n slot (pick b (refuse x) pass)
+    go : (b : Bool) → leb n (slot .0) ≡ b → CheckedSlot n slot (cond b (refuse x) pass)
     go true e = record { l-checked-slot-e1 = λ p. not-passed _ p; l-checked-slot-e2 = λ r p. leb-true n (slot .0) e }
     go false e = record { l-checked-slot-e1 = λ p. leb-false n (slot .0) e; l-checked-slot-e2 = λ r p. not-refused r p }
 

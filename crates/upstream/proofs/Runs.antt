@@ -2,7 +2,7 @@
 use Prim.Native.Nat.{ℕ, _<_, _≤_}
 use mathlib.Core.Path.{_≡_, refl, sym, subst}
 use mathlib.Core.Logic.{_≢_}
-use mathlib.Core.Bool.{Bool, true, false, _||_}
+use mathlib.Core.Bool.{Bool, true, false, cond, _||_}
 use mathlib.Core.List.{List}
 use lib.Dec.{eqb, ltb, leb}
 use lib.ListN.{getD}
@@ -11,7 +11,6 @@ use Rattle.kinds.specs.declared.Stamp.{Stamp}
 use Rattle.kinds.specs.declared.SlotNo.{SlotNo}
 use Rattle.kinds.specs.declared.Txid.{Txid}
 use Rattle.kinds.specs.declared.refusal.Refusal.the-variants.{NoFreeSlot, InvalidSlot, SlotOwnershipMismatch, ZeroTxid, ClockExhausted, BadReservation, BadClock, BadSample}
-use Rattle.kinds.specs.Pick.{pick}
 use Rattle.kinds.specs.Kinds.{top, txidOf}
 use Rattle.rules.specs.Tally.{lowestEmpty}
 use Rattle.rules.specs.Tests.{Verdict, pass, refuse, then, ownerTest, reservationTest, fullTest, observationTest}
@@ -27,8 +26,8 @@ reserves-pass clock k f =
     (e, reserves clock k e)
   where
     go :
-        (a b : Bool) → Foreseen (pick a (refuse ClockExhausted) (pick b (refuse BadReservation) pass)) →
-        pick a (refuse ClockExhausted) (pick b (refuse BadReservation) pass) ≡ pass
+        (a b : Bool) → Foreseen (cond a (refuse ClockExhausted) (cond b (refuse BadReservation) pass)) →
+        cond a (refuse ClockExhausted) (cond b (refuse BadReservation) pass) ≡ pass
     go true b f = absurd f
     go false true f = absurd f
     go false false f = refl
@@ -54,7 +53,7 @@ pub beginning :
 beginning n txids clock k f = go (reservationTest clock k) (reserving clock k) f
   where
     room : Reserves clock (k .0) → (b : Bool) → leb n (lowestEmpty txids) ≡ b →
-        Beginning n txids clock k (pick b (refuse (NoFreeSlot (txidOf k))) pass)
+        Beginning n txids clock k (cond b (refuse (NoFreeSlot (txidOf k))) pass)
     room r true e = full r (leb-true n (lowestEmpty txids) e)
     room r false e = entered r (leb-false n (lowestEmpty txids) e)
 
@@ -90,7 +89,7 @@ module _ (n : ℕ) (txids : List ℕ) (slot : SlotNo) (id : Txid) where
     where
       order : Bool → Bool → Bool → Verdict
       order a b c =
-          then (pick a (refuse (InvalidSlot slot)) pass) (then (pick b (refuse ZeroTxid) pass) (pick c pass (mismatch txids slot id)))
+          then (cond a (refuse (InvalidSlot slot)) pass) (then (cond b (refuse ZeroTxid) pass) (cond c pass (mismatch txids slot id)))
 
       go :
           (a : Bool) → leb n (slot .0) ≡ a → (b : Bool) → eqb (id .0) 0 ≡ b → (c : Bool) →
@@ -118,8 +117,8 @@ observes-pass former clock sample f =
     (e, observes former clock sample e)
   where
     go :
-        (a b : Bool) → Foreseen (pick a (refuse BadClock) (pick b (refuse BadSample) pass)) →
-        pick a (refuse BadClock) (pick b (refuse BadSample) pass) ≡ pass
+        (a b : Bool) → Foreseen (cond a (refuse BadClock) (cond b (refuse BadSample) pass)) →
+        cond a (refuse BadClock) (cond b (refuse BadSample) pass) ≡ pass
     go true b f = absurd f
     go false true f = absurd f
     go false false f = refl

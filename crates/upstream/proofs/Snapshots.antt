@@ -2,7 +2,7 @@
 use Prim.Native.Nat.{ℕ, suc, _+_, _-_, _<_, _≤_, min, max}
 use mathlib.Core.Path.{_≡_, refl, sym, ap, _∙_}
 use mathlib.Core.Logic.{_≢_}
-use mathlib.Core.Bool.{Bool, true, false}
+use mathlib.Core.Bool.{Bool, true, false, cond}
 use mathlib.Core.List.{List, [], _∷_}
 use native.Mathlib.Nat.{suc-ne-zero, le-refl}
 use native.Mathlib.Decide.{ℕ-discrete}
@@ -10,7 +10,6 @@ use native.Mathlib.Omega.{arith}
 use lib.Dec.{ltb}
 use lib.ListN.{length, getD, set, take, length-set}
 use borrow.Author.Tests.{ltb-true, ltb-false, ne-eqb}
-use Rattle.kinds.specs.Pick.{pick}
 use Rattle.kinds.specs.Kinds.{top}
 use Rattle.kinds.specs.declared.SlotNo.{SlotNo}
 use Rattle.kinds.specs.declared.Txid.{Txid}
@@ -33,23 +32,23 @@ use Rattle.upstream.proofs.Runs.{Observing, seen, observing, observes-p
 use Rattle.upstream.proofs.Moves.{with-history, slotsOf, txid-at, well-observed, well-marked}
 
 -- our held xmax is upstream's, which holds nothing, where the largest txid is below 2^64 − 1
-larger : (a m : ℕ) → a ≤ top → max m (min a top) ≡ pick (ltb a m) m a
+larger : (a m : ℕ) → a ≤ top → max m (min a top) ≡ cond (ltb a m) m a
 larger a m h = go (ltb a m) refl
   where
-    go : (b : Bool) → ltb a m ≡ b → max m (min a top) ≡ pick b m a
+    go : (b : Bool) → ltb a m ≡ b → max m (min a top) ≡ cond b m a
     go true e = let g = ltb-true a m e in omega arith
     go false e = let g = ltb-false a m e in omega arith
 
-alone : (m : ℕ) → 0 < m → m ≡ pick (ltb (0 + 1) m) m (0 + 1)
+alone : (m : ℕ) → 0 < m → m ≡ cond (ltb (0 + 1) m) m (0 + 1)
 alone m h = go (ltb (0 + 1) m) refl
   where
-    go : (b : Bool) → ltb (0 + 1) m ≡ b → m ≡ pick b m (0 + 1)
+    go : (b : Bool) → ltb (0 + 1) m ≡ b → m ≡ cond b m (0 + 1)
     go true e = refl
     go false e = let g = ltb-false (0 + 1) m e in omega arith
 
 pub xmax-same :
     (l : List ℕ) (m : ℕ) → 0 < m → maximum 0 l + 1 ≤ top →
-    xmaxOf m l ≡ pick (ltb (maximum 0 l + 1) m) m (maximum 0 l + 1)
+    xmaxOf m l ≡ cond (ltb (maximum 0 l + 1) m) m (maximum 0 l + 1)
 unfolding maximum
 xmax-same [] m h b = alone m h
 xmax-same (x ∷ l) m h b =

@@ -1,30 +1,29 @@
 -- Upstream's tallies, which read the slots from the last one back, are ours, which read them from the first one on. Over any number of slots.
 use Prim.Native.Nat.{ℕ, zero, suc, min, max}
 use mathlib.Core.Path.{_≡_, refl, ap, _∙_}
-use mathlib.Core.Bool.{Bool, true, false}
+use mathlib.Core.Bool.{Bool, true, false, cond}
 use mathlib.Core.List.{List, [], _∷_}
 use native.Mathlib.Nat.{suc-ne-zero, suc-inj}
 use native.Mathlib.Omega.{arith}
 use lib.Dec.{eqb, ltb}
 use lib.ListN.{length}
 use borrow.Author.Tests.{ltb-true, ltb-false, eqb-true}
-use Rattle.kinds.specs.Pick.{pick}
 use Rattle.rules.specs.Tally.{unless, active as ours, retained, minimum, maximum}
 use Rattle.upstream.specs.States.{Slot, slot, at, pairs}
 use Rattle.upstream.specs.Tallies.{pushed, lowered, raised, active, «minimum_active», «maximum_active», «minimum_retention»}
 
 -- the conditionals are min and max
-lower-min : (x m : ℕ) → pick (ltb x m) x m ≡ min m x
+lower-min : (x m : ℕ) → cond (ltb x m) x m ≡ min m x
 lower-min x m = go (ltb x m) refl
   where
-    go : (b : Bool) → ltb x m ≡ b → pick b x m ≡ min m x
+    go : (b : Bool) → ltb x m ≡ b → cond b x m ≡ min m x
     go true e = let h = ltb-true x m e in omega arith
     go false e = let h = ltb-false x m e in omega arith
 
 raise-max : (x m : ℕ) → raised x m ≡ max x m
 raise-max x m = go (ltb m x) refl
   where
-    go : (b : Bool) → ltb m x ≡ b → pick b x m ≡ max x m
+    go : (b : Bool) → ltb m x ≡ b → cond b x m ≡ max x m
     go true e = let h = ltb-true m x e in omega arith
     go false e = let h = ltb-false m x e in omega arith
 

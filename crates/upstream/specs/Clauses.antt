@@ -2,9 +2,9 @@
 use Prim.Native.Nat.{ℕ, _+_, _<_, _≤_}
 use mathlib.Core.Path.{_≡_}
 use mathlib.Core.Logic.{_≢_}
+use mathlib.Core.Bool.{cond}
 use lib.Dec.{eqb, leb}
 use lib.ListN.{length, set}
-use Rattle.kinds.specs.Pick.{pick}
 use Rattle.kinds.specs.declared.SlotNo.{SlotNo}
 use Rattle.kinds.specs.declared.Txid.{Txid}
 use Rattle.kinds.specs.declared.refusal.Refusal.{Refusal}
@@ -59,8 +59,8 @@ pub record EndOk (n : ℕ) (old new : State) (given : SlotNo) (id : Txid) : Type
 -- L:229-235
 abbrev pub endResult : ℕ → State → SlotNo → Txid → Answer
 endResult n old given id =
-    pick (leb n (given .0)) (answerTold (told (InvalidSlot given)))
-    (pick (eqb (at (old .slots) (given .0) .txid) (id .0)) done
+    cond (leb n (given .0)) (answerTold (told (InvalidSlot given)))
+    (cond (eqb (at (old .slots) (given .0) .txid) (id .0)) done
     (answerTold (told (SlotOwnershipMismatch given id (record { 0 = at (old .slots) (given .0) .txid })))))
 
 pub record EndTransaction (n : ℕ) (old new : State) (given : SlotNo) (id : Txid) (result : Answer) : Type 0 where

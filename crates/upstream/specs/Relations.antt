@@ -3,9 +3,9 @@ use Prim.Native.Nat.{ℕ, _+_, _<_, _≤_}
 use mathlib.Core.Path.{_≡_}
 use mathlib.Core.Logic.{_≢_}
 use mathlib.Core.List.{List}
+use mathlib.Core.Bool.{cond}
 use lib.Dec.{ltb}
 use lib.ListN.{length, getD, take}
-use Rattle.kinds.specs.Pick.{pick}
 use Rattle.kinds.specs.Kinds.{top}
 use Rattle.settled.specs.declared.Snapshot.{Snapshot}
 use Rattle.rules.specs.declared.Table.{Table}
@@ -54,7 +54,7 @@ pub record Coherent (s : State) (snapshot : Snapshot) : Type 0 where
   pub in-flight-len : snapshot .count ≡ length (take (snapshot .count) (snapshot .ids))
   pub xmax :
       snapshot .xmax
-      ≡ pick (ltb («maximum_active» (s .slots) (length (s .slots)) + 1) (s .«sampled_clock»)) (s .«sampled_clock»)
+      ≡ cond (ltb («maximum_active» (s .slots) (length (s .slots)) + 1) (s .«sampled_clock»)) (s .«sampled_clock»)
       («maximum_active» (s .slots) (length (s .slots)) + 1)
   pub xmin : snapshot .xmin ≡ «minimum_active» (s .slots) (length (s .slots)) (s .«sampled_clock»)
 

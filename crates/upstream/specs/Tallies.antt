@@ -1,9 +1,8 @@
 -- Upstream's tallies (L:55-87), by recursion on the number of slots read, as upstream defines them.
 use Prim.Native.Nat.{ℕ, zero, suc}
 use mathlib.Core.List.{List, []}
-use mathlib.Core.Bool.{Bool, true, false}
+use mathlib.Core.Bool.{Bool, true, false, cond}
 use lib.Dec.{eqb, ltb}
-use Rattle.kinds.specs.Pick.{pick}
 use Rattle.upstream.specs.States.{Slot, at, push}
 
 -- x pushed, unless the slot is empty
@@ -14,7 +13,7 @@ pushed false x ids = push ids x
 -- x where it is below m, unless the slot is empty
 abbrev pub lowered : Bool → ℕ → ℕ → ℕ
 lowered true x m = m
-lowered false x m = pick (ltb x m) x m
+lowered false x m = cond (ltb x m) x m
 
 unfoldable pub active : List Slot → ℕ → List ℕ
 active slots zero = []
@@ -27,7 +26,7 @@ unfoldable pub «minimum_active» : List Slot → ℕ → ℕ → ℕ
 
 -- x where it is above m
 abbrev pub raised : ℕ → ℕ → ℕ
-raised x m = pick (ltb m x) x m
+raised x m = cond (ltb m x) x m
 
 unfoldable pub «maximum_active» : List Slot → ℕ → ℕ
 «maximum_active» slots zero = 0
