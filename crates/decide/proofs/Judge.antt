@@ -8,8 +8,10 @@ use Rattle.kinds.specs.declared.Stamp.{Stamp}
 use Rattle.kinds.specs.declared.SlotNo.{SlotNo}
 use Rattle.kinds.specs.declared.Txid.{Txid}
 use Rattle.kinds.specs.declared.refusal.Refusal.{Refusal}
+use Rattle.kinds.specs.declared.refusal.Verdict.{Verdict}
+use Rattle.kinds.specs.declared.refusal.Verdict.the-variants.{Pass, Refuse}
 use Rattle.rules.specs.Tally.{lowestEmpty}
-use Rattle.rules.specs.Tests.{Verdict, pass, refuse, ownerTest, reservationTest, observationTest}
+use Rattle.rules.specs.Tests.{ownerTest, reservationTest, observationTest}
 use Rattle.verdicts.specs.declared.Judged.{Judged}
 use Rattle.verdicts.specs.declared.Judged.the-variants.{Passed}
 use Rattle.verdicts.specs.Judged.{judged}
@@ -87,7 +89,7 @@ module _ (n : ℕ) (txids : List ℕ) (was : Counters) where
     module _ (xmins : List ℕ) {d : OldestDecision} (e : d ≡ oldestDecision n txids xmins was clock sample) where
       pub vacuum-refused :
           {r : Refusal} → d .answer ≡ OldestRefused r →
-          vacuumBy (refuse r) n txids xmins was clock sample ≡ vacuumDecision n txids xmins was clock sample
+          vacuumBy (Refuse r) n txids xmins was clock sample ≡ vacuumDecision n txids xmins was clock sample
       unfolding oldestDecision vacuumDecision
       vacuum-refused {r} q = go (observationTest (was .clock) clock sample) (sym (ap answerOf e) ∙ q)
         where
@@ -96,9 +98,9 @@ module _ (n : ℕ) (txids : List ℕ) (was : Counters) where
 
           go :
               (v : Verdict) → oldestBy v n txids xmins was clock sample .answer ≡ OldestRefused r →
-              vacuumBy (refuse r) n txids xmins was clock sample ≡ vacuumBy v n txids xmins was clock sample
-          go pass h = let z : _≡_ {A = ℕ} 0 1 = cc in absurd (omega arith)
-          go (refuse s) h = cc
+              vacuumBy (Refuse r) n txids xmins was clock sample ≡ vacuumBy v n txids xmins was clock sample
+          go Pass h = let z : _≡_ {A = ℕ} 0 1 = cc in absurd (omega arith)
+          go (Refuse s) h = cc
 
       pub vacuum-lined :
           {x : ℕ} → d .answer ≡ Xmin x →
@@ -116,5 +118,5 @@ module _ (n : ℕ) (txids : List ℕ) (was : Counters) where
               _≡_ {A = VacuumDecision}
               (record { answer = Line (max (was .line) x); change = unchangedFrom n (linedFrom (max (was .line) x) clock sample) })
               (vacuumBy v n txids xmins was clock sample)
-          go pass h = cc
-          go (refuse s) h = let z : _≡_ {A = ℕ} 0 1 = cc in absurd (omega arith)
+          go Pass h = cc
+          go (Refuse s) h = let z : _≡_ {A = ℕ} 0 1 = cc in absurd (omega arith)

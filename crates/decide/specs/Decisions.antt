@@ -10,9 +10,11 @@ use Rattle.kinds.specs.declared.Txid.{Txid}
 use Rattle.kinds.specs.declared.refusal.Refusal.{Refusal}
 use Rattle.kinds.specs.declared.refusal.Refusal.the-variants.{NoFreeSlot}
 use Rattle.kinds.specs.Kinds.{txidOf}
+use Rattle.kinds.specs.declared.refusal.Verdict.{Verdict}
+use Rattle.kinds.specs.declared.refusal.Verdict.the-variants.{Pass, Refuse}
 use Rattle.settled.specs.Snapshots.{noSnapshot}
 use Rattle.rules.specs.Tally.{lowestEmpty, snapshotOf, oldestOf}
-use Rattle.rules.specs.Tests.{Verdict, pass, refuse, ownerTest, reservationTest, observationTest}
+use Rattle.rules.specs.Tests.{ownerTest, reservationTest, observationTest}
 use Rattle.decide.specs.declared.change.Counters.{Counters}
 use Rattle.decide.specs.declared.change.Change.{Change}
 use Rattle.decide.specs.declared.begin.BeginDecision.{BeginDecision}
@@ -48,16 +50,16 @@ beginFull n was number =
     }
 
 abbrev pub beginBy : Verdict → ℕ → List ℕ → Counters → Stamp → BeginDecision
-beginBy pass n txids was number =
+beginBy Pass n txids was number =
     cond (ltb (lowestEmpty txids) n) (beginFree (lowestEmpty txids) was number) (beginFull n was number)
-beginBy (refuse r) n txids was number = record { answer = BeginRefused r; change = unchangedFrom n was }
+beginBy (Refuse r) n txids was number = record { answer = BeginRefused r; change = unchangedFrom n was }
 
 unfoldable pub beginDecision : ℕ → List ℕ → Counters → Stamp → BeginDecision
 beginDecision n txids was number = beginBy (reservationTest (was .clock) number) n txids was number
 
 abbrev pub endBy : Verdict → ℕ → Counters → SlotNo → EndDecision
-endBy pass n was slot = record { answer = Ends; change = slotChange (slot .0) 0 0 was }
-endBy (refuse r) n was slot = record { answer = EndRefused r; change = unchangedFrom n was }
+endBy Pass n was slot = record { answer = Ends; change = slotChange (slot .0) 0 0 was }
+endBy (Refuse r) n was slot = record { answer = EndRefused r; change = unchangedFrom n was }
 
 unfoldable pub endDecision : ℕ → List ℕ → Counters → SlotNo → Txid → EndDecision
 endDecision n txids was slot id = endBy (ownerTest n txids slot id) n was slot
@@ -68,35 +70,35 @@ snapshotRefused n was r =
 
 -- no more than n slots are read
 abbrev pub snapBy : Verdict → ℕ → List ℕ → Counters → ℕ → ℕ → SnapshotDecision
-snapBy pass n txids was clock sample =
+snapBy Pass n txids was clock sample =
     record {
       answer = Takes;
       snapshot = snapshotOf n (take n txids) sample;
       change = unchangedFrom n (observedFrom was clock sample);
     }
-snapBy (refuse r) n txids was clock sample = snapshotRefused n was r
+snapBy (Refuse r) n txids was clock sample = snapshotRefused n was r
 
 unfoldable pub snapDecision : ℕ → List ℕ → Counters → ℕ → ℕ → SnapshotDecision
 snapDecision n txids was clock sample = snapBy (observationTest (was .clock) clock sample) n txids was clock sample
 
 abbrev pub ownBy : Verdict → Verdict → ℕ → List ℕ → Counters → SlotNo → Txid → ℕ → ℕ → SnapshotDecision
-ownBy pass pass n txids was slot id clock sample =
+ownBy Pass Pass n txids was slot id clock sample =
     record {
       answer = Takes;
       snapshot = snapshotOf n (take n txids) sample;
       change = slotChange (slot .0) (id .0) (snapshotOf n (take n txids) sample .xmin) (observedFrom was clock sample);
     }
-ownBy pass (refuse r) n txids was slot id clock sample = snapshotRefused n was r
-ownBy (refuse r) v n txids was slot id clock sample = snapshotRefused n was r
+ownBy Pass (Refuse r) n txids was slot id clock sample = snapshotRefused n was r
+ownBy (Refuse r) v n txids was slot id clock sample = snapshotRefused n was r
 
 unfoldable pub ownDecision : ℕ → List ℕ → Counters → SlotNo → Txid → ℕ → ℕ → SnapshotDecision
 ownDecision n txids was slot id clock sample =
     ownBy (ownerTest n txids slot id) (observationTest (was .clock) clock sample) n txids was slot id clock sample
 
 abbrev pub oldestBy : Verdict → ℕ → List ℕ → List ℕ → Counters → ℕ → ℕ → OldestDecision
-oldestBy pass n txids xmins was clock sample =
+oldestBy Pass n txids xmins was clock sample =
     record { answer = Xmin (oldestOf txids xmins sample); change = unchangedFrom n (observedFrom was clock sample) }
-oldestBy (refuse r) n txids xmins was clock sample = record { answer = OldestRefused r; change = unchangedFrom n was }
+oldestBy (Refuse r) n txids xmins was clock sample = record { answer = OldestRefused r; change = unchangedFrom n was }
 
 unfoldable pub oldestDecision : ℕ → List ℕ → List ℕ → Counters → ℕ → ℕ → OldestDecision
 oldestDecision n txids xmins was clock sample =
@@ -107,12 +109,12 @@ abbrev pub linedFrom : ℕ → ℕ → ℕ → Counters
 linedFrom line clock sample = record { clock = clock; «sampled_clock» = sample; line = line }
 
 abbrev pub vacuumBy : Verdict → ℕ → List ℕ → List ℕ → Counters → ℕ → ℕ → VacuumDecision
-vacuumBy pass n txids xmins was clock sample =
+vacuumBy Pass n txids xmins was clock sample =
     record {
       answer = Line (max (was .line) (oldestOf txids xmins sample));
       change = unchangedFrom n (linedFrom (max (was .line) (oldestOf txids xmins sample)) clock sample);
     }
-vacuumBy (refuse r) n txids xmins was clock sample = record { answer = VacuumRefused r; change = unchangedFrom n was }
+vacuumBy (Refuse r) n txids xmins was clock sample = record { answer = VacuumRefused r; change = unchangedFrom n was }
 
 unfoldable pub vacuumDecision : ℕ → List ℕ → List ℕ → Counters → ℕ → ℕ → VacuumDecision
 vacuumDecision n txids xmins was clock sample =
@@ -122,17 +124,17 @@ unfoldable pub stampRefused : ℕ → Counters → Refusal → StampDecision
 stampRefused n was r = record { answer = StampRefused r; change = unchangedFrom n was }
 
 abbrev pub stampBy : Verdict → ℕ → Counters → Stamp → StampDecision
-stampBy pass n was number = record { answer = Stamps number; change = unchangedFrom n (reservedFrom was number) }
-stampBy (refuse r) n was number = stampRefused n was r
+stampBy Pass n was number = record { answer = Stamps number; change = unchangedFrom n (reservedFrom was number) }
+stampBy (Refuse r) n was number = stampRefused n was r
 
 unfoldable pub stampDecision : ℕ → Counters → Stamp → StampDecision
 stampDecision n was number = stampBy (reservationTest (was .clock) number) n was number
 
 abbrev pub finishBy : Verdict → Verdict → ℕ → Counters → SlotNo → Stamp → StampDecision
-finishBy pass pass n was slot number =
+finishBy Pass Pass n was slot number =
     record { answer = Stamps number; change = slotChange (slot .0) 0 0 (reservedFrom was number) }
-finishBy pass (refuse r) n was slot number = stampRefused n was r
-finishBy (refuse r) v n was slot number = stampRefused n was r
+finishBy Pass (Refuse r) n was slot number = stampRefused n was r
+finishBy (Refuse r) v n was slot number = stampRefused n was r
 
 unfoldable pub finishDecision : ℕ → List ℕ → Counters → SlotNo → Txid → Stamp → StampDecision
 finishDecision n txids was slot id number =

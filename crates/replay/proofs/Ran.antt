@@ -6,11 +6,13 @@ use lib.ListN.{length, take, replicate}
 use lib.Seq.{take-append-seam}
 use Rattle.kinds.specs.declared.SlotNo.{SlotNo}
 use Rattle.kinds.specs.declared.Txid.{Txid}
+use Rattle.kinds.specs.declared.refusal.Verdict.{Verdict}
+use Rattle.kinds.specs.declared.refusal.Verdict.the-variants.{Pass, Refuse}
 use Rattle.settled.specs.declared.Snapshot.{Snapshot}
 use Rattle.settled.specs.Snapshots.{noSnapshot}
 use Rattle.rules.specs.declared.Table.{Table}
 use Rattle.rules.specs.Tally.{active, snapshotOf}
-use Rattle.rules.specs.Tests.{Verdict, pass, refuse, ownerTest, observationTest}
+use Rattle.rules.specs.Tests.{ownerTest, observationTest}
 use Rattle.rules.specs.Answers.{Answer}
 use Rattle.rules.specs.Calls.{Call, after, answer}
 use Rattle.decide.specs.declared.change.Counters.{Counters}
@@ -116,14 +118,14 @@ module _ (n : ℕ) (txids : List ℕ) (was : Counters) (clock sample : ℕ) wher
   snap-lists e = rw e (go (observationTest (was .clock) clock sample))
     where
       go : (v : Verdict) → Lists (snapBy v n txids was clock sample)
-      go pass = record { ids = refl; count = first-active }
-      go (refuse r) = record { ids = refl; count = refl }
+      go Pass = record { ids = refl; count = first-active }
+      go (Refuse r) = record { ids = refl; count = refl }
 
   pub own-lists : (slot : SlotNo) (id : Txid) {d : SnapshotDecision} → d ≡ ownDecision n txids was slot id clock sample → Lists d
   unfolding ownDecision snapshotRefused snapshotOf noSnapshot
   own-lists slot id e = rw e (go (ownerTest n txids slot id) (observationTest (was .clock) clock sample))
     where
       go : (v w : Verdict) → Lists (ownBy v w n txids was slot id clock sample)
-      go pass pass = record { ids = refl; count = first-active }
-      go pass (refuse r) = record { ids = refl; count = refl }
-      go (refuse r) w = record { ids = refl; count = refl }
+      go Pass Pass = record { ids = refl; count = first-active }
+      go Pass (Refuse r) = record { ids = refl; count = refl }
+      go (Refuse r) w = record { ids = refl; count = refl }

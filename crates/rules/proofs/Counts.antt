@@ -6,10 +6,10 @@ use native.Mathlib.Omega.{arith}
 use lib.ListN.{length, set}
 use Rattle.kinds.specs.declared.SlotNo.{SlotNo}
 use Rattle.kinds.specs.declared.Txid.{Txid}
+use Rattle.kinds.specs.declared.refusal.Verdict.the-variants.{Pass}
 use Rattle.rules.specs.declared.Table.{Table}
 use Rattle.rules.specs.Tally.{active, lowestEmpty}
 use Rattle.rules.specs.Tables.{freshTable, txidAt}
-use Rattle.rules.specs.Tests.{pass}
 use Rattle.rules.specs.Calls.{Call, begin, end, snap, own, oldest, vacuum, stamp, finish, refusal, afterAccepted, after}
 use Rattle.rules.specs.Accepted.{Owns, Reserves, Acceptable}
 use Rattle.rules.specs.Facts.{Good}
@@ -44,7 +44,7 @@ one-more n t number g r f =
 
 count-accepted :
     (n : ℕ) (t : Table) (c : Call) → Good n t → Acceptable n t c →
-    takenSlots (afterAccepted t c) + (counts pass (isEnd c) + counts pass (isFinish c)) ≡ takenSlots t + counts pass (isBegin c)
+    takenSlots (afterAccepted t c) + (counts Pass (isEnd c) + counts Pass (isFinish c)) ≡ takenSlots t + counts Pass (isBegin c)
 unfolding afterAccepted
 count-accepted n t (begin number) g (r, f) = omega (arith, one-more n t (number .0) g r f)
 count-accepted n t (end slot id) g o = omega (arith, one-less n t slot id g o)

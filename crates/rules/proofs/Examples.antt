@@ -9,12 +9,13 @@ use Rattle.kinds.specs.declared.Stamp.{Stamp}
 use Rattle.kinds.specs.declared.SlotNo.{SlotNo}
 use Rattle.kinds.specs.declared.Txid.{Txid}
 use Rattle.kinds.specs.declared.refusal.Refusal.the-variants.{NoFreeSlot, BadReservation}
+use Rattle.kinds.specs.declared.refusal.Verdict.the-variants.{Refuse}
 use Rattle.settled.specs.declared.Snapshot.{Snapshot}
 use Rattle.settled.specs.Settled.{listed, settledIn}
+use Rattle.kinds.specs.Refusals.{consumed}
 use Rattle.rules.specs.Tally.{active, retained, lowestEmpty, minimum, maximum, snapshotOf}
 use Rattle.rules.specs.Tables.{freshTable}
-use Rattle.rules.specs.Tests.{refuse}
-use Rattle.rules.specs.Calls.{Call, begin, end, snap, own, vacuum, stamp, finish, refusal, afterAccepted, afterRefused, after, answerAccepted, answer, shown}
+use Rattle.rules.specs.Calls.{Call, begin, end, snap, own, vacuum, stamp, finish, refusal, afterAccepted, spent, afterRefused, after, answerAccepted, answer, shownAccepted, shown}
 use Rattle.rules.specs.Check.{slotsPass, differ, passes, tablePasses}
 use Rattle.rules.specs.History.{run, reached, Accepts, Registered, lastFrom, lastOwn}
 use Rattle.rules.specs.Reservations.{reservationsFrom, reservations}
@@ -46,8 +47,8 @@ plainSnapshot = snapshot 50 50 (0 ∷ 0 ∷ []) 0
 pub plain-snapshot :
     (lineAfter 2 emptyAt100 ≡ 100)
     × Accepts 2 (reached 2 emptyAt100) (snap 100 50)
-    × (shown 2 (reached 2 emptyAt100) (snap 100 50) 50 ≡ plainSnapshot)
-unfolding freshTable run active retained minimum maximum refusal afterAccepted after snapshotOf shown
+    × (shown 2 (reached 2 emptyAt100) (snap 100 50) ≡ plainSnapshot)
+unfolding freshTable run active retained minimum maximum refusal afterAccepted after snapshotOf shownAccepted shown
 plain-snapshot = (refl, refl, refl)
 
 pub plain-not-covered : SettledBelow (lineAfter 2 emptyAt100) plainSnapshot → ⊥
@@ -72,7 +73,7 @@ pub replaced-snapshot :
     (lastOwn 2 (slot 1) (txid 2) untilFirst ≡ some firstSnapshot)
     × (lastOwn 2 (slot 1) (txid 2) untilSecond ≡ some secondSnapshot)
     × (lineAfter 2 untilSecond ≡ 2)
-unfolding freshTable run active retained lowestEmpty minimum maximum refusal afterAccepted after snapshotOf shown lastFrom
+unfolding freshTable run active retained lowestEmpty minimum maximum refusal afterAccepted after snapshotOf shownAccepted shown lastFrom
 replaced-snapshot = (refl, refl, refl)
 
 pub replaced-not-covered : SettledBelow (lineAfter 2 untilSecond) firstSnapshot → ⊥
@@ -99,14 +100,14 @@ untilStale = vacuum 100 100 ∷ begin (number 100) ∷ []
 pub stale-snapshot :
     (lineAfter 2 untilStale ≡ 100)
     × Accepts 2 (reached 2 untilStale) (own (slot 0) (txid 100) 101 50)
-    × (shown 2 (reached 2 untilStale) (own (slot 0) (txid 100) 101 50) 50 ≡ snapshot 50 101 (100 ∷ 0 ∷ []) 1)
+    × (shown 2 (reached 2 untilStale) (own (slot 0) (txid 100) 101 50) ≡ snapshot 50 101 (100 ∷ 0 ∷ []) 1)
     × (lineAfter 2 (untilStale ++ own (slot 0) (txid 100) 101 50 ∷ vacuum 101 50 ∷ []) ≡ 100)
-unfolding freshTable run active retained lowestEmpty minimum maximum refusal afterAccepted after snapshotOf shown
+unfolding freshTable run active retained lowestEmpty minimum maximum refusal afterAccepted after snapshotOf shownAccepted shown
 stale-snapshot = (refl, refl, refl, refl)
 
 pub stale-covered :
     Covered 2 (untilStale ++ own (slot 0) (txid 100) 101 50 ∷ [])
-    (shown 2 (reached 2 untilStale) (own (slot 0) (txid 100) 101 50) 50)
+    (shown 2 (reached 2 untilStale) (own (slot 0) (txid 100) 101 50))
 stale-covered = own-covered 2 untilStale (slot 0) (txid 100) 101 50 (stale-snapshot .1)
 
 -- A full table: refusal 1 consumes its number, and later numbers are above it
@@ -120,19 +121,19 @@ fullRefused = full ++ begin (number 3) ∷ []
 pub full-table :
     (tablePasses 2 (reached 2 full) ≡ true)
     × (takenSlots (reached 2 full) ≡ 2)
-    × (refusal 2 (reached 2 full) (begin (number 3)) ≡ refuse (NoFreeSlot (txid 3)))
+    × (refusal 2 (reached 2 full) (begin (number 3)) ≡ Refuse (NoFreeSlot (txid 3)))
     × (reached 2 fullRefused .clock ≡ 4)
     × (reservations 2 fullRefused ≡ 1 ∷ 2 ∷ 3 ∷ [])
-unfolding freshTable run active lowestEmpty refusal afterAccepted afterRefused after slotsPass differ listed passes reservationsFrom
+unfolding freshTable run active lowestEmpty refusal consumed afterAccepted spent afterRefused after slotsPass differ listed passes reservationsFrom
 full-table = (refl, refl, refl, refl, refl)
 
 pub full-next :
-    (refusal 2 (reached 2 fullRefused) (finish (slot 1) (txid 2) (number 3)) ≡ refuse BadReservation)
+    (refusal 2 (reached 2 fullRefused) (finish (slot 1) (txid 2) (number 3)) ≡ Refuse BadReservation)
     × Accepts 2 (reached 2 fullRefused) (finish (slot 1) (txid 2) (number 4))
     × Accepts 2 (reached 2 fullRefused) (stamp (number 4))
     × Accepts 2 (reached 2 (fullRefused ++ end (slot 0) (txid 1) ∷ [])) (begin (number 4))
     × (listed 3 (reservations 2 fullRefused) ≡ true)
-unfolding freshTable run active lowestEmpty refusal afterAccepted afterRefused after listed reservationsFrom
+unfolding freshTable run active lowestEmpty refusal consumed afterAccepted spent afterRefused after listed reservationsFrom
 full-next = (refl, refl, refl, refl, refl)
 
 -- Ends and finishes on a table that passes the check, and what the counts say of them

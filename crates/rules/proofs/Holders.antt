@@ -11,16 +11,18 @@ use borrow.Author.Tests.{eqb-true, eqb-false, eq-eqb}
 use Rattle.kinds.specs.declared.Stamp.{Stamp}
 use Rattle.kinds.specs.declared.SlotNo.{SlotNo}
 use Rattle.kinds.specs.declared.Txid.{Txid}
+use Rattle.kinds.specs.declared.refusal.Verdict.{Verdict}
+use Rattle.kinds.specs.declared.refusal.Verdict.the-variants.{Pass}
+use Rattle.kinds.proofs.Verdicts.{refuse-not-pass}
 use Rattle.rules.specs.declared.Table.{Table}
 use Rattle.rules.specs.Tally.{lowestEmpty}
 use Rattle.rules.specs.Tables.{txidAt}
-use Rattle.rules.specs.Tests.{Verdict, pass}
 use Rattle.rules.specs.Calls.{Call, begin, end, snap, own, oldest, vacuum, stamp, finish, refusal, afterAccepted, after}
 use Rattle.rules.specs.Accepted.{Owns, Acceptable}
 use Rattle.rules.specs.History.{Registered}
 use Rattle.rules.proofs.Places.{Stored, new-here, as-before, stored, inside-of-ne}
 use Rattle.rules.proofs.Tallies.{lowest-empty}
-use Rattle.rules.proofs.Tests.{accepted-acceptable, refuse-not-pass}
+use Rattle.rules.proofs.Tests.{accepted-acceptable}
 use Rattle.rules.proofs.Refused.{refused-txids, by-verdict}
 
 -- the call is an end or a finish of (slot, id)
@@ -39,23 +41,23 @@ same-of slot id = rw (eq-eqb (slot .0) (slot .0) refl, eq-eqb (id .0) (id .0) re
 
 -- who is registered after a call was so before it, and the call did not end it; or the call is its begin
 pub data Was (t : Table) (slot : SlotNo) (id : Txid) (c : Call) (v : Verdict) : Type 0 where
-  before-it : Registered t slot id → (v ≡ pass → is-end-of slot id c ≡ false) → Was t slot id c v
+  before-it : Registered t slot id → (v ≡ Pass → is-end-of slot id c ≡ false) → Was t slot id c v
   begun-by-it :
-      (number : Stamp) → c ≡ begin number → v ≡ pass → lowestEmpty (t .txids) ≡ slot .0 → number .0 ≡ id .0 →
+      (number : Stamp) → c ≡ begin number → v ≡ Pass → lowestEmpty (t .txids) ≡ slot .0 → number .0 ≡ id .0 →
       Was t slot id c v
 
 -- a slot that still holds an id after slot i was emptied is another one
 not-emptied :
     (t : Table) (slot slot′ : SlotNo) (id id′ : Txid) (c : Call) → id .0 ≢ 0 →
     is-end-of slot id c ≡ eqb (slot′ .0) (slot .0) && eqb (id′ .0) (id .0) →
-    getD (set (t .txids) (slot′ .0) 0) (slot .0) 0 ≡ id .0 → Was t slot id c pass
+    getD (set (t .txids) (slot′ .0) 0) (slot .0) 0 ≡ id .0 → Was t slot id c Pass
 not-emptied t slot slot′ id id′ c z s e = go (stored (t .txids) (slot′ .0) 0 (slot .0))
   where
     other : (slot′ .0 ≡ slot .0 → ⊥) → (b : Bool) → eqb (slot′ .0) (slot .0) ≡ b → is-end-of slot id c ≡ false
     other d true p = absurd (d (eqb-true (slot′ .0) (slot .0) p))
     other d false p = s ∙ rw p
 
-    go : Stored (t .txids) (slot′ .0) 0 (slot .0) → Was t slot id c pass
+    go : Stored (t .txids) (slot′ .0) 0 (slot .0) → Was t slot id c Pass
     go (new-here p l q) = absurd (z (sym e ∙ q))
     go (as-before d q) =
         let holds : txidAt t (slot .0) ≡ id .0 = sym q ∙ e in
@@ -63,11 +65,11 @@ not-emptied t slot slot′ id id′ c z s e = go (stored (t .txids) (slot′ .0)
         before-it (record { named = z; holds = holds })
         (λ p. other (λ w. d (rw w inside) (sym w)) (eqb (slot′ .0) (slot .0)) refl)
 
-was-accepted : (t : Table) (slot : SlotNo) (id : Txid) (c : Call) → Registered (afterAccepted t c) slot id → Was t slot id c pass
+was-accepted : (t : Table) (slot : SlotNo) (id : Txid) (c : Call) → Registered (afterAccepted t c) slot id → Was t slot id c Pass
 unfolding afterAccepted
 was-accepted t slot id (begin number) r = go (stored (t .txids) (lowestEmpty (t .txids)) (number .0) (slot .0))
   where
-    go : Stored (t .txids) (lowestEmpty (t .txids)) (number .0) (slot .0) → Was t slot id (begin number) pass
+    go : Stored (t .txids) (lowestEmpty (t .txids)) (number .0) (slot .0) → Was t slot id (begin number) Pass
     go (new-here p l q) = begun-by-it number refl refl (sym p) (sym q ∙ r .holds)
     go (as-before d q) = before-it (record { named = r .named; holds = sym q ∙ r .holds }) (λ p. refl)
 was-accepted t slot id (end slot′ id′) r = not-emptied t slot slot′ id id′ (end slot′ id′) (r .named) refl (r .holds)
@@ -116,12 +118,12 @@ stays-accepted n t slot id (finish slot′ id′ number) r (o, v) e = unmoved-sl
 
 pub stays-after :
     (n : ℕ) (t : Table) (slot : SlotNo) (id : Txid) (c : Call) → Registered t slot id →
-    (refusal n t c ≡ pass → is-end-of slot id c ≡ false) → Registered (after n t c) slot id
+    (refusal n t c ≡ Pass → is-end-of slot id c ≡ false) → Registered (after n t c) slot id
 stays-after n t slot id c r f =
     record {
       named = r .named;
       holds =
-          by-verdict n t c (λ v u. (v ≡ pass → is-end-of slot id c ≡ false) → txidAt u (slot .0) ≡ id .0)
+          by-verdict n t c (λ v u. (v ≡ Pass → is-end-of slot id c ≡ false) → txidAt u (slot .0) ≡ id .0)
           (λ e h. stays-accepted n t slot id c r (accepted-acceptable n t c e) (h refl))
           (λ x g h. ap (λ (l : List ℕ). getD l (slot .0) 0) (refused-txids n t c x g) ∙ r .holds) f;
     }

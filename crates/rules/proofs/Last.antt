@@ -7,9 +7,9 @@ use mathlib.Core.List.{List, [], _∷_, _++_, append-nil, nil≢cons, head-eq-of
 use mathlib.Core.Option.{Option, none, some, Option·none-ne-some, Option·some-injective}
 use Rattle.kinds.specs.declared.SlotNo.{SlotNo}
 use Rattle.kinds.specs.declared.Txid.{Txid}
+use Rattle.kinds.specs.declared.refusal.Verdict.the-variants.{Pass}
 use Rattle.settled.specs.declared.Snapshot.{Snapshot}
 use Rattle.rules.specs.declared.Table.{Table}
-use Rattle.rules.specs.Tests.{pass}
 use Rattle.rules.specs.Calls.{Call, own, refusal, after, shown}
 use Rattle.rules.specs.History.{run, Accepts, Registered, notedBy, lastFrom, Quiet, IsLast}
 use Rattle.rules.proofs.Noted.{is-own-of, own-is-own, Noted, now-taken, now-forgotten, not-moved, noted}
@@ -29,7 +29,7 @@ pub last-own :
     (n : ℕ) (slot : SlotNo) (id : Txid) (t : Table) (clock sample : ℕ) (last : Option Snapshot) →
     Accepts n t (own slot id clock sample) →
     notedBy (refusal n t (own slot id clock sample)) n slot id t (own slot id clock sample) last
-    ≡ some (shown n t (own slot id clock sample) sample)
+    ≡ some (shown n t (own slot id clock sample))
 last-own n slot id t clock sample last e = rw (e, own-is-own slot id clock sample)
 
 quiet-tail :
@@ -92,7 +92,7 @@ quiet-nil n t slot id r = record { alive = alive; no-other = λ p q clock sample
 
 quiet-cons :
     (n : ℕ) (t : Table) (slot : SlotNo) (id : Txid) (c : Call) (cs : List Call) → Registered t slot id →
-    (refusal n t c ≡ pass → is-own-of slot id c ≡ false) → Quiet n (after n t c) slot id cs → Quiet n t slot id (c ∷ cs)
+    (refusal n t c ≡ Pass → is-own-of slot id c ≡ false) → Quiet n (after n t c) slot id cs → Quiet n t slot id (c ∷ cs)
 unfolding run
 quiet-cons n t slot id c cs r h k = record { alive = alive; no-other = no-other }
   where
@@ -126,7 +126,7 @@ further n slot id t c cs s w =
 -- a transaction snapshot with quiet calls behind it
 first :
     (n : ℕ) (slot : SlotNo) (id : Txid) (t : Table) (c : Call) (cs : List Call) (clock sample : ℕ) (s : Snapshot) →
-    c ≡ own slot id clock sample → Accepts n t c → s ≡ shown n t c sample → Quiet n (after n t c) slot id cs →
+    c ≡ own slot id clock sample → Accepts n t c → s ≡ shown n t c → Quiet n (after n t c) slot id cs →
     IsLast n t slot id (c ∷ cs) s
 unfolding run
 first n slot id t c cs clock sample s p a e k =

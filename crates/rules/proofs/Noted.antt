@@ -12,16 +12,17 @@ use borrow.Author.Tests.{eqb-true, eqb-false, eq-eqb}
 use Rattle.kinds.specs.declared.SlotNo.{SlotNo}
 use Rattle.kinds.specs.declared.Txid.{Txid}
 use Rattle.kinds.proofs.Unique.{same-slot, same-txid}
+use Rattle.kinds.specs.declared.refusal.Verdict.{Verdict}
+use Rattle.kinds.specs.declared.refusal.Verdict.the-variants.{Pass}
 use Rattle.settled.specs.declared.Snapshot.{Snapshot}
+use Rattle.kinds.proofs.Verdicts.{refuse-not-pass}
 use Rattle.rules.specs.declared.Table.{Table}
 use Rattle.rules.specs.Tally.{lowestEmpty}
 use Rattle.rules.specs.Tables.{txidAt}
-use Rattle.rules.specs.Tests.{Verdict, pass}
 use Rattle.rules.specs.Calls.{Call, begin, end, snap, own, oldest, vacuum, stamp, finish, refusal, after, afterAccepted, shown}
 use Rattle.rules.specs.History.{notedBy}
 use Rattle.rules.proofs.Places.{Stored, new-here, as-before, stored}
 use Rattle.rules.proofs.Tallies.{lowest-empty}
-use Rattle.rules.proofs.Tests.{refuse-not-pass}
 use Rattle.rules.proofs.Refused.{refused-txids, by-verdict}
 
 -- the call is a transaction snapshot of (slot, id)
@@ -43,12 +44,12 @@ pub data Noted
     (n : ℕ) (t : Table) (slot : SlotNo) (id : Txid) (c : Call) (last : Option Snapshot) (v : Verdict) (u : Table)
     : Type 0 where
   now-taken :
-      (clock sample : ℕ) → c ≡ own slot id clock sample → v ≡ pass →
-      notedBy v n slot id t c last ≡ some (shown n t c sample) → Noted n t slot id c last v u
+      (clock sample : ℕ) → c ≡ own slot id clock sample → v ≡ Pass →
+      notedBy v n slot id t c last ≡ some (shown n t c) → Noted n t slot id c last v u
   now-forgotten : txidAt t (slot .0) ≡ 0 → notedBy v n slot id t c last ≡ none → Noted n t slot id c last v u
   not-moved :
       notedBy v n slot id t c last ≡ last → (txidAt u (slot .0) ≡ id .0 → txidAt t (slot .0) ≡ id .0) →
-      (v ≡ pass → is-own-of slot id c ≡ false) → Noted n t slot id c last v u
+      (v ≡ Pass → is-own-of slot id c ≡ false) → Noted n t slot id c last v u
 
 -- emptying a slot registers nobody
 emptied-from :
@@ -61,7 +62,7 @@ emptied-from txids i j x h e = go (stored txids i 0 j)
 
 noted-accepted :
     (n : ℕ) (t : Table) (slot : SlotNo) (id : Txid) (c : Call) (last : Option Snapshot) → id .0 ≢ 0 →
-    Noted n t slot id c last pass (afterAccepted t c)
+    Noted n t slot id c last Pass (afterAccepted t c)
 unfolding afterAccepted
 noted-accepted n t slot id (begin number) last z = go (eqb entered (slot .0)) refl
   where
@@ -69,7 +70,7 @@ noted-accepted n t slot id (begin number) last z = go (eqb entered (slot .0)) re
     entered = lowestEmpty (t .txids)
 
     go : (b : Bool) → eqb entered (slot .0) ≡ b →
-        Noted n t slot id (begin number) last pass (afterAccepted t (begin number))
+        Noted n t slot id (begin number) last Pass (afterAccepted t (begin number))
     go true e = now-forgotten (rw (← eqb-true entered (slot .0) e) (lowest-empty (t .txids))) (rw e)
     go false e =
         let d : slot .0 ≢ entered = λ q. eqb-false entered (slot .0) e (sym q) in
@@ -81,7 +82,7 @@ noted-accepted n t slot id (snap clock sample) last z = not-moved refl (λ h. h)
 noted-accepted n t slot id (own slot′ id′ clock sample) last z = go (eqb (slot′ .0) (slot .0)) refl (eqb (id′ .0) (id .0)) refl
   where
     go : (b : Bool) → eqb (slot′ .0) (slot .0) ≡ b → (d : Bool) → eqb (id′ .0) (id .0) ≡ d →
-        Noted n t slot id (own slot′ id′ clock sample) last pass (afterAccepted t (own slot′ id′ clock sample))
+        Noted n t slot id (own slot′ id′ clock sample) last Pass (afterAccepted t (own slot′ id′ clock sample))
     go true p true q =
         now-taken clock sample (rw (same-slot slot′ slot (eqb-true _ _ p), same-txid id′ id (eqb-true _ _ q))) refl (rw (p, q))
     go true p false q = not-moved (rw (p, q)) (λ h. h) (λ r. rw (p, q))

@@ -12,11 +12,11 @@ use borrow.Author.Tests.{le-ltb, ne-eqb}
 use Rattle.kinds.specs.declared.SlotNo.{SlotNo}
 use Rattle.kinds.specs.declared.Txid.{Txid}
 use Rattle.kinds.specs.Refusals.{accepted}
+use Rattle.kinds.specs.declared.refusal.Verdict.{Verdict}
 use Rattle.settled.specs.declared.Snapshot.{Snapshot}
 use Rattle.settled.specs.Settled.{settledTest}
 use Rattle.rules.specs.declared.Table.{Table}
 use Rattle.rules.specs.Tables.{freshTable}
-use Rattle.rules.specs.Tests.{Verdict}
 use Rattle.rules.specs.Calls.{Call, own, vacuum, afterAccepted, after, answerAccepted, answerBy, answer, shown}
 use Rattle.rules.specs.Accepted.{Owns}
 use Rattle.rules.specs.History.{run, reached, Accepts, Registered, lastFrom, lastOwn, IsLast}
@@ -51,7 +51,7 @@ covered-count n cs s (of-transaction slot id r e) = last-keeps n cs slot id s e 
 pub own-covered :
     (n : ℕ) (cs : List Call) (slot : SlotNo) (id : Txid) (clock sample : ℕ) →
     Accepts n (reached n cs) (own slot id clock sample) →
-    Covered n (cs ++ own slot id clock sample ∷ []) (shown n (reached n cs) (own slot id clock sample) sample)
+    Covered n (cs ++ own slot id clock sample ∷ []) (shown n (reached n cs) (own slot id clock sample))
 unfolding run lastFrom afterAccepted
 own-covered n cs slot id clock sample e =
     of-transaction slot id (record { named = o .named; holds = rw (run-append, after-accepted, e) (o .holds) })
@@ -65,7 +65,7 @@ own-covered n cs slot id clock sample e =
 pub own-settled :
     (n : ℕ) (cs : List Call) (slot : SlotNo) (id : Txid) (clock sample : ℕ) →
     Accepts n (reached n cs) (own slot id clock sample) →
-    SettledBelow (lineAfter n cs) (shown n (reached n cs) (own slot id clock sample) sample)
+    SettledBelow (lineAfter n cs) (shown n (reached n cs) (own slot id clock sample))
 own-settled n cs slot id clock sample e x h l =
     covered-settled n (cs ++ own slot id clock sample ∷ []) _ (own-covered n cs slot id clock sample e) x h
     (le-trans l (line-never-falls n cs (own slot id clock sample ∷ [])))
@@ -90,7 +90,7 @@ registered-from-line n before after slot id r =
 -- the settled test itself answers yes
 pub covered-test-yes :
     (n : ℕ) (cs : List Call) (s : Snapshot) (x : ℕ) → Covered n cs s → 1 ≤ x → x < lineAfter n cs →
-    settledTest n (s .xmax) (s .ids) (s .count) x ≡ record { tells = accepted; settled = true }
+    settledTest n (s .xmax) (s .ids) (s .count) (record { 0 = x }) ≡ record { tells = accepted; settled = true }
 unfolding settledTest
 covered-test-yes n cs s x c h l =
     rw (le-ltb n (s .count) (covered-count n cs s c), ne-eqb x 0 (λ z. omega arith), covered-settled n cs s c x h l)

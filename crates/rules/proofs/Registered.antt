@@ -12,10 +12,11 @@ use Rattle.kinds.specs.declared.Stamp.{Stamp}
 use Rattle.kinds.specs.declared.SlotNo.{SlotNo}
 use Rattle.kinds.specs.declared.Txid.{Txid}
 use Rattle.kinds.proofs.Unique.{same-slot, same-txid}
+use Rattle.kinds.specs.declared.refusal.Verdict.{Verdict}
+use Rattle.kinds.specs.declared.refusal.Verdict.the-variants.{Pass}
 use Rattle.rules.specs.declared.Table.{Table}
 use Rattle.rules.specs.Tally.{lowestEmpty}
 use Rattle.rules.specs.Tables.{freshTable}
-use Rattle.rules.specs.Tests.{Verdict, pass}
 use Rattle.rules.specs.Calls.{Call, begin, end, snap, own, oldest, vacuum, stamp, finish, refusal, afterAccepted, after, answerAccepted, answerBy, answer}
 use Rattle.rules.specs.Facts.{Good}
 use Rattle.rules.specs.History.{run, reached, Accepts, Registered, NotEnded, IsRegistered}
@@ -34,7 +35,7 @@ not-ended-nil n t slot id =
 
 not-ended-cons :
     (n : ℕ) (t : Table) (slot : SlotNo) (id : Txid) (c : Call) (cs : List Call) →
-    (refusal n t c ≡ pass → is-end-of slot id c ≡ false) → NotEnded n (after n t c) slot id cs → NotEnded n t slot id (c ∷ cs)
+    (refusal n t c ≡ Pass → is-end-of slot id c ≡ false) → NotEnded n (after n t c) slot id cs → NotEnded n t slot id (c ∷ cs)
 unfolding run
 not-ended-cons n t slot id c cs h k = record { no-end = no-end; no-finish = no-finish }
   where
@@ -73,7 +74,7 @@ not-same slot slot′ id id′ d = go (eqb (slot′ .0) (slot .0)) refl (eqb (id
 
 not-ended-head :
     (n : ℕ) (t : Table) (slot : SlotNo) (id : Txid) (c : Call) (cs : List Call) → NotEnded n t slot id (c ∷ cs) →
-    refusal n t c ≡ pass → is-end-of slot id c ≡ false
+    refusal n t c ≡ Pass → is-end-of slot id c ≡ false
 unfolding run
 not-ended-head n t slot id (begin number) cs k a = refl
 not-ended-head n t slot id (end slot′ id′) cs k a =

@@ -12,12 +12,13 @@ use Rattle.kinds.specs.declared.SlotNo.{SlotNo}
 use Rattle.kinds.specs.declared.Txid.{Txid}
 use Rattle.kinds.specs.declared.refusal.Refusal.{Refusal}
 use Rattle.settled.specs.Settled.{listed}
+use Rattle.kinds.specs.Refusals.{consumed}
 use Rattle.rules.specs.declared.Table.{Table}
 use Rattle.rules.specs.Tables.{freshTable}
-use Rattle.rules.specs.Calls.{Call, begin, end, snap, own, oldest, vacuum, stamp, finish, refusal, afterAccepted, afterRefused, after}
+use Rattle.rules.specs.Calls.{Call, begin, end, snap, own, oldest, vacuum, stamp, finish, refusal, afterAccepted, spent, afterRefused, after}
 use Rattle.rules.specs.Accepted.{Acceptable}
 use Rattle.rules.specs.History.{run, reached, Accepts}
-use Rattle.rules.specs.Reservations.{reservesAccepted, reservesRefused, reservesBy, reservationsFrom, reservations}
+use Rattle.rules.specs.Reservations.{reservesAccepted, reservesBy, reservationsFrom, reservations}
 use Rattle.rules.proofs.Tallies.{listed-none, listed-cases, listed-head}
 use Rattle.rules.proofs.Tests.{accepted-acceptable}
 use Rattle.rules.proofs.Refused.{Refused, stays, spends, by-verdict}
@@ -39,13 +40,13 @@ step-accepted n t (stamp number) r = one (number .0) refl (r .positive) (r .from
 step-accepted n t (finish slot id number) (o, r) = one (number .0) refl (r .positive) (r .from-clock) refl
 
 pub reserve-step : (n : ℕ) (t : Table) (c : Call) → Step (t .clock) (reservesBy (refusal n t c) c) (after n t c .clock)
-unfolding afterRefused
+unfolding consumed spent afterRefused
 reserve-step n t c =
     by-verdict n t c (λ v u. Step (t .clock) (reservesBy v c) (u .clock))
     (λ e. step-accepted n t c (accepted-acceptable n t c e)) other
   where
-    other : (r : Refusal) → Refused n t c r → Step (t .clock) (reservesRefused r) (afterRefused t r .clock)
-    other r (stays p q) = nothing q (rw p (le-refl _))
+    other : (r : Refusal) → Refused n t c r → Step (t .clock) (consumed r) (afterRefused t r .clock)
+    other r (stays p) = nothing p (rw p (le-refl _))
     other r (spends number p q h f) = rw q (one (number .0) refl (h .positive) (h .from-clock) refl)
 
 -- numbers in order, each from 1 and from low on, all below high
@@ -137,8 +138,8 @@ pub reserves-nothing :
     (n : ℕ) (t : Table) (c : Call) → reservesAccepted c ≡ [] → reservesBy (refusal n t c) c ≡ []
 reserves-nothing n t c e = by-verdict n t c (λ v u. reservesBy v c ≡ []) (λ a. e) other
   where
-    other : (r : Refusal) → Refused n t c r → reservesRefused r ≡ []
-    other r (stays p q) = q
+    other : (r : Refusal) → Refused n t c r → consumed r ≡ []
+    other r (stays p) = p
     other r (spends number p q h f) = absurd (cons≢nil (rw p at e))
 
 -- what a call reserves is above every number reserved before it, those of refusal 1 included

@@ -15,12 +15,13 @@ use Rattle.kinds.specs.declared.SlotNo.{SlotNo}
 use Rattle.kinds.specs.declared.Txid.{Txid}
 use Rattle.kinds.specs.declared.refusal.Refusal.{Refusal}
 use Rattle.kinds.proofs.Unique.{same-slot, same-txid}
+use Rattle.kinds.specs.declared.refusal.Verdict.{Verdict}
 use Rattle.settled.specs.declared.Snapshot.{Snapshot}
+use Rattle.kinds.specs.Refusals.{consumed}
 use Rattle.rules.specs.declared.Table.{Table}
 use Rattle.rules.specs.Tally.{lowestEmpty, snapshotOf}
 use Rattle.rules.specs.Tables.{freshTable, txidAt, xminAt, withSlot}
-use Rattle.rules.specs.Tests.{Verdict}
-use Rattle.rules.specs.Calls.{Call, begin, end, snap, own, oldest, vacuum, stamp, finish, refusal, afterAccepted, afterRefused, after, shownBy, shown}
+use Rattle.rules.specs.Calls.{Call, begin, end, snap, own, oldest, vacuum, stamp, finish, refusal, afterAccepted, spent, afterRefused, after, shownAccepted, shownBy, shown}
 use Rattle.rules.specs.Accepted.{Owns, Acceptable}
 use Rattle.rules.specs.Facts.{Good}
 use Rattle.rules.specs.History.{run, reached, Accepts, notedAccepted, notedBy, lastFrom, lastOwn}
@@ -124,10 +125,11 @@ taken-now n t slot id clock sample g b o =
     below x bound under l =
         settled-in-own n (t .txids) sample (slot .0) bound x (λ z. o .named (sym (o .holds) ∙ z)) (b (slot .0)) under l
 
-pub shown-accepted :
-    (n : ℕ) (t : Table) (c : Call) (sample : ℕ) → Accepts n t c → shown n t c sample ≡ snapshotOf n (t .txids) sample
-unfolding shown
-shown-accepted n t c sample e = ap (λ (v : Verdict). shownBy v n t sample) e
+pub shown-own :
+    (n : ℕ) (t : Table) (slot : SlotNo) (id : Txid) (clock sample : ℕ) → Accepts n t (own slot id clock sample) →
+    shown n t (own slot id clock sample) ≡ snapshotOf n (t .txids) sample
+unfolding shownAccepted shown
+shown-own n t slot id clock sample e = ap (λ (v : Verdict). shownBy v n t (own slot id clock sample)) e
 
 -- a begin in the slot forgets its last snapshot, one in another slot leaves it
 keeps-begin :
@@ -167,11 +169,11 @@ keeps-own n t slot slot′ id id′ clock sample last g b a o k =
     u = afterAccepted t c
 
     go : (p : Bool) → eqb (slot′ .0) (slot .0) ≡ p → (q : Bool) → eqb (id′ .0) (id .0) ≡ q →
-        KeepsLast n u slot id (cond (p && q) (some (shown n t c sample)) last)
+        KeepsLast n u slot id (cond (p && q) (some (shown n t c)) last)
     go true p true q =
         let e : slot ≡ slot′ = same-slot slot slot′ (sym (eqb-true (slot′ .0) (slot .0) p)) in
         let f : id ≡ id′ = same-txid id id′ (sym (eqb-true (id′ .0) (id .0) q)) in
-        rw (e, f, shown-accepted n t c sample a) (taken-now n t slot′ id′ clock sample g b o)
+        rw (e, f, shown-own n t slot′ id′ clock sample a) (taken-now n t slot′ id′ clock sample g b o)
     go true p false q =
         let held : txidAt t (slot .0) ≡ id′ .0 = rw (eqb-true (slot′ .0) (slot .0) p) at (o .holds) in
         carry n t u slot id last (other-id n t u slot id (λ z. eqb-false (id′ .0) (id .0) q (sym held ∙ z))) k
@@ -205,13 +207,13 @@ keeps-accepted n t slot id (finish slot′ id′ number) last g b e p k =
 keeps-after :
     (n : ℕ) (t : Table) (slot : SlotNo) (id : Txid) (c : Call) (last : Option Snapshot) → Good n t → BelowTop t →
     KeepsLast n t slot id last → KeepsLast n (after n t c) slot id (notedBy (refusal n t c) n slot id t c last)
-unfolding afterRefused
+unfolding consumed spent afterRefused
 keeps-after n t slot id c last g b k =
     by-verdict n t c (λ v u. KeepsLast n u slot id (notedBy v n slot id t c last))
     (λ e. keeps-accepted n t slot id c last g b e (accepted-acceptable n t c e) k) other
   where
     other : (r : Refusal) → Refused n t c r → KeepsLast n (afterRefused t r) slot id last
-    other r (stays p q) = rw p k
+    other r (stays p) = rw p k
     other r (spends number p q h f) = rw q (carry n t _ slot id last (slot-unmoved n t _ slot id refl refl refl) k)
 
 keeps-run :

@@ -7,11 +7,12 @@ use native.Mathlib.Omega.{arith}
 use Rattle.kinds.specs.declared.SlotNo.{SlotNo}
 use Rattle.kinds.specs.declared.Txid.{Txid}
 use Rattle.kinds.specs.declared.refusal.Refusal.{Refusal}
+use Rattle.kinds.specs.declared.refusal.Verdict.{Verdict}
+use Rattle.kinds.specs.Refusals.{consumed}
 use Rattle.rules.specs.declared.Table.{Table}
 use Rattle.rules.specs.Tally.{active, retained, xminOf, oldestOf}
 use Rattle.rules.specs.Tables.{freshTable, txidAt, xminAt, withClock, observed}
-use Rattle.rules.specs.Tests.{Verdict}
-use Rattle.rules.specs.Calls.{Call, begin, end, snap, own, oldest, vacuum, stamp, finish, afterAccepted, afterRefused, afterBy, after}
+use Rattle.rules.specs.Calls.{Call, begin, end, snap, own, oldest, vacuum, stamp, finish, afterAccepted, spent, afterRefused, afterBy, after}
 use Rattle.rules.specs.Accepted.{Owns, Acceptable}
 use Rattle.rules.specs.Facts.{empty, taken, Good}
 use Rattle.rules.specs.History.{run, reached, Accepts}
@@ -24,11 +25,11 @@ use Rattle.rules.proofs.Moves.{is-taken, good-clock, good-observed, goo
 pub after-cases :
     (n : ℕ) (t : Table) (c : Call) (P : Table → Type 0) → (Accepts n t c → P (afterAccepted t c)) → P t →
     ((clock : ℕ) → t .clock < clock → P (withClock clock t)) → P (after n t c)
-unfolding afterRefused
+unfolding consumed spent afterRefused
 after-cases n t c P a s w = by-verdict n t c (λ v u. P u) a other
   where
     other : (r : Refusal) → Refused n t c r → P (afterRefused t r)
-    other r (stays p q) = rw p s
+    other r (stays p) = rw p s
     other r (spends number p q h f) = rw q (w _ (omega arith))
 
 pub after-accepted : (n : ℕ) (t : Table) (c : Call) → Accepts n t c → after n t c ≡ afterAccepted t c

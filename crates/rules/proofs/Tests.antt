@@ -1,59 +1,41 @@
 -- What each test asks for, and so when a call is accepted.
 use Prim.Native.Nat.{ℕ, _<_}
-use mathlib.Core.Path.{_≡_, refl, ap}
+use mathlib.Core.Path.{_≡_}
 use mathlib.Core.Logic.{_≢_, _↔_}
-use mathlib.Core.Bool.{Bool, true, false, cond, _||_, true≢false}
+use mathlib.Core.Bool.{_||_}
 use native.Mathlib.Omega.{arith}
 use lib.Dec.{ltb, leb, eqb}
 use borrow.Author.Tests.{ltb-false, leb-false, eqb-true, eqb-false, le-ltb, lt-leb, eq-eqb, ne-eqb}
 use Rattle.kinds.specs.declared.Stamp.{Stamp}
 use Rattle.kinds.specs.declared.SlotNo.{SlotNo}
 use Rattle.kinds.specs.declared.Txid.{Txid}
-use Rattle.kinds.specs.declared.refusal.Refusal.{Refusal}
 use Rattle.kinds.specs.Kinds.{top}
+use Rattle.kinds.specs.declared.refusal.Verdict.the-variants.{Pass}
+use Rattle.kinds.specs.Verdicts.{zeroTest}
+use Rattle.kinds.proofs.Verdicts.{not-refused, passed-by, then-pass}
 use Rattle.rules.specs.declared.Table.{Table}
 use Rattle.rules.specs.Tally.{lowestEmpty}
 use Rattle.rules.specs.Tables.{txidAt}
-use Rattle.rules.specs.Tests.{Verdict, pass, refuse, then, slotTest, zeroTest, holderTest, ownerTest, reservationTest, fullTest, observationTest}
+use Rattle.rules.specs.Tests.{slotTest, holderTest, ownerTest, reservationTest, fullTest, observationTest}
 use Rattle.rules.specs.Calls.{Call, begin, end, snap, own, oldest, vacuum, stamp, finish, refusal}
 use Rattle.rules.specs.Accepted.{Owns, Reserves, Observes, Acceptable}
 use Rattle.rules.specs.History.{Accepts}
 use Rattle.rules.proofs.Bools.{or-false}
 
-is-refused : Verdict → Bool
-is-refused pass = false
-is-refused (refuse r) = true
-
-pub refuse-not-pass : (r : Refusal) → refuse r ≡ pass → ⊥
-unfolding is-refused
-refuse-not-pass r e = true≢false (ap is-refused e)
-
-refused-first : (b : Bool) (r : Refusal) (v : Verdict) → cond b (refuse r) v ≡ pass → (b ≡ false) × (v ≡ pass)
-refused-first true r v e = absurd (refuse-not-pass r e)
-refused-first false r v e = (refl, e)
-
-passed-first : (b : Bool) (r : Refusal) → cond b pass (refuse r) ≡ pass → b ≡ true
-passed-first true r e = refl
-passed-first false r e = absurd (refuse-not-pass r e)
-
-pub then-pass : (v w : Verdict) → then v w ≡ pass → (v ≡ pass) × (w ≡ pass)
-then-pass pass w e = (refl, e)
-then-pass (refuse r) w e = absurd (refuse-not-pass r e)
-
-pub owns : (n : ℕ) (t : Table) (slot : SlotNo) (id : Txid) → ownerTest n (t .txids) slot id ≡ pass → Owns n t slot id
+pub owns : (n : ℕ) (t : Table) (slot : SlotNo) (id : Txid) → ownerTest n (t .txids) slot id ≡ Pass → Owns n t slot id
 owns n t slot id e =
     let (a, e₁) = then-pass (slotTest n slot) _ e in
     let (b, c) = then-pass (zeroTest id) (holderTest (t .txids) slot id) e₁ in
     record {
-      inside = leb-false n (slot .0) (refused-first (leb n (slot .0)) _ pass a .0);
-      named = eqb-false (id .0) 0 (refused-first (eqb (id .0) 0) _ pass b .0);
-      holds = eqb-true (txidAt t (slot .0)) (id .0) (passed-first (eqb (txidAt t (slot .0)) (id .0)) _ c);
+      inside = leb-false n (slot .0) (not-refused (leb n (slot .0)) _ Pass a .0);
+      named = eqb-false (id .0) 0 (not-refused (eqb (id .0) 0) _ Pass b .0);
+      holds = eqb-true (txidAt t (slot .0)) (id .0) (passed-by (eqb (txidAt t (slot .0)) (id .0)) _ c);
     }
 
-pub reserves : (clock : ℕ) (number : Stamp) → reservationTest clock number ≡ pass → Reserves clock (number .0)
+pub reserves : (clock : ℕ) (number : Stamp) → reservationTest clock number ≡ Pass → Reserves clock (number .0)
 reserves clock number e =
-    let (a, e₁) = refused-first (leb top clock) _ _ e in
-    let (b, e₂) = refused-first (eqb (number .0) 0 || (ltb (number .0) clock || leb top (number .0))) _ pass e₁ in
+    let (a, e₁) = not-refused (leb top clock) _ _ e in
+    let (b, e₂) = not-refused (eqb (number .0) 0 || (ltb (number .0) clock || leb top (number .0))) _ Pass e₁ in
     let (b₀, b′) = or-false (eqb (number .0) 0) _ b in
     let (b₁, b₂) = or-false (ltb (number .0) clock) (leb top (number .0)) b′ in
     let nz : number .0 ≢ 0 = eqb-false (number .0) 0 b₀ in
@@ -63,17 +45,17 @@ reserves clock number e =
       below-top = leb-false top (number .0) b₂;
     }
 
-pub observes : (former clock sample : ℕ) → observationTest former clock sample ≡ pass → Observes former clock sample
+pub observes : (former clock sample : ℕ) → observationTest former clock sample ≡ Pass → Observes former clock sample
 observes former clock sample e =
-    let (a, e₁) = refused-first (ltb clock former) _ _ e in
-    let (b, e₂) = refused-first (eqb sample 0 || ltb clock sample) _ pass e₁ in
+    let (a, e₁) = not-refused (ltb clock former) _ _ e in
+    let (b, e₂) = not-refused (eqb sample 0 || ltb clock sample) _ Pass e₁ in
     let (b₀, b₁) = or-false (eqb sample 0) (ltb clock sample) b in
     let nz : sample ≢ 0 = eqb-false sample 0 b₀ in
     record { onward = ltb-false clock former a; positive = omega arith; within = ltb-false clock sample b₁ }
 
-pub room : (n : ℕ) (t : Table) (number : Stamp) → fullTest n (t .txids) number ≡ pass → lowestEmpty (t .txids) < n
+pub room : (n : ℕ) (t : Table) (number : Stamp) → fullTest n (t .txids) number ≡ Pass → lowestEmpty (t .txids) < n
 room n t number e =
-    leb-false n (lowestEmpty (t .txids)) (refused-first (leb n (lowestEmpty (t .txids))) _ pass e .0)
+    leb-false n (lowestEmpty (t .txids)) (not-refused (leb n (lowestEmpty (t .txids))) _ Pass e .0)
 
 pub accepted-acceptable : (n : ℕ) (t : Table) (c : Call) → Accepts n t c → Acceptable n t c
 unfolding refusal
@@ -93,7 +75,7 @@ accepted-acceptable n t (finish slot id number) e =
     (owns n t slot id a, reserves (t .clock) number b)
 
 -- and the other way round: each test passes on what it asks for
-owner-passes : (n : ℕ) (t : Table) (slot : SlotNo) (id : Txid) → Owns n t slot id → ownerTest n (t .txids) slot id ≡ pass
+owner-passes : (n : ℕ) (t : Table) (slot : SlotNo) (id : Txid) → Owns n t slot id → ownerTest n (t .txids) slot id ≡ Pass
 owner-passes n t slot id o =
     rw (
       lt-leb n (slot .0) (o .inside),
@@ -101,7 +83,7 @@ owner-passes n t slot id o =
       eq-eqb (txidAt t (slot .0)) (id .0) (o .holds),
     )
 
-reservation-passes : (clock : ℕ) (number : Stamp) → Reserves clock (number .0) → reservationTest clock number ≡ pass
+reservation-passes : (clock : ℕ) (number : Stamp) → Reserves clock (number .0) → reservationTest clock number ≡ Pass
 reservation-passes clock number r =
     rw (
       lt-leb top clock (omega arith),
@@ -110,7 +92,7 @@ reservation-passes clock number r =
       lt-leb top (number .0) (r .below-top),
     )
 
-observation-passes : (former clock sample : ℕ) → Observes former clock sample → observationTest former clock sample ≡ pass
+observation-passes : (former clock sample : ℕ) → Observes former clock sample → observationTest former clock sample ≡ Pass
 observation-passes former clock sample o =
     rw (
       le-ltb clock former (o .onward),

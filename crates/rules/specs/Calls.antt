@@ -1,18 +1,21 @@
--- The eight calls on a table of n slots: when each is refused, the table after it, and what it answers.
+-- The eight calls on a table of n slots: when each is refused, the table after it, what it answers, and the snapshot that it shows.
 use Prim.Native.Nat.{ℕ, _+_, max}
+use mathlib.Core.List.{List, [], _∷_}
 use Rattle.kinds.specs.declared.Stamp.{Stamp}
 use Rattle.kinds.specs.declared.SlotNo.{SlotNo}
 use Rattle.kinds.specs.declared.Txid.{Txid}
 use Rattle.kinds.specs.declared.refusal.Refusal.{Refusal}
-use Rattle.kinds.specs.declared.refusal.Refusal.the-variants.{NoFreeSlot, InvalidSlot, SlotOwnershipMismatch, ZeroTxid, ClockExhausted, BadReservation, BadClock, BadSample, BadTrace, BadSnapshot}
-use Rattle.kinds.specs.Refusals.{told}
+use Rattle.kinds.specs.Refusals.{told, consumed}
+use Rattle.kinds.specs.declared.refusal.Verdict.{Verdict}
+use Rattle.kinds.specs.declared.refusal.Verdict.the-variants.{Pass, Refuse}
+use Rattle.kinds.specs.Verdicts.{then}
 use Rattle.settled.specs.declared.Snapshot.{Snapshot}
 use Rattle.settled.specs.Snapshots.{noSnapshot}
 use Rattle.rules.specs.declared.Table.{Table}
 use Rattle.rules.specs.Tally.{active, lowestEmpty, xminOf, xmaxOf, snapshotOf, oldestOf}
 use Rattle.rules.specs.Tables.{withSlot, withXmin, withClock, observed, withLine}
 use Rattle.rules.specs.Answers.{Answer, registered, done, snapped, oldestIs, lineIs, stamped, answerTold}
-use Rattle.rules.specs.Tests.{Verdict, pass, refuse, then, ownerTest, reservationTest, fullTest, observationTest}
+use Rattle.rules.specs.Tests.{ownerTest, reservationTest, fullTest, observationTest}
 
 -- a call with what the host hands in: a reserved number; a registration; a clock with a sample of it
 pub data Call : Type 0 where
@@ -38,6 +41,14 @@ refusal n t (stamp number) = reservationTest (t .clock) number
 refusal n t (finish slot id number) =
     then (ownerTest n (t .txids) slot id) (reservationTest (t .clock) number)
 
+-- what call 9 finds on this table
+abbrev pub oldestIn : Table → ℕ → ℕ
+oldestIn t sample = oldestOf (t .txids) (t .«snapshot_xmins») sample
+
+-- the line that a vacuum leaves
+abbrev pub raisedLine : Table → ℕ → ℕ
+raisedLine t sample = max (t .line) (oldestIn t sample)
+
 -- the table after an accepted call
 unfoldable pub afterAccepted : Table → Call → Table
 afterAccepted t (begin number) =
@@ -47,56 +58,63 @@ afterAccepted t (snap clock sample) = observed clock sample t
 afterAccepted t (own slot id clock sample) =
     withXmin (slot .0) (xminOf sample (active (t .txids))) (observed clock sample t)
 afterAccepted t (oldest clock sample) = observed clock sample t
-afterAccepted t (vacuum clock sample) =
-    withLine (max (t .line) (oldestOf (t .txids) (t .«snapshot_xmins») sample)) (observed clock sample t)
+afterAccepted t (vacuum clock sample) = withLine (raisedLine t sample) (observed clock sample t)
 afterAccepted t (stamp number) = withClock (number .0 + 1) t
 afterAccepted t (finish slot id number) = withSlot (slot .0) 0 0 (withClock (number .0 + 1) t)
 
--- the table after a refusal: a full table still consumes the txid, nothing else moves it
+-- the clock goes past each number that was consumed
+unfoldable pub spent : List ℕ → Table → Table
+spent [] t = t
+spent (number ∷ numbers) t = spent numbers (withClock (number + 1) t)
+
+-- the table after a refusal: nothing moves but by what it consumes
 unfoldable pub afterRefused : Table → Refusal → Table
-afterRefused t (NoFreeSlot txid) = withClock (txid .0 + 1) t
-afterRefused t (InvalidSlot slot) = t
-afterRefused t (SlotOwnershipMismatch slot expected seen) = t
-afterRefused t ZeroTxid = t
-afterRefused t ClockExhausted = t
-afterRefused t BadReservation = t
-afterRefused t BadClock = t
-afterRefused t BadSample = t
-afterRefused t (BadTrace line) = t
-afterRefused t BadSnapshot = t
+afterRefused t r = spent (consumed r) t
 
 abbrev pub afterBy : Verdict → Table → Call → Table
-afterBy pass t c = afterAccepted t c
-afterBy (refuse r) t c = afterRefused t r
+afterBy Pass t c = afterAccepted t c
+afterBy (Refuse r) t c = afterRefused t r
 
 unfoldable pub after : ℕ → Table → Call → Table
 after n t c = afterBy (refusal n t c) t c
+
+-- what a snapshot of these txids tells
+abbrev pub snapshotTells : List ℕ → ℕ → Answer
+snapshotTells txids sample = snapped (xminOf sample (active txids)) (xmaxOf sample (active txids)) (active txids)
 
 -- what an accepted call answers
 unfoldable pub answerAccepted : Table → Call → Answer
 answerAccepted t (begin number) = registered (lowestEmpty (t .txids)) (number .0)
 answerAccepted t (end slot id) = done
-answerAccepted t (snap clock sample) =
-    snapped (xminOf sample (active (t .txids))) (xmaxOf sample (active (t .txids))) (active (t .txids))
-answerAccepted t (own slot id clock sample) =
-    snapped (xminOf sample (active (t .txids))) (xmaxOf sample (active (t .txids))) (active (t .txids))
-answerAccepted t (oldest clock sample) = oldestIs (oldestOf (t .txids) (t .«snapshot_xmins») sample)
-answerAccepted t (vacuum clock sample) =
-    lineIs (max (t .line) (oldestOf (t .txids) (t .«snapshot_xmins») sample))
+answerAccepted t (snap clock sample) = snapshotTells (t .txids) sample
+answerAccepted t (own slot id clock sample) = snapshotTells (t .txids) sample
+answerAccepted t (oldest clock sample) = oldestIs (oldestIn t sample)
+answerAccepted t (vacuum clock sample) = lineIs (raisedLine t sample)
 answerAccepted t (stamp number) = stamped (number .0)
 answerAccepted t (finish slot id number) = stamped (number .0)
 
 abbrev pub answerBy : Verdict → Table → Call → Answer
-answerBy pass t c = answerAccepted t c
-answerBy (refuse r) t c = answerTold (told r)
+answerBy Pass t c = answerAccepted t c
+answerBy (Refuse r) t c = answerTold (told r)
 
 unfoldable pub answer : ℕ → Table → Call → Answer
 answer n t c = answerBy (refusal n t c) t c
 
--- the snapshot beside the answer of snap and own: of zeros where the call is refused
-abbrev pub shownBy : Verdict → ℕ → Table → ℕ → Snapshot
-shownBy pass n t sample = snapshotOf n (t .txids) sample
-shownBy (refuse r) n t sample = noSnapshot n
+-- the snapshot that an accepted call shows; a call that takes none shows zeros
+unfoldable pub shownAccepted : ℕ → Table → Call → Snapshot
+shownAccepted n t (begin number) = noSnapshot n
+shownAccepted n t (end slot id) = noSnapshot n
+shownAccepted n t (snap clock sample) = snapshotOf n (t .txids) sample
+shownAccepted n t (own slot id clock sample) = snapshotOf n (t .txids) sample
+shownAccepted n t (oldest clock sample) = noSnapshot n
+shownAccepted n t (vacuum clock sample) = noSnapshot n
+shownAccepted n t (stamp number) = noSnapshot n
+shownAccepted n t (finish slot id number) = noSnapshot n
 
-unfoldable pub shown : ℕ → Table → Call → ℕ → Snapshot
-shown n t c sample = shownBy (refusal n t c) n t sample
+-- beside a refusal stands a snapshot of zeros only
+abbrev pub shownBy : Verdict → ℕ → Table → Call → Snapshot
+shownBy Pass n t c = shownAccepted n t c
+shownBy (Refuse r) n t c = noSnapshot n
+
+unfoldable pub shown : ℕ → Table → Call → Snapshot
+shown n t c = shownBy (refusal n t c) n t c

@@ -3,10 +3,11 @@ use Prim.Native.Nat.{ℕ, _+_}
 use mathlib.Core.List.{List, [], _∷_}
 use mathlib.Core.Bool.{Bool, true, false, cond}
 use lib.ListN.{length}
+use Rattle.kinds.specs.declared.refusal.Verdict.{Verdict}
+use Rattle.kinds.specs.declared.refusal.Verdict.the-variants.{Pass, Refuse}
 use Rattle.rules.specs.declared.Table.{Table}
 use Rattle.rules.specs.Tally.{active}
 use Rattle.rules.specs.Tables.{freshTable}
-use Rattle.rules.specs.Tests.{Verdict, pass, refuse}
 use Rattle.rules.specs.Calls.{Call, begin, end, snap, own, oldest, vacuum, stamp, finish, refusal, after}
 
 abbrev pub isBegin : Call → Bool
@@ -41,8 +42,8 @@ isFinish (finish slot id number) = true
 
 -- 1 for an accepted call of the kind, 0 for any other
 abbrev pub counts : Verdict → Bool → ℕ
-counts pass kind = cond kind 1 0
-counts (refuse r) kind = 0
+counts Pass kind = cond kind 1 0
+counts (Refuse r) kind = 0
 
 -- how many calls of the kind were accepted
 unfoldable pub acceptedFrom : (Call → Bool) → ℕ → Table → List Call → ℕ

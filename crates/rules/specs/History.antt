@@ -9,11 +9,12 @@ use lib.Dec.{eqb}
 use Rattle.kinds.specs.declared.Stamp.{Stamp}
 use Rattle.kinds.specs.declared.SlotNo.{SlotNo}
 use Rattle.kinds.specs.declared.Txid.{Txid}
+use Rattle.kinds.specs.declared.refusal.Verdict.{Verdict}
+use Rattle.kinds.specs.declared.refusal.Verdict.the-variants.{Pass, Refuse}
 use Rattle.settled.specs.declared.Snapshot.{Snapshot}
 use Rattle.rules.specs.declared.Table.{Table}
 use Rattle.rules.specs.Tally.{lowestEmpty}
 use Rattle.rules.specs.Tables.{freshTable, txidAt}
-use Rattle.rules.specs.Tests.{Verdict, pass, refuse}
 use Rattle.rules.specs.Calls.{Call, begin, end, snap, own, oldest, vacuum, stamp, finish, refusal, after, answer, shown}
 
 -- the table after the calls, one after the other
@@ -27,7 +28,7 @@ reached n cs = run n (freshTable n) cs
 
 -- the call is accepted there
 abbrev pub Accepts : ℕ → Table → Call → Type 0
-Accepts n t c = refusal n t c ≡ pass
+Accepts n t c = refusal n t c ≡ Pass
 
 -- the transaction (slot, id) is registered: the slot holds that txid
 pub record Registered (t : Table) (slot : SlotNo) (id : Txid) : Type 0 where
@@ -67,7 +68,7 @@ notedAccepted n slot id t (begin number) last = forgotten (lowestEmpty (t .txids
 notedAccepted n slot id t (end slot′ id′) last = last
 notedAccepted n slot id t (snap clock sample) last = last
 notedAccepted n slot id t (own slot′ id′ clock sample) last =
-    replaced slot id slot′ id′ (shown n t (own slot′ id′ clock sample) sample) last
+    replaced slot id slot′ id′ (shown n t (own slot′ id′ clock sample)) last
 notedAccepted n slot id t (oldest clock sample) last = last
 notedAccepted n slot id t (vacuum clock sample) last = last
 notedAccepted n slot id t (stamp number) last = last
@@ -75,8 +76,8 @@ notedAccepted n slot id t (finish slot′ id′ number) last = last
 
 -- a refused call takes no snapshot and replaces none
 abbrev pub notedBy : Verdict → ℕ → SlotNo → Txid → Table → Call → Option Snapshot → Option Snapshot
-notedBy pass n slot id t c last = notedAccepted n slot id t c last
-notedBy (refuse r) n slot id t c last = last
+notedBy Pass n slot id t c last = notedAccepted n slot id t c last
+notedBy (Refuse r) n slot id t c last = last
 
 unfoldable pub lastFrom : ℕ → SlotNo → Txid → Table → List Call → Option Snapshot → Option Snapshot
 lastFrom n slot id t [] last = last
@@ -102,5 +103,5 @@ pub record IsLast (n : ℕ) (t : Table) (slot : SlotNo) (id : Txid) (cs : List C
   pub later : List Call
   pub written : cs ≡ before ++ own slot id clock sample ∷ later
   pub accepted : Accepts n (run n t before) (own slot id clock sample)
-  pub shows : s ≡ shown n (run n t before) (own slot id clock sample) sample
+  pub shows : s ≡ shown n (run n t before) (own slot id clock sample)
   pub quiet : Quiet n (after n (run n t before) (own slot id clock sample)) slot id later

@@ -34,7 +34,7 @@ pub record Promise (n : ℕ) : Type 0 where
   pub later :
       (before after : List Call) (slot : SlotNo) (id : Txid) (clock sample : ℕ) →
       Accepts n (reached n (before ++ after)) (own slot id clock sample) →
-      SettledBelow (lineAfter n before) (shown n (reached n (before ++ after)) (own slot id clock sample) sample)
+      SettledBelow (lineAfter n before) (shown n (reached n (before ++ after)) (own slot id clock sample))
 
 -- the line that an accepted vacuum answers at the end of a history
 abbrev pub vacuumAnswer : ℕ → List Call → ℕ → ℕ → ℕ
@@ -58,4 +58,4 @@ pub record VacuumPromise (n : ℕ) : Type 0 where
       (slot : SlotNo) (id : Txid) (clock′ sample′ : ℕ) →
       Accepts n (reached n (before ++ vacuum clock sample ∷ after)) (own slot id clock′ sample′) →
       SettledBelow (vacuumAnswer n before clock sample)
-      (shown n (reached n (before ++ vacuum clock sample ∷ after)) (own slot id clock′ sample′) sample′)
+      (shown n (reached n (before ++ vacuum clock sample ∷ after)) (own slot id clock′ sample′))

@@ -7,50 +7,40 @@ use lib.ListN.{getD}
 use Rattle.kinds.specs.declared.Stamp.{Stamp}
 use Rattle.kinds.specs.declared.SlotNo.{SlotNo}
 use Rattle.kinds.specs.declared.Txid.{Txid}
-use Rattle.kinds.specs.declared.refusal.Refusal.{Refusal}
-use Rattle.kinds.specs.declared.refusal.Refusal.the-variants.{NoFreeSlot, InvalidSlot, SlotOwnershipMismatch, ZeroTxid, ClockExhausted, BadReservation, BadClock, BadSample}
+use Rattle.kinds.specs.declared.refusal.Refusal.the-variants.{NoFreeSlot, InvalidSlot, SlotOwnershipMismatch, ClockExhausted, BadReservation, BadClock, BadSample}
+use Rattle.kinds.specs.declared.refusal.Verdict.{Verdict}
+use Rattle.kinds.specs.declared.refusal.Verdict.the-variants.{Pass, Refuse}
 use Rattle.kinds.specs.Kinds.{top, txidOf}
+use Rattle.kinds.specs.Verdicts.{then, zeroTest}
 use Rattle.rules.specs.Tally.{lowestEmpty}
-
-pub data Verdict : Type 0 where
-  pass : Verdict
-  refuse : Refusal → Verdict
-
--- the second test is made only where the first passes
-abbrev pub then : Verdict → Verdict → Verdict
-then pass v = v
-then (refuse r) v = refuse r
 
 -- 2: the slot is not below the number of slots
 abbrev pub slotTest : ℕ → SlotNo → Verdict
-slotTest n slot = cond (leb n (slot .0)) (refuse (InvalidSlot slot)) pass
-
--- 4: the registration's id is 0
-abbrev pub zeroTest : Txid → Verdict
-zeroTest id = cond (eqb (id .0) 0) (refuse ZeroTxid) pass
+slotTest n slot = cond (leb n (slot .0)) (Refuse (InvalidSlot slot)) Pass
 
 -- 3: the slot holds another txid, or none
 abbrev pub holderTest : List ℕ → SlotNo → Txid → Verdict
 holderTest txids slot id =
-    cond (eqb (getD txids (slot .0) 0) (id .0)) pass
-    (refuse (SlotOwnershipMismatch slot id (record { 0 = getD txids (slot .0) 0 })))
+    cond (eqb (getD txids (slot .0) 0) (id .0)) Pass
+    (Refuse (SlotOwnershipMismatch slot id (record { 0 = getD txids (slot .0) 0 })))
 
 -- 2, 4, 3: the registration (slot, id) holds its slot
 abbrev pub ownerTest : ℕ → List ℕ → SlotNo → Txid → Verdict
 ownerTest n txids slot id = then (slotTest n slot) (then (zeroTest id) (holderTest txids slot id))
 
--- 5: the clock is at its end. 6: the number is 0, below the clock, or 2^64 − 1
+-- 5: the clock is at its end. 6: the number is 0, below the clock, or 2^64 − 1. By ≤, which is the same on 64-bit numbers: the
+-- theorems then need no ranges
 abbrev pub reservationTest : ℕ → Stamp → Verdict
 reservationTest clock number =
-    cond (leb top clock) (refuse ClockExhausted)
-    (cond (eqb (number .0) 0 || (ltb (number .0) clock || leb top (number .0))) (refuse BadReservation) pass)
+    cond (leb top clock) (Refuse ClockExhausted)
+    (cond (eqb (number .0) 0 || (ltb (number .0) clock || leb top (number .0))) (Refuse BadReservation) Pass)
 
 -- 1: all slots are taken
 abbrev pub fullTest : ℕ → List ℕ → Stamp → Verdict
-fullTest n txids number = cond (leb n (lowestEmpty txids)) (refuse (NoFreeSlot (txidOf number))) pass
+fullTest n txids number = cond (leb n (lowestEmpty txids)) (Refuse (NoFreeSlot (txidOf number))) Pass
 
 -- 7: the given clock is below the table's. 8: the sample is 0 or above the given clock
 abbrev pub observationTest : ℕ → ℕ → ℕ → Verdict
 observationTest former clock sample =
-    cond (ltb clock former) (refuse BadClock)
-    (cond (eqb sample 0 || ltb clock sample) (refuse BadSample) pass)
+    cond (ltb clock former) (Refuse BadClock)
+    (cond (eqb sample 0 || ltb clock sample) (Refuse BadSample) Pass)

@@ -24,12 +24,12 @@ pub record EndFits (n : ℕ) (t : Table) (slot : SlotNo) (id : Txid) (r : EndAns
 
 pub record SnapFits (n : ℕ) (t : Table) (clock : ℕ) (sample : ℕ) (r : SnapshotAnswer) : Type 0 where
   pub table : r .table ≡ after n t (snap clock sample)
-  pub snapshot : r .snapshot ≡ shown n t (snap clock sample) sample
+  pub snapshot : r .snapshot ≡ shown n t (snap clock sample)
   pub says : paperTaken (r .answer) (r .snapshot) ≡ answer n t (snap clock sample)
 
 pub record OwnFits (n : ℕ) (t : Table) (slot : SlotNo) (id : Txid) (clock : ℕ) (sample : ℕ) (r : SnapshotAnswer) : Type 0 where
   pub table : r .table ≡ after n t (own slot id clock sample)
-  pub snapshot : r .snapshot ≡ shown n t (own slot id clock sample) sample
+  pub snapshot : r .snapshot ≡ shown n t (own slot id clock sample)
   pub says : paperTaken (r .answer) (r .snapshot) ≡ answer n t (own slot id clock sample)
 
 pub record OldestFits (n : ℕ) (t : Table) (clock : ℕ) (sample : ℕ) (r : OldestAnswer) : Type 0 where

@@ -4,8 +4,9 @@ use mathlib.Core.Path.{_≡_, refl, subst}
 use mathlib.Core.Logic.{_⊎_, inl, inr}
 use mathlib.Core.List.{List}
 use Rattle.kinds.specs.declared.refusal.Refusal.the-variants.{NoFreeSlot, InvalidSlot, SlotOwnershipMismatch, ZeroTxid, ClockExhausted, BadReservation, BadClock, BadSample, BadTrace, BadSnapshot}
+use Rattle.kinds.specs.declared.refusal.Verdict.{Verdict}
+use Rattle.kinds.specs.declared.refusal.Verdict.the-variants.{Pass, Refuse}
 use Rattle.rules.specs.declared.Table.{Table}
-use Rattle.rules.specs.Tests.{Verdict, pass, refuse}
 use Rattle.rules.specs.Calls.{Call, begin, end, snap, own, oldest, vacuum, stamp, finish, refusal, afterAccepted, afterRefused, afterBy, after}
 use Rattle.upstream.specs.States.{State, stateOf, stateAfter, historyBy, Shaped, Foreseen}
 use Rattle.upstream.specs.Relations.{WellFormed, Sound}
@@ -22,17 +23,17 @@ unforeseen :
     (v : Verdict) (t : Table) (history : List ℕ) (c : Call) →
     Foreseen v ⊎ (stateOf t history ≡ stateOf (afterBy v t c) (historyBy v history c))
 unfolding afterRefused
-unforeseen pass t history c = inl tt
-unforeseen (refuse (NoFreeSlot txid)) t history c = inl tt
-unforeseen (refuse (InvalidSlot i)) t history c = inl tt
-unforeseen (refuse (SlotOwnershipMismatch i expected found)) t history c = inl tt
-unforeseen (refuse ZeroTxid) t history c = inr refl
-unforeseen (refuse ClockExhausted) t history c = inr refl
-unforeseen (refuse BadReservation) t history c = inr refl
-unforeseen (refuse BadClock) t history c = inr refl
-unforeseen (refuse BadSample) t history c = inr refl
-unforeseen (refuse (BadTrace line)) t history c = inr refl
-unforeseen (refuse BadSnapshot) t history c = inr refl
+unforeseen Pass t history c = inl tt
+unforeseen (Refuse (NoFreeSlot txid)) t history c = inl tt
+unforeseen (Refuse (InvalidSlot i)) t history c = inl tt
+unforeseen (Refuse (SlotOwnershipMismatch i expected found)) t history c = inl tt
+unforeseen (Refuse ZeroTxid) t history c = inr refl
+unforeseen (Refuse ClockExhausted) t history c = inr refl
+unforeseen (Refuse BadReservation) t history c = inr refl
+unforeseen (Refuse BadClock) t history c = inr refl
+unforeseen (Refuse BadSample) t history c = inr refl
+unforeseen (Refuse (BadTrace line)) t history c = inr refl
+unforeseen (Refuse BadSnapshot) t history c = inr refl
 
 module _ (n : ℕ) (t : Table) (history : List ℕ) (s : Shaped n t) (w : WellFormed n (stateOf t history)) where
   sound : Sound n t

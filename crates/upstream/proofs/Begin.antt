@@ -6,9 +6,9 @@ use native.Mathlib.Nat.{suc-ne-zero}
 use native.Mathlib.Omega.{arith}
 use Rattle.kinds.specs.declared.Stamp.{Stamp}
 use Rattle.kinds.specs.Refusals.{told}
+use Rattle.kinds.specs.declared.refusal.Verdict.{Verdict}
 use Rattle.rules.specs.declared.Table.{Table}
 use Rattle.rules.specs.Tally.{lowestEmpty}
-use Rattle.rules.specs.Tests.{Verdict}
 use Rattle.rules.specs.Calls.{begin, refusal, afterAccepted, afterRefused, afterBy, after, answerAccepted, answerBy, answer}
 use Rattle.rules.proofs.Tallies.{lowest-empty, below-lowest}
 use Rattle.upstream.specs.States.{stateOf, stateAfter, historyBy, Foreseen}

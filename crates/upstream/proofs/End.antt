@@ -7,8 +7,8 @@ use borrow.Author.Tests.{le-leb, lt-leb, eq-eqb, ne-eqb}
 use Rattle.kinds.specs.declared.SlotNo.{SlotNo}
 use Rattle.kinds.specs.declared.Txid.{Txid}
 use Rattle.kinds.specs.Refusals.{told}
+use Rattle.kinds.specs.declared.refusal.Verdict.{Verdict}
 use Rattle.rules.specs.declared.Table.{Table}
-use Rattle.rules.specs.Tests.{Verdict}
 use Rattle.rules.specs.Calls.{end, refusal, afterAccepted, afterRefused, afterBy, after, answerAccepted, answerBy, answer}
 use Rattle.upstream.specs.States.{stateOf, stateAfter, historyBy, Foreseen}
 use Rattle.upstream.specs.Relations.{Sound}

@@ -11,32 +11,35 @@ use Rattle.kinds.specs.declared.Stamp.{Stamp}
 use Rattle.kinds.specs.declared.SlotNo.{SlotNo}
 use Rattle.kinds.specs.declared.Txid.{Txid}
 use Rattle.kinds.specs.declared.refusal.Refusal.the-variants.{NoFreeSlot, InvalidSlot}
+use Rattle.kinds.specs.declared.refusal.Verdict.{Verdict}
+use Rattle.kinds.specs.declared.refusal.Verdict.the-variants.{Pass, Refuse}
+use Rattle.kinds.specs.Verdicts.{then, zeroTest}
 use Rattle.rules.specs.declared.Table.{Table}
 use Rattle.rules.specs.Tally.{lowestEmpty}
-use Rattle.rules.specs.Tests.{Verdict, pass, refuse, then, zeroTest, ownerTest, reservationTest, fullTest, observationTest}
+use Rattle.rules.specs.Tests.{ownerTest, reservationTest, fullTest, observationTest}
 use Rattle.rules.specs.Accepted.{Reserves, Observes}
 use Rattle.rules.specs.Calls.{begin, end, snap, own, oldest, stamp, finish, refusal}
 use Rattle.rules.proofs.Tests.{acceptable-accepted}
 use Rattle.upstream.specs.States.{Foreseen}
 use Rattle.upstream.proofs.Runs.{mismatch}
 
-pub positive-passes : (id : Txid) → 0 < id .0 → zeroTest id ≡ pass
+pub positive-passes : (id : Txid) → 0 < id .0 → zeroTest id ≡ Pass
 positive-passes id h = rw (ne-eqb (id .0) 0 (λ z. omega arith))
 
 module _ (n : ℕ) (t : Table) where
   -- what the trait promised of a number, and of a clock with its sample, is what our tests ask for
-  pub number-passes : (k : Stamp) → Reserves (t .clock) (k .0) → reservationTest (t .clock) k ≡ pass
+  pub number-passes : (k : Stamp) → Reserves (t .clock) (k .0) → reservationTest (t .clock) k ≡ Pass
   unfolding refusal
   number-passes k r = acceptable-accepted n t (stamp k) r
 
-  pub sample-passes : (c m : ℕ) → Observes (t .clock) c m → observationTest (t .clock) c m ≡ pass
+  pub sample-passes : (c m : ℕ) → Observes (t .clock) c m → observationTest (t .clock) c m ≡ Pass
   unfolding refusal
   sample-passes c m o = acceptable-accepted n t (snap c m) o
 
   full-foreseen : (k : Stamp) → Foreseen (fullTest n (t .txids) k)
   full-foreseen k = go (leb n (lowestEmpty (t .txids)))
     where
-      go : (b : Bool) → Foreseen (cond b (refuse (NoFreeSlot (txidOf k))) pass)
+      go : (b : Bool) → Foreseen (cond b (Refuse (NoFreeSlot (txidOf k))) Pass)
       go true = tt
       go false = tt
 
@@ -47,7 +50,7 @@ module _ (n : ℕ) (t : Table) where
     where
       go :
           (a b : Bool) →
-          Foreseen (then (then (cond a (refuse (InvalidSlot i)) pass) (cond b pass (mismatch (t .txids) i id))) v)
+          Foreseen (then (then (cond a (Refuse (InvalidSlot i)) Pass) (cond b Pass (mismatch (t .txids) i id))) v)
       go true b = tt
       go false true = f
       go false false = tt
@@ -67,7 +70,7 @@ module _ (n : ℕ) (t : Table) where
   pub own-foreseen :
       (i : SlotNo) (id : Txid) (c m : ℕ) → 0 < id .0 → Observes (t .clock) c m → Foreseen (refusal n t (own i id c m))
   unfolding refusal
-  own-foreseen i id c m h f = rw (sample-passes c m f) (owner-foreseen i id pass h tt)
+  own-foreseen i id c m h f = rw (sample-passes c m f) (owner-foreseen i id Pass h tt)
 
   pub stamp-foreseen : (k : Stamp) → Reserves (t .clock) (k .0) → Foreseen (refusal n t (stamp k))
   unfolding refusal
@@ -77,7 +80,7 @@ module _ (n : ℕ) (t : Table) where
       (i : SlotNo) (id : Txid) (k : Stamp) → 0 < id .0 → Reserves (t .clock) (k .0) →
       Foreseen (refusal n t (finish i id k))
   unfolding refusal
-  finish-foreseen i id k z f = rw (number-passes k f) (owner-foreseen i id pass z tt)
+  finish-foreseen i id k z f = rw (number-passes k f) (owner-foreseen i id Pass z tt)
 
   pub end-foreseen : (i : SlotNo) (id : Txid) → 0 < id .0 → Foreseen (refusal n t (end i id))
   unfolding refusal
@@ -85,7 +88,7 @@ module _ (n : ℕ) (t : Table) where
       rw (positive-passes id h) (go (leb n (i .0)) (eqb (getD (t .txids) (i .0) 0) (id .0)))
     where
       go :
-          (a b : Bool) → Foreseen (then (cond a (refuse (InvalidSlot i)) pass) (cond b pass (mismatch (t .txids) i id)))
+          (a b : Bool) → Foreseen (then (cond a (Refuse (InvalidSlot i)) Pass) (cond b Pass (mismatch (t .txids) i id)))
       go true b = tt
       go false true = tt
       go false false = tt

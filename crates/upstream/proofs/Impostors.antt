@@ -15,10 +15,10 @@ use Rattle.kinds.specs.declared.Txid.{Txid}
 use Rattle.kinds.specs.declared.refusal.Refusal.{Refusal}
 use Rattle.kinds.specs.declared.refusal.Refusal.the-variants.{NoFreeSlot}
 use Rattle.kinds.specs.Refusals.{told}
+use Rattle.kinds.specs.declared.refusal.Verdict.the-variants.{Pass, Refuse}
 use Rattle.rules.specs.declared.Table.{Table}
 use Rattle.rules.specs.Tally.{oldestOf, snapshotOf}
 use Rattle.rules.specs.Tables.{freshTable, withSlot, withClock, withLine, observed}
-use Rattle.rules.specs.Tests.{pass, refuse}
 use Rattle.rules.specs.Answers.{Answer, registered, oldestIs, stamped, answerTold}
 use Rattle.rules.specs.Calls.{afterAccepted, answerAccepted}
 use Rattle.rules.specs.Accepted.{Reserves, Observes}
@@ -43,10 +43,10 @@ abbrev none-free : ℕ → Answer
 none-free id = answerTold (told (NoFreeSlot (record { 0 = id })))
 
 -- checked_slot: a slot outside is answered by any error x
-pub wrong-kind : (n : ℕ) (slot : SlotNo) (x : Refusal) → CheckedSlot n slot (cond (leb n (slot .0)) (refuse x) pass)
+pub wrong-kind : (n : ℕ) (slot : SlotNo) (x : Refusal) → CheckedSlot n slot (cond (leb n (slot .0)) (Refuse x) Pass)
 wrong-kind n slot x = go (leb n (slot .0)) refl
   where
-    go : (b : Bool) → leb n (slot .0) ≡ b → CheckedSlot n slot (cond b (refuse x) pass)
+    go : (b : Bool) → leb n (slot .0) ≡ b → CheckedSlot n slot (cond b (Refuse x) Pass)
     go true e = record { l-checked-slot-e1 = λ p. not-passed _ p; l-checked-slot-e2 = λ r p. leb-true n (slot .0) e }
     go false e = record { l-checked-slot-e1 = λ p. leb-false n (slot .0) e; l-checked-slot-e2 = λ r p. not-refused r p }
 
@@ -86,14 +86,14 @@ module _ (n : ℕ) (t : Table) (history : List ℕ) (y : Sound n t) where
       (c : ℕ) → BelowTop t → t .clock ≤ c →
       SnapshotLocked n (stateOf t history) (stateOf (observed c 1 t) history) (snapshotOf n (t .txids) 1)
   unfolding afterAccepted
-  always-sample-one c u h = locked-run n t history y u c 1 pass (seen (one c h))
+  always-sample-one c u h = locked-run n t history y u c 1 Pass (seen (one c h))
 
   pub always-oldest-one :
       (c : ℕ) → t .clock ≤ c →
       OldestSnapshotXmin n (stateOf t history) (stateOf (observed c 1 t) history)
       (oldestIs (oldestOf (t .txids) (t .«snapshot_xmins») 1))
   unfolding afterAccepted answerAccepted
-  always-oldest-one c h = oldest-run n t history c 1 y pass (seen (one c h))
+  always-oldest-one c h = oldest-run n t history c 1 y Pass (seen (one c h))
 
   -- the transaction snapshot: a refusal that moves clock and sample, and is called NoFreeSlot
   pub refused-moves-clock :

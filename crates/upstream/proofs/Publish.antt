@@ -10,9 +10,10 @@ use Rattle.kinds.specs.declared.Stamp.{Stamp}
 use Rattle.kinds.specs.declared.SlotNo.{SlotNo}
 use Rattle.kinds.specs.declared.Txid.{Txid}
 use Rattle.kinds.specs.Refusals.{told}
+use Rattle.kinds.specs.declared.refusal.Verdict.{Verdict}
 use Rattle.rules.specs.declared.Table.{Table}
 use Rattle.rules.specs.Tables.{withClock}
-use Rattle.rules.specs.Tests.{Verdict, reservationTest}
+use Rattle.rules.specs.Tests.{reservationTest}
 use Rattle.rules.specs.Accepted.{Reserves}
 use Rattle.rules.specs.Calls.{stamp, finish, refusal, afterAccepted, afterRefused, afterBy, after, answerAccepted, answerBy, answer}
 use Rattle.upstream.specs.States.{Slot, slot, at, push, stateOf, stateAfter, historyBy, Foreseen}

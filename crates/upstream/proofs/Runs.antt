@@ -12,28 +12,31 @@ use Rattle.kinds.specs.declared.SlotNo.{SlotNo}
 use Rattle.kinds.specs.declared.Txid.{Txid}
 use Rattle.kinds.specs.declared.refusal.Refusal.the-variants.{NoFreeSlot, InvalidSlot, SlotOwnershipMismatch, ZeroTxid, ClockExhausted, BadReservation, BadClock, BadSample}
 use Rattle.kinds.specs.Kinds.{top, txidOf}
+use Rattle.kinds.specs.declared.refusal.Verdict.{Verdict}
+use Rattle.kinds.specs.declared.refusal.Verdict.the-variants.{Pass, Refuse}
+use Rattle.kinds.specs.Verdicts.{then}
 use Rattle.rules.specs.Tally.{lowestEmpty}
-use Rattle.rules.specs.Tests.{Verdict, pass, refuse, then, ownerTest, reservationTest, fullTest, observationTest}
+use Rattle.rules.specs.Tests.{ownerTest, reservationTest, fullTest, observationTest}
 use Rattle.rules.specs.Accepted.{Reserves, Observes}
 use Rattle.rules.proofs.Tests.{reserves, observes}
 use Rattle.upstream.specs.States.{Foreseen}
 
 -- a reservation: its number may be reserved
 pub reserves-pass :
-    (clock : ℕ) (k : Stamp) → Foreseen (reservationTest clock k) → (reservationTest clock k ≡ pass) × Reserves clock (k .0)
+    (clock : ℕ) (k : Stamp) → Foreseen (reservationTest clock k) → (reservationTest clock k ≡ Pass) × Reserves clock (k .0)
 reserves-pass clock k f =
     let e = go (leb top clock) (eqb (k .0) 0 || (ltb (k .0) clock || leb top (k .0))) f in
     (e, reserves clock k e)
   where
     go :
-        (a b : Bool) → Foreseen (cond a (refuse ClockExhausted) (cond b (refuse BadReservation) pass)) →
-        cond a (refuse ClockExhausted) (cond b (refuse BadReservation) pass) ≡ pass
+        (a b : Bool) → Foreseen (cond a (Refuse ClockExhausted) (cond b (Refuse BadReservation) Pass)) →
+        cond a (Refuse ClockExhausted) (cond b (Refuse BadReservation) Pass) ≡ Pass
     go true b f = absurd f
     go false true f = absurd f
     go false false f = refl
 
 pub data Reserving (clock k : ℕ) : Verdict → Type 0 where
-  reserved : Reserves clock k → Reserving clock k pass
+  reserved : Reserves clock k → Reserving clock k Pass
 
 pub reserving :
     (clock : ℕ) (k : Stamp) → Foreseen (reservationTest clock k) → Reserving clock (k .0) (reservationTest clock k)
@@ -43,8 +46,8 @@ reserving clock k f =
 
 -- a begin: its number may be reserved, and then a slot is empty or all are taken
 pub data Beginning (n : ℕ) (txids : List ℕ) (clock : ℕ) (k : Stamp) : Verdict → Type 0 where
-  entered : Reserves clock (k .0) → lowestEmpty txids < n → Beginning n txids clock k pass
-  full : Reserves clock (k .0) → n ≤ lowestEmpty txids → Beginning n txids clock k (refuse (NoFreeSlot (txidOf k)))
+  entered : Reserves clock (k .0) → lowestEmpty txids < n → Beginning n txids clock k Pass
+  full : Reserves clock (k .0) → n ≤ lowestEmpty txids → Beginning n txids clock k (Refuse (NoFreeSlot (txidOf k)))
 
 pub beginning :
     (n : ℕ) (txids : List ℕ) (clock : ℕ) (k : Stamp) →
@@ -53,7 +56,7 @@ pub beginning :
 beginning n txids clock k f = go (reservationTest clock k) (reserving clock k) f
   where
     room : Reserves clock (k .0) → (b : Bool) → leb n (lowestEmpty txids) ≡ b →
-        Beginning n txids clock k (cond b (refuse (NoFreeSlot (txidOf k))) pass)
+        Beginning n txids clock k (cond b (Refuse (NoFreeSlot (txidOf k))) Pass)
     room r true e = full r (leb-true n (lowestEmpty txids) e)
     room r false e = entered r (leb-false n (lowestEmpty txids) e)
 
@@ -63,25 +66,25 @@ beginning n txids clock k f = go (reservationTest clock k) (reserving clock k) f
     go :
         (v : Verdict) → (Foreseen v → Reserving clock (k .0) v) → Foreseen (then v (fullTest n txids k)) →
         Beginning n txids clock k (then v (fullTest n txids k))
-    go pass r f = on pass (r tt)
-    go (refuse x) r f = on (refuse x) (r f)
+    go Pass r f = on Pass (r tt)
+    go (Refuse x) r f = on (Refuse x) (r f)
 
-then-pass : (v : Verdict) → then v pass ≡ v
-then-pass pass = refl
-then-pass (refuse r) = refl
+then-pass : (v : Verdict) → then v Pass ≡ v
+then-pass Pass = refl
+then-pass (Refuse r) = refl
 
 abbrev pub mismatch : List ℕ → SlotNo → Txid → Verdict
-mismatch txids slot id = refuse (SlotOwnershipMismatch slot id (record { 0 = getD txids (slot .0) 0 }))
+mismatch txids slot id = Refuse (SlotOwnershipMismatch slot id (record { 0 = getD txids (slot .0) 0 }))
 
 -- a registration: its slot is outside, or holds another txid or none, or is its own; and P, what a second test then tells
 pub data Owning (n : ℕ) (txids : List ℕ) (slot : SlotNo) (id : Txid) (P : Type 0) : Verdict → Type 0 where
-  outside : n ≤ slot .0 → Owning n txids slot id P (refuse (InvalidSlot slot))
+  outside : n ≤ slot .0 → Owning n txids slot id P (Refuse (InvalidSlot slot))
   other : slot .0 < n → getD txids (slot .0) 0 ≢ id .0 → Owning n txids slot id P (mismatch txids slot id)
-  owned : slot .0 < n → id .0 ≢ 0 → getD txids (slot .0) 0 ≡ id .0 → P → Owning n txids slot id P pass
+  owned : slot .0 < n → id .0 ≢ 0 → getD txids (slot .0) 0 ≡ id .0 → P → Owning n txids slot id P Pass
 
 module _ (n : ℕ) (txids : List ℕ) (slot : SlotNo) (id : Txid) where
   pub owning-then :
-      (second : Verdict) (P : Type 0) → (Foreseen second → (second ≡ pass) × P) →
+      (second : Verdict) (P : Type 0) → (Foreseen second → (second ≡ Pass) × P) →
       Foreseen (then (ownerTest n txids slot id) second) →
       Owning n txids slot id P (then (ownerTest n txids slot id) second)
   owning-then second P s f =
@@ -89,7 +92,7 @@ module _ (n : ℕ) (txids : List ℕ) (slot : SlotNo) (id : Txid) where
     where
       order : Bool → Bool → Bool → Verdict
       order a b c =
-          then (cond a (refuse (InvalidSlot slot)) pass) (then (cond b (refuse ZeroTxid) pass) (cond c pass (mismatch txids slot id)))
+          then (cond a (Refuse (InvalidSlot slot)) Pass) (then (cond b (Refuse ZeroTxid) Pass) (cond c Pass (mismatch txids slot id)))
 
       go :
           (a : Bool) → leb n (slot .0) ≡ a → (b : Bool) → eqb (id .0) 0 ≡ b → (c : Bool) →
@@ -105,26 +108,26 @@ module _ (n : ℕ) (txids : List ℕ) (slot : SlotNo) (id : Txid) where
   pub owning : Foreseen (ownerTest n txids slot id) → Owning n txids slot id Unit (ownerTest n txids slot id)
   owning f =
       subst (λ (v : Verdict). Owning n txids slot id Unit v) (then-pass (ownerTest n txids slot id))
-      (owning-then pass Unit (λ u. (refl, tt))
+      (owning-then Pass Unit (λ u. (refl, tt))
       (subst (λ (v : Verdict). Foreseen v) (sym (then-pass (ownerTest n txids slot id))) f))
 
 -- an observation: its clock and sample may be observed
 pub observes-pass :
     (former clock sample : ℕ) → Foreseen (observationTest former clock sample) →
-    (observationTest former clock sample ≡ pass) × Observes former clock sample
+    (observationTest former clock sample ≡ Pass) × Observes former clock sample
 observes-pass former clock sample f =
     let e = go (ltb clock former) (eqb sample 0 || ltb clock sample) f in
     (e, observes former clock sample e)
   where
     go :
-        (a b : Bool) → Foreseen (cond a (refuse BadClock) (cond b (refuse BadSample) pass)) →
-        cond a (refuse BadClock) (cond b (refuse BadSample) pass) ≡ pass
+        (a b : Bool) → Foreseen (cond a (Refuse BadClock) (cond b (Refuse BadSample) Pass)) →
+        cond a (Refuse BadClock) (cond b (Refuse BadSample) Pass) ≡ Pass
     go true b f = absurd f
     go false true f = absurd f
     go false false f = refl
 
 pub data Observing (former clock sample : ℕ) : Verdict → Type 0 where
-  seen : Observes former clock sample → Observing former clock sample pass
+  seen : Observes former clock sample → Observing former clock sample Pass
 
 pub observing :
     (former clock sample : ℕ) → Foreseen (observationTest former clock sample) →

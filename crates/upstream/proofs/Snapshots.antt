@@ -14,10 +14,12 @@ use Rattle.kinds.specs.Kinds.{top}
 use Rattle.kinds.specs.declared.SlotNo.{SlotNo}
 use Rattle.kinds.specs.declared.Txid.{Txid}
 use Rattle.kinds.specs.Refusals.{told}
+use Rattle.kinds.specs.declared.refusal.Verdict.{Verdict}
+use Rattle.kinds.specs.declared.refusal.Verdict.the-variants.{Pass}
 use Rattle.rules.specs.declared.Table.{Table}
 use Rattle.rules.specs.Tally.{active as ours, minimum, maximum, xmaxOf, places, snapshotOf}
 use Rattle.rules.specs.Tables.{txidAt, observed}
-use Rattle.rules.specs.Tests.{Verdict, pass, observationTest}
+use Rattle.rules.specs.Tests.{observationTest}
 use Rattle.rules.specs.Calls.{snap, own, refusal, afterAccepted, afterRefused, afterBy, after, answerAccepted, answerBy, answer, shownBy, shown}
 use Rattle.settled.specs.declared.Snapshot.{Snapshot}
 use Rattle.rules.specs.Accepted.{Observes}
@@ -163,13 +165,13 @@ module _
 
     pub snapshot-locked-meets :
         Foreseen (refusal n t (snap c m)) →
-        SnapshotLocked n (stateOf t history) (stateAfter n t history (snap c m)) (shown n t (snap c m) m)
+        SnapshotLocked n (stateOf t history) (stateAfter n t history (snap c m)) (shown n t (snap c m))
     unfolding refusal after shown
     snapshot-locked-meets f = locked-run (refusal n t (snap c m)) (observing (t .clock) c m f)
 
     pub create-snapshot-meets :
         Foreseen (refusal n t (snap c m)) →
-        CreateSnapshot n (stateOf t history) (stateAfter n t history (snap c m)) (shown n t (snap c m) m)
+        CreateSnapshot n (stateOf t history) (stateAfter n t history (snap c m)) (shown n t (snap c m))
     create-snapshot-meets f = create-from-locked n _ _ _ (snapshot-locked-meets f)
 
   module _ (i : SlotNo) (id : Txid) (c m : ℕ) where
@@ -199,7 +201,7 @@ module _
         }
     own-run v (owned h z o f) =
         record {
-          l-own-e1 = own-well n t history y i id c m pass (owned h z o f);
+          l-own-e1 = own-well n t history y i id c m Pass (owned h z o f);
           l-own-e3 = refl;
           l-own-e4 = f .onward;
           l-own-e5 =
@@ -221,7 +223,7 @@ module _
     pub create-transaction-snapshot-meets :
         Foreseen (refusal n t (own i id c m)) →
         CreateTransactionSnapshot n (stateOf t history) (stateAfter n t history (own i id c m)) i id
-        (answer n t (own i id c m)) (shown n t (own i id c m) m)
+        (answer n t (own i id c m)) (shown n t (own i id c m))
     unfolding after answer shown
     create-transaction-snapshot-meets f =
         own-run (refusal n t (own i id c m)) (own-goes n t history y i id c m f)

@@ -7,10 +7,10 @@ use Rattle.kinds.specs.declared.Stamp.{Stamp}
 use Rattle.kinds.specs.declared.SlotNo.{SlotNo}
 use Rattle.kinds.specs.declared.Txid.{Txid}
 use Rattle.kinds.specs.declared.refusal.Refusal.the-variants.{NoFreeSlot}
+use Rattle.kinds.specs.declared.refusal.Verdict.the-variants.{Pass, Refuse}
 use Rattle.rules.specs.declared.Table.{Table}
 use Rattle.rules.specs.Tally.{active, lowestEmpty, minimum, maximum, snapshotOf}
 use Rattle.rules.specs.Tables.{freshTable}
-use Rattle.rules.specs.Tests.{pass, refuse}
 use Rattle.rules.specs.Calls.{Call, begin, end, own, finish, refusal, afterAccepted, after, shown}
 use Rattle.rules.specs.History.{run, reached}
 use Rattle.rules.specs.Reservations.{reservationsFrom, reservations}
@@ -44,22 +44,22 @@ unfolding run refusal after freshTable afterAccepted lowestEmpty passes slotsPas
 taken-passes = refl
 
 -- no call of it that upstream foresees is refused by 4 to 8: a full table, owned snapshots with a sample below both ids, an end, a finish
-pub full-begin : refusal 2 both-taken (begin (number 9)) ≡ refuse (NoFreeSlot (txid 9))
+pub full-begin : refusal 2 both-taken (begin (number 9)) ≡ Refuse (NoFreeSlot (txid 9))
 unfolding run refusal after freshTable afterAccepted lowestEmpty
 full-begin = refl
 
-pub stale-own : refusal 2 both-taken (own (place 1) (txid 7) 9 3) ≡ pass
+pub stale-own : refusal 2 both-taken (own (place 1) (txid 7) 9 3) ≡ Pass
 unfolding run refusal after freshTable afterAccepted lowestEmpty
 stale-own = refl
 
-pub stale-xmax : shown 2 both-taken (own (place 1) (txid 7) 9 3) 3 ≡ record { xmin = 3; xmax = 8; ids = 4 ∷ 7 ∷ []; count = 2 }
+pub stale-xmax : shown 2 both-taken (own (place 1) (txid 7) 9 3) ≡ record { xmin = 3; xmax = 8; ids = 4 ∷ 7 ∷ []; count = 2 }
 unfolding run refusal after freshTable afterAccepted lowestEmpty shown snapshotOf active minimum maximum
 stale-xmax = refl
 
-pub own-end : refusal 2 both-taken (end (place 0) (txid 4)) ≡ pass
+pub own-end : refusal 2 both-taken (end (place 0) (txid 4)) ≡ Pass
 unfolding run refusal after freshTable afterAccepted lowestEmpty
 own-end = refl
 
-pub own-finish : refusal 2 both-taken (finish (place 0) (txid 4) (number 9)) ≡ pass
+pub own-finish : refusal 2 both-taken (finish (place 0) (txid 4) (number 9)) ≡ Pass
 unfolding run refusal after freshTable afterAccepted lowestEmpty
 own-finish = refl

@@ -10,8 +10,9 @@ use Rattle.kinds.specs.declared.Txid.{Txid}
 use Rattle.kinds.specs.declared.refusal.Refusal.{Refusal}
 use Rattle.kinds.specs.declared.refusal.Refusal.the-variants.{InvalidSlot, SlotOwnershipMismatch}
 use Rattle.kinds.specs.Refusals.{told}
+use Rattle.kinds.specs.declared.refusal.Verdict.{Verdict}
+use Rattle.kinds.specs.declared.refusal.Verdict.the-variants.{Pass, Refuse}
 use Rattle.settled.specs.declared.Snapshot.{Snapshot}
-use Rattle.rules.specs.Tests.{Verdict, pass, refuse}
 use Rattle.rules.specs.Answers.{Answer, done, answerTold}
 use Rattle.upstream.specs.States.{State, slot, at, push}
 use Rattle.upstream.specs.Tallies.{«minimum_retention»}
@@ -19,8 +20,8 @@ use Rattle.upstream.specs.Relations.{Contains, HistoryOf, WellFormed, Co
 
 -- L:153-155
 pub record CheckedSlot (n : ℕ) (given : SlotNo) (result : Verdict) : Type 0 where
-  pub l-checked-slot-e1 : result ≡ pass → given .0 < n
-  pub l-checked-slot-e2 : (r : Refusal) → result ≡ refuse r → n ≤ given .0
+  pub l-checked-slot-e1 : result ≡ Pass → given .0 < n
+  pub l-checked-slot-e2 : (r : Refusal) → result ≡ Refuse r → n ≤ given .0
 
 -- L:171-178
 pub record BeginOk (n : ℕ) (old new : State) (result : Answer) : Type 0 where

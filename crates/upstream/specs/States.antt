@@ -4,8 +4,9 @@ use mathlib.Core.List.{List, [], _∷_, _++_}
 use mathlib.Core.Path.{_≡_}
 use lib.ListN.{length, getD}
 use Rattle.kinds.specs.declared.refusal.Refusal.the-variants.{NoFreeSlot, InvalidSlot, SlotOwnershipMismatch, ZeroTxid, ClockExhausted, BadReservation, BadClock, BadSample, BadTrace, BadSnapshot}
+use Rattle.kinds.specs.declared.refusal.Verdict.{Verdict}
+use Rattle.kinds.specs.declared.refusal.Verdict.the-variants.{Pass, Refuse}
 use Rattle.rules.specs.declared.Table.{Table}
-use Rattle.rules.specs.Tests.{Verdict, pass, refuse}
 use Rattle.rules.specs.Calls.{Call, refusal, after}
 use Rattle.rules.specs.Reservations.{reservesBy}
 
@@ -65,14 +66,14 @@ stateAfter n t history c = stateOf (after n t c) (historyBy (refusal n t c) hist
 
 -- upstream's outcomes: accepted, or one of its three errors; none of refusals 4 to 8
 abbrev pub Foreseen : Verdict → Type 0
-Foreseen pass = Unit
-Foreseen (refuse (NoFreeSlot txid)) = Unit
-Foreseen (refuse (InvalidSlot slot)) = Unit
-Foreseen (refuse (SlotOwnershipMismatch slot expected seen)) = Unit
-Foreseen (refuse ZeroTxid) = ⊥
-Foreseen (refuse ClockExhausted) = ⊥
-Foreseen (refuse BadReservation) = ⊥
-Foreseen (refuse BadClock) = ⊥
-Foreseen (refuse BadSample) = ⊥
-Foreseen (refuse (BadTrace line)) = ⊥
-Foreseen (refuse BadSnapshot) = ⊥
+Foreseen Pass = Unit
+Foreseen (Refuse (NoFreeSlot txid)) = Unit
+Foreseen (Refuse (InvalidSlot slot)) = Unit
+Foreseen (Refuse (SlotOwnershipMismatch slot expected seen)) = Unit
+Foreseen (Refuse ZeroTxid) = ⊥
+Foreseen (Refuse ClockExhausted) = ⊥
+Foreseen (Refuse BadReservation) = ⊥
+Foreseen (Refuse BadClock) = ⊥
+Foreseen (Refuse BadSample) = ⊥
+Foreseen (Refuse (BadTrace line)) = ⊥
+Foreseen (Refuse BadSnapshot) = ⊥
