@@ -1,7 +1,7 @@
 -- What a refused call leaves: the table as it was, or, where a begin met a full table, the clock past its number.
 use Prim.Native.Nat.{ℕ, _≤_}
 use mathlib.Core.Path.{_≡_, refl, sym, ap, _∙_}
-use mathlib.Core.Bool.{Bool, true, false, cond, _||_}
+use mathlib.Core.Bool.{Bool, true, false, cond, _||_, false≢true}
 use mathlib.Core.List.{List, []}
 use lib.Dec.{ltb, leb, eqb}
 use lib.ListN.{getD}
@@ -23,6 +23,7 @@ use Rattle.rules.specs.Tests.{slotTest, holderTest, ownerTest, reservati
 use Rattle.rules.specs.Calls.{Call, begin, end, snap, own, oldest, vacuum, stamp, finish, refusal, afterAccepted, spent, afterRefused, afterBy, after}
 use Rattle.rules.specs.Accepted.{Reserves}
 use Rattle.rules.specs.History.{Accepts}
+use Rattle.rules.specs.Counts.{isBegin}
 use Rattle.rules.proofs.Tests.{reserves}
 
 -- a refused call consumes nothing; or it is a begin on a full table, which consumes its number
@@ -100,6 +101,16 @@ refused n t (finish slot id number) r e =
     (sym (ap uses e)
     ∙ then-uses (ownerTest n (t .txids) slot id) (reservationTest (t .clock) number)
     (owner-uses n (t .txids) slot id) (reservation-uses (t .clock) number))
+
+-- every refusal but a begin's leaves the table
+pub refused-kept :
+    (n : ℕ) (t : Table) (c : Call) (r : Refusal) → isBegin c ≡ false → refusal n t c ≡ Refuse r → afterRefused t r ≡ t
+unfolding spent afterRefused
+refused-kept n t c r b e = go (refused n t c r e)
+  where
+    go : Refused n t c r → afterRefused t r ≡ t
+    go (stays h) = rw h
+    go (spends number q _ _ _) = absurd (false≢true (sym b ∙ ap isBegin q))
 
 -- no refusal moves a slot
 pub refused-txids : (n : ℕ) (t : Table) (c : Call) (r : Refusal) → Refused n t c r → afterRefused t r .txids ≡ t .txids

@@ -1,5 +1,6 @@
 -- The eight calls on a table of n slots: when each is refused, the table after it, what it answers, and the snapshot that it shows.
 use Prim.Native.Nat.{ℕ, _+_, max}
+use mathlib.Core.Path.{_≡_}
 use mathlib.Core.List.{List, [], _∷_}
 use Rattle.kinds.specs.declared.Stamp.{Stamp}
 use Rattle.kinds.specs.declared.SlotNo.{SlotNo}
@@ -118,3 +119,8 @@ shownBy (Refuse r) n t c = noSnapshot n
 
 unfoldable pub shown : ℕ → Table → Call → Snapshot
 shown n t c = shownBy (refusal n t c) n t c
+
+-- a table and an answer are those that the rules give for this call
+pub record Outcome (n : ℕ) (t : Table) (c : Call) (next : Table) (tells : Answer) : Type 0 where
+  pub table : next ≡ after n t c
+  pub says : tells ≡ answer n t c

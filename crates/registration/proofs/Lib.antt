@@ -1,0 +1,2 @@
+pub mod BeginRules
+pub mod EndRules
