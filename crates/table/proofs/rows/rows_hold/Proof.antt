@@ -1,14 +1,14 @@
 use mathlib.Core.Path.{refl}
-use Rattle.kinds.specs.Refusals.{told}
+use Rattle.kinds.specs.Refusals.{told, consumed}
 use Rattle.rules.specs.Tally.{active, retained, lowestEmpty, minimum, maximum, snapshotOf}
 use Rattle.rules.specs.Tables.{freshTable}
-use Rattle.rules.specs.Calls.{refusal, afterAccepted, afterRefused, after, answerAccepted, answer}
+use Rattle.rules.specs.Calls.{refusal, afterAccepted, spent, afterRefused, after, answerAccepted, answer}
 use Rattle.rules.specs.Rows.{seenFrom, RowsHold, rows}
 use Rattle.table.proofs.rows.rows_hold.Statement.{statement}
 use Rattle.table.proofs.rows.rows_hold.Tie as tie
 
 returns : tie.Need-returns
-unfolding told active retained lowestEmpty minimum maximum snapshotOf freshTable refusal afterAccepted afterRefused after answerAccepted answer seenFrom RowsHold rows
+unfolding told consumed active retained lowestEmpty minimum maximum snapshotOf freshTable refusal afterAccepted spent afterRefused after answerAccepted answer seenFrom RowsHold rows
 returns c = λ any. (refl, (refl, (refl, (refl, (refl, (refl, (refl, (refl, (refl, (refl, (refl, (refl, tt))))))))))))
 
 pub rows-hold-spec : {M : Type 1} → statement M

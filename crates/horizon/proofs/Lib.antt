@@ -1,0 +1,2 @@
+pub mod OldestRules
+pub mod VacuumRules

@@ -1,0 +1,2 @@
+pub mod Oldests
+pub mod Vacuums

@@ -1,0 +1,2 @@
+pub mod StampRules
+pub mod FinishRules

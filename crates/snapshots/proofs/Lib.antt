@@ -1,0 +1,3 @@
+pub mod PlainRules
+pub mod OwnRules
+pub mod Unique
