@@ -6,8 +6,9 @@ use mathlib.Core.List.{List}
 use Rattle.kinds.specs.declared.refusal.Refusal.the-variants.{NoFreeSlot, InvalidSlot, SlotOwnershipMismatch, ZeroTxid, ClockExhausted, BadReservation, BadClock, BadSample, BadTrace, BadSnapshot}
 use Rattle.kinds.specs.declared.refusal.Verdict.{Verdict}
 use Rattle.kinds.specs.declared.refusal.Verdict.the-variants.{Pass, Refuse}
+use Rattle.kinds.specs.Refusals.{consumed}
 use Rattle.rules.specs.declared.Table.{Table}
-use Rattle.rules.specs.Calls.{Call, begin, end, snap, own, oldest, vacuum, stamp, finish, refusal, afterAccepted, afterRefused, afterBy, after}
+use Rattle.rules.specs.Calls.{Call, begin, end, snap, own, oldest, vacuum, stamp, finish, refusal, afterAccepted, spent, afterRefused, afterBy, after}
 use Rattle.upstream.specs.States.{State, stateOf, stateAfter, historyBy, Shaped, Foreseen}
 use Rattle.upstream.specs.Relations.{WellFormed, Sound}
 use Rattle.upstream.proofs.Runs.{Observing, seen, observing}
@@ -22,7 +23,7 @@ use Rattle.upstream.proofs.Publish.{stamp-meets, finish-meets}
 unforeseen :
     (v : Verdict) (t : Table) (history : List ℕ) (c : Call) →
     Foreseen v ⊎ (stateOf t history ≡ stateOf (afterBy v t c) (historyBy v history c))
-unfolding afterRefused
+unfolding consumed spent afterRefused
 unforeseen Pass t history c = inl tt
 unforeseen (Refuse (NoFreeSlot txid)) t history c = inl tt
 unforeseen (Refuse (InvalidSlot i)) t history c = inl tt

@@ -5,11 +5,11 @@ use mathlib.Core.List.{List}
 use native.Mathlib.Nat.{suc-ne-zero}
 use native.Mathlib.Omega.{arith}
 use Rattle.kinds.specs.declared.Stamp.{Stamp}
-use Rattle.kinds.specs.Refusals.{told}
+use Rattle.kinds.specs.Refusals.{told, consumed}
 use Rattle.kinds.specs.declared.refusal.Verdict.{Verdict}
 use Rattle.rules.specs.declared.Table.{Table}
 use Rattle.rules.specs.Tally.{lowestEmpty}
-use Rattle.rules.specs.Calls.{begin, refusal, afterAccepted, afterRefused, afterBy, after, answerAccepted, answerBy, answer}
+use Rattle.rules.specs.Calls.{begin, refusal, afterAccepted, spent, afterRefused, afterBy, after, answerAccepted, answerBy, answer}
 use Rattle.rules.proofs.Tallies.{lowest-empty, below-lowest}
 use Rattle.upstream.specs.States.{stateOf, stateAfter, historyBy, Foreseen}
 use Rattle.upstream.specs.Relations.{Sound}
@@ -24,7 +24,7 @@ module _ (n : ℕ) (t : Table) (history : List ℕ) (k : Stamp) (y : Sound n t) 
       (v : Verdict) → Beginning n (t .txids) (t .clock) k v →
       BeginTransaction n (stateOf t history) (stateOf (afterBy v t (begin k)) (historyBy v history (begin k)))
       (answerBy v t (begin k))
-  unfolding afterAccepted afterRefused answerAccepted told
+  unfolding afterAccepted consumed spent afterRefused answerAccepted told
   by-run v (entered f room) =
       record {
         l-begin-e1 = λ h. well-entered n t history (with-history n t history y h) (lowestEmpty (t .txids)) (k .0) f;
@@ -67,7 +67,7 @@ module _ (n : ℕ) (t : Table) (history : List ℕ) (k : Stamp) (y : Sound n t) 
       (v : Verdict) → Beginning n (t .txids) (t .clock) k v →
       BeginAcquired (stateOf t history) (stateOf (afterBy v t (begin k)) (historyBy v history (begin k)))
       (answerBy v t (begin k))
-  unfolding afterAccepted afterRefused answerAccepted told
+  unfolding afterAccepted consumed spent afterRefused answerAccepted told
   acquired-run v (entered f room) = record { i-begin-e1 = refl; i-begin-e2 = refl }
   acquired-run v (full f taken) = record { i-begin-e1 = refl; i-begin-e2 = refl }
 

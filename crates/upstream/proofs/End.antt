@@ -6,10 +6,10 @@ use native.Mathlib.Nat.{suc-ne-zero}
 use borrow.Author.Tests.{le-leb, lt-leb, eq-eqb, ne-eqb}
 use Rattle.kinds.specs.declared.SlotNo.{SlotNo}
 use Rattle.kinds.specs.declared.Txid.{Txid}
-use Rattle.kinds.specs.Refusals.{told}
+use Rattle.kinds.specs.Refusals.{told, consumed}
 use Rattle.kinds.specs.declared.refusal.Verdict.{Verdict}
 use Rattle.rules.specs.declared.Table.{Table}
-use Rattle.rules.specs.Calls.{end, refusal, afterAccepted, afterRefused, afterBy, after, answerAccepted, answerBy, answer}
+use Rattle.rules.specs.Calls.{end, refusal, afterAccepted, spent, afterRefused, afterBy, after, answerAccepted, answerBy, answer}
 use Rattle.upstream.specs.States.{stateOf, stateAfter, historyBy, Foreseen}
 use Rattle.upstream.specs.Relations.{Sound}
 use Rattle.upstream.specs.Clauses.{EndTransaction}
@@ -23,7 +23,7 @@ module _
       (v : Verdict) → Owning n (t .txids) i id Unit v →
       EndTransaction n (stateOf t history) (stateOf (afterBy v t (end i id)) (historyBy v history (end i id))) i id
       (answerBy v t (end i id))
-  unfolding afterAccepted afterRefused answerAccepted told
+  unfolding afterAccepted consumed spent afterRefused answerAccepted told
   by-run v (outside h) =
       record {
         l-end-e1 = with-history n t history y;

@@ -20,7 +20,7 @@ use Rattle.rules.specs.declared.Table.{Table}
 use Rattle.rules.specs.Tally.{oldestOf, snapshotOf}
 use Rattle.rules.specs.Tables.{freshTable, withSlot, withClock, withLine, observed}
 use Rattle.rules.specs.Answers.{Answer, registered, oldestIs, stamped, answerTold}
-use Rattle.rules.specs.Calls.{afterAccepted, answerAccepted}
+use Rattle.rules.specs.Calls.{afterAccepted, answerAccepted, shownAccepted}
 use Rattle.rules.specs.Accepted.{Reserves, Observes}
 use Rattle.rules.specs.History.{run}
 use Rattle.rules.specs.Reservations.{reservationsFrom}
@@ -85,7 +85,7 @@ module _ (n : ℕ) (t : Table) (history : List ℕ) (y : Sound n t) where
   pub always-sample-one :
       (c : ℕ) → BelowTop t → t .clock ≤ c →
       SnapshotLocked n (stateOf t history) (stateOf (observed c 1 t) history) (snapshotOf n (t .txids) 1)
-  unfolding afterAccepted
+  unfolding afterAccepted shownAccepted
   always-sample-one c u h = locked-run n t history y u c 1 Pass (seen (one c h))
 
   pub always-oldest-one :

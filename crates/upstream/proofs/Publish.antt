@@ -9,13 +9,13 @@ use lib.ListN.{getD, set}
 use Rattle.kinds.specs.declared.Stamp.{Stamp}
 use Rattle.kinds.specs.declared.SlotNo.{SlotNo}
 use Rattle.kinds.specs.declared.Txid.{Txid}
-use Rattle.kinds.specs.Refusals.{told}
+use Rattle.kinds.specs.Refusals.{told, consumed}
 use Rattle.kinds.specs.declared.refusal.Verdict.{Verdict}
 use Rattle.rules.specs.declared.Table.{Table}
 use Rattle.rules.specs.Tables.{withClock}
 use Rattle.rules.specs.Tests.{reservationTest}
 use Rattle.rules.specs.Accepted.{Reserves}
-use Rattle.rules.specs.Calls.{stamp, finish, refusal, afterAccepted, afterRefused, afterBy, after, answerAccepted, answerBy, answer}
+use Rattle.rules.specs.Calls.{stamp, finish, refusal, afterAccepted, spent, afterRefused, afterBy, after, answerAccepted, answerBy, answer}
 use Rattle.upstream.specs.States.{Slot, slot, at, push, stateOf, stateAfter, historyBy, Foreseen}
 use Rattle.upstream.specs.Relations.{Contains, HistoryOf, Sound}
 use Rattle.upstream.specs.Clauses.{ReservePublicationClock, DeregisterThenReserve}
@@ -77,7 +77,7 @@ module _ (n : ℕ) (t : Table) (history : List ℕ) (y : Sound n t) where
         (v : Verdict) → Owning n (t .txids) i id (Reserves (t .clock) (k .0)) v →
         DeregisterThenReserve n (stateOf t history)
         (stateOf (afterBy v t (finish i id k)) (historyBy v history (finish i id k))) id (answerBy v t (finish i id k))
-    unfolding afterAccepted afterRefused answerAccepted told
+    unfolding afterAccepted consumed spent afterRefused answerAccepted told
     finish-run v (outside h) =
         record { l-finish-e1 = with-history n t history y; l-finish-e345 = λ e. absurd (suc-ne-zero _ e); l-finish-e6 = λ e. refl }
     finish-run v (other h d) =

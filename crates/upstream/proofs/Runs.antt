@@ -69,9 +69,9 @@ beginning n txids clock k f = go (reservationTest clock k) (reserving clock k) f
     go Pass r f = on Pass (r tt)
     go (Refuse x) r f = on (Refuse x) (r f)
 
-then-pass : (v : Verdict) → then v Pass ≡ v
-then-pass Pass = refl
-then-pass (Refuse r) = refl
+then-last : (v : Verdict) → then v Pass ≡ v
+then-last Pass = refl
+then-last (Refuse r) = refl
 
 abbrev pub mismatch : List ℕ → SlotNo → Txid → Verdict
 mismatch txids slot id = Refuse (SlotOwnershipMismatch slot id (record { 0 = getD txids (slot .0) 0 }))
@@ -107,9 +107,9 @@ module _ (n : ℕ) (txids : List ℕ) (slot : SlotNo) (id : Txid) where
 
   pub owning : Foreseen (ownerTest n txids slot id) → Owning n txids slot id Unit (ownerTest n txids slot id)
   owning f =
-      subst (λ (v : Verdict). Owning n txids slot id Unit v) (then-pass (ownerTest n txids slot id))
+      subst (λ (v : Verdict). Owning n txids slot id Unit v) (then-last (ownerTest n txids slot id))
       (owning-then Pass Unit (λ u. (refl, tt))
-      (subst (λ (v : Verdict). Foreseen v) (sym (then-pass (ownerTest n txids slot id))) f))
+      (subst (λ (v : Verdict). Foreseen v) (sym (then-last (ownerTest n txids slot id))) f))
 
 -- an observation: its clock and sample may be observed
 pub observes-pass :

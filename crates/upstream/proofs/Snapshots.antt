@@ -13,14 +13,14 @@ use borrow.Author.Tests.{ltb-true, ltb-false, ne-eqb}
 use Rattle.kinds.specs.Kinds.{top}
 use Rattle.kinds.specs.declared.SlotNo.{SlotNo}
 use Rattle.kinds.specs.declared.Txid.{Txid}
-use Rattle.kinds.specs.Refusals.{told}
+use Rattle.kinds.specs.Refusals.{told, consumed}
 use Rattle.kinds.specs.declared.refusal.Verdict.{Verdict}
 use Rattle.kinds.specs.declared.refusal.Verdict.the-variants.{Pass}
 use Rattle.rules.specs.declared.Table.{Table}
 use Rattle.rules.specs.Tally.{active as ours, minimum, maximum, xmaxOf, places, snapshotOf}
 use Rattle.rules.specs.Tables.{txidAt, observed}
 use Rattle.rules.specs.Tests.{observationTest}
-use Rattle.rules.specs.Calls.{snap, own, refusal, afterAccepted, afterRefused, afterBy, after, answerAccepted, answerBy, answer, shownBy, shown}
+use Rattle.rules.specs.Calls.{snap, own, refusal, afterAccepted, spent, afterRefused, afterBy, after, answerAccepted, answerBy, answer, shownAccepted, shownBy, shown}
 use Rattle.settled.specs.declared.Snapshot.{Snapshot}
 use Rattle.rules.specs.Accepted.{Observes}
 use Rattle.rules.proofs.Tallies.{minimum-member, minimum-bound, maximum-bound, taken-active, active-taken, used-places}
@@ -97,7 +97,7 @@ module _ (n : ℕ) (t : Table) (history : List ℕ) (y : Sound n t) (i : SlotNo)
   own-well :
       (v : Verdict) → Owning n (t .txids) i id (Observes (t .clock) c m) v → HistoryOf (stateOf t history) →
       WellFormed n (stateOf (afterBy v t (own i id c m)) (historyBy v history (own i id c m)))
-  unfolding afterAccepted afterRefused
+  unfolding afterAccepted consumed spent afterRefused
   own-well v (outside h) p = with-history n t history y p
   own-well v (other h d) p = with-history n t history y p
   own-well v (owned h z o f) p =
@@ -146,8 +146,8 @@ module _
     pub locked-run :
         (v : Verdict) → Observing (t .clock) c m v →
         SnapshotLocked n (stateOf t history) (stateOf (afterBy v t (snap c m)) (historyBy v history (snap c m)))
-        (shownBy v n t m)
-    unfolding afterAccepted
+        (shownBy v n t (snap c m))
+    unfolding afterAccepted shownAccepted
     locked-run v (seen f) =
         record {
           l-snapshot-locked-e1 = λ h. well-observed n t history (with-history n t history y h) c m f;
@@ -179,8 +179,8 @@ module _
         (v : Verdict) → Owning n (t .txids) i id (Observes (t .clock) c m) v →
         CreateTransactionSnapshot n (stateOf t history)
         (stateOf (afterBy v t (own i id c m)) (historyBy v history (own i id c m))) i id (answerBy v t (own i id c m))
-        (shownBy v n t m)
-    unfolding afterAccepted afterRefused answerAccepted told snapshotOf
+        (shownBy v n t (own i id c m))
+    unfolding afterAccepted consumed spent afterRefused answerAccepted shownAccepted told snapshotOf
     own-run v (outside h) =
         record {
           l-own-e1 = with-history n t history y;

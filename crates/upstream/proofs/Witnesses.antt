@@ -11,7 +11,7 @@ use Rattle.kinds.specs.declared.refusal.Verdict.the-variants.{Pass, Refuse}
 use Rattle.rules.specs.declared.Table.{Table}
 use Rattle.rules.specs.Tally.{active, lowestEmpty, minimum, maximum, snapshotOf}
 use Rattle.rules.specs.Tables.{freshTable}
-use Rattle.rules.specs.Calls.{Call, begin, end, own, finish, refusal, afterAccepted, after, shown}
+use Rattle.rules.specs.Calls.{Call, begin, end, own, finish, refusal, afterAccepted, after, shownAccepted, shown}
 use Rattle.rules.specs.History.{run, reached}
 use Rattle.rules.specs.Reservations.{reservationsFrom, reservations}
 use Rattle.rules.specs.Check.{slotsPass, differ, passes, tablePasses}
@@ -53,7 +53,7 @@ unfolding run refusal after freshTable afterAccepted lowestEmpty
 stale-own = refl
 
 pub stale-xmax : shown 2 both-taken (own (place 1) (txid 7) 9 3) ≡ record { xmin = 3; xmax = 8; ids = 4 ∷ 7 ∷ []; count = 2 }
-unfolding run refusal after freshTable afterAccepted lowestEmpty shown snapshotOf active minimum maximum
+unfolding run refusal after freshTable afterAccepted lowestEmpty shownAccepted shown snapshotOf active minimum maximum
 stale-xmax = refl
 
 pub own-end : refusal 2 both-taken (end (place 0) (txid 4)) ≡ Pass
