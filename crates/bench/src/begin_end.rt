@@ -1,9 +1,9 @@
 // A round begins a transaction and ends it again.
 use crate::fill::half_full;
 use crate::fill::put;
-use decide::Begun;
-use decide::Counters;
-use decide::Ended;
+use registration::Begun;
+use changes::Counters;
+use registration::Ended;
 use kinds::Stamp;
 use std::num::wrapping_add_u64;
 
@@ -56,7 +56,7 @@ pub fn lent(layout: u64, rounds: u64) -> u64 {
             sampled_clock: t.sampled_clock,
             line: t.line,
         };
-        let first = decide::decide_begin(&t.txids, was, number);
+        let first = registration::decide_begin(&t.txids, was, number);
         let begun = first.answer;
         let change = first.change;
         let now = change.counters;
@@ -66,7 +66,7 @@ pub fn lent(layout: u64, rounds: u64) -> u64 {
         let Begun::Accepted { slot, txid } = begun else {
             continue;
         };
-        let second = decide::decide_end(&t.txids, now, slot, txid);
+        let second = registration::decide_end(&t.txids, now, slot, txid);
         let ended = second.answer;
         let back = second.change;
         put(&mut t.txids, back.at, back.txid);

@@ -1,7 +1,7 @@
 // A round asks for the oldest retained xmin, one tick later.
 use crate::fill::half_full;
-use decide::Counters;
-use decide::Oldest;
+use changes::Counters;
+use horizon::Oldest;
 use std::num::wrapping_add_u64;
 
 // What a round adds to the checksum.
@@ -40,7 +40,7 @@ pub fn lent(layout: u64, rounds: u64) -> u64 {
             sampled_clock: t.sampled_clock,
             line: t.line,
         };
-        let decided = decide::decide_oldest(&t.txids, &t.snapshot_xmins, was, clock, clock);
+        let decided = horizon::decide_oldest(&t.txids, &t.snapshot_xmins, was, clock, clock);
         let answer = decided.answer;
         let change = decided.change;
         let now = change.counters;

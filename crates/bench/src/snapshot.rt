@@ -1,6 +1,6 @@
 // A round takes a plain snapshot one tick later, and reads one place of its list.
 use crate::fill::half_full;
-use decide::Counters;
+use changes::Counters;
 use kinds::SLOTS;
 use std::num::wrapping_add_u64;
 
@@ -41,7 +41,7 @@ pub fn lent(layout: u64, rounds: u64) -> u64 {
             sampled_clock: t.sampled_clock,
             line: t.line,
         };
-        let decided = decide::decide_snap(&t.txids, was, clock, clock);
+        let decided = snapshots::decide_snap(&t.txids, was, clock, clock);
         let s = decided.snapshot;
         let change = decided.change;
         let now = change.counters;

@@ -7,8 +7,8 @@ use lib.Dec.{leb}
 use lib.ListN.{length}
 use Rattle.kinds.specs.Refusals.{told}
 use Rattle.rules.specs.Answers.{Answer, answerTold}
-use Rattle.decide.specs.declared.snapshot.Taken.{Taken}
-use Rattle.decide.specs.declared.snapshot.Taken.the-variants.{Accepted, Refused}
+use Rattle.snapshots.specs.declared.taken.Taken.{Taken}
+use Rattle.snapshots.specs.declared.taken.Taken.the-variants.{Accepted, Refused}
 use Rattle.text.specs.declared.Put.{Put}
 use Rattle.text.specs.declared.Put.the-variants.{Past, NoRoom}
 use Rattle.text.specs.Line.{lineText}

@@ -1,15 +1,19 @@
 // The numbers that an answer prints, for each case of each answer.
-use decide::Begun;
-use decide::Ended;
-use decide::Oldest;
-use decide::Stamped;
-use decide::Taken;
-use decide::Vacuumed;
+use registration::Begun;
+use registration::Ended;
+use horizon::Oldest;
+use publication::Stamped;
+use snapshots::Taken;
+use horizon::Vacuumed;
 use kinds::Refusal;
 ghost use mathlib.Core.Path.{_≡_};
 ghost use Rattle.kinds.specs.Refusals.{told};
 ghost use Rattle.rules.specs.Answers.{answerTold};
-ghost use Rattle.decide.specs.Papers.{paperBegun, paperEnded, paperOldest, paperVacuumed, paperStamped};
+ghost use Rattle.registration.specs.Begin.{paperBegun};
+ghost use Rattle.registration.specs.End.{paperEnded};
+ghost use Rattle.horizon.specs.Oldests.{paperOldest};
+ghost use Rattle.horizon.specs.Vacuums.{paperVacuumed};
+ghost use Rattle.publication.specs.Stamps.{paperStamped};
 ghost use Rattle.render.specs.Output.{numbers, printedOf, printedTaken};
 
 // Unused values are 0. The line, the count and the ids stand beside it.

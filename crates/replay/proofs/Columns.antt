@@ -6,8 +6,8 @@ use mathlib.Core.List.{List}
 use lib.Dec.{ltb}
 use lib.ListN.{length, set, length-set}
 use Rattle.rules.specs.declared.Table.{Table}
-use Rattle.decide.specs.declared.change.Change.{Change}
-use Rattle.decide.specs.Changes.{applied}
+use Rattle.changes.specs.declared.Change.{Change}
+use Rattle.changes.specs.Changes.{applied}
 use Rattle.replay.specs.Records.{storedAt}
 
 -- a store leaves a column as long as it was

@@ -7,16 +7,28 @@ use Rattle.kinds.specs.declared.SlotNo.{SlotNo}
 use Rattle.kinds.specs.declared.Txid.{Txid}
 use Rattle.rules.specs.declared.Table.{Table}
 use Rattle.rules.specs.Calls.{begin, end, snap, own, oldest, vacuum, stamp, finish}
-use Rattle.decide.specs.declared.change.Counters.{Counters}
-use Rattle.decide.specs.declared.begin.BeginDecision.{BeginDecision}
-use Rattle.decide.specs.declared.end.EndDecision.{EndDecision}
-use Rattle.decide.specs.declared.stamp.StampDecision.{StampDecision}
-use Rattle.decide.specs.declared.snapshot.SnapshotDecision.{SnapshotDecision}
-use Rattle.decide.specs.declared.oldest.OldestDecision.{OldestDecision}
-use Rattle.decide.specs.declared.oldest.VacuumDecision.{VacuumDecision}
-use Rattle.decide.specs.Changes.{countersOf}
-use Rattle.decide.specs.Papers.{paperBegun, paperEnded, paperTaken, paperOldest, paperVacuumed, paperStamped, Decided}
-use Rattle.decide.specs.Decisions.{beginDecision, endDecision, stampDecision, finishDecision, snapDecision, ownDecision, oldestDecision, vacuumDecision}
+use Rattle.changes.specs.declared.Counters.{Counters}
+use Rattle.registration.specs.declared.begin.BeginDecision.{BeginDecision}
+use Rattle.registration.specs.declared.end.EndDecision.{EndDecision}
+use Rattle.publication.specs.declared.stamp.StampDecision.{StampDecision}
+use Rattle.snapshots.specs.declared.taken.SnapshotDecision.{SnapshotDecision}
+use Rattle.horizon.specs.declared.oldest.OldestDecision.{OldestDecision}
+use Rattle.horizon.specs.declared.line.VacuumDecision.{VacuumDecision}
+use Rattle.changes.specs.Changes.{countersOf}
+use Rattle.registration.specs.Begin.{paperBegun}
+use Rattle.registration.specs.End.{paperEnded}
+use Rattle.snapshots.specs.Answers.{paperTaken}
+use Rattle.horizon.specs.Oldests.{paperOldest}
+use Rattle.horizon.specs.Vacuums.{paperVacuumed}
+use Rattle.publication.specs.Stamps.{paperStamped}
+use Rattle.changes.specs.Lent.{Decided}
+use Rattle.registration.specs.Begin.{beginDecision}
+use Rattle.registration.specs.End.{endDecision}
+use Rattle.publication.specs.Stamps.{stampDecision}
+use Rattle.publication.specs.Finish.{finishDecision}
+use Rattle.snapshots.specs.Decisions.{snapDecision, ownDecision}
+use Rattle.horizon.specs.Oldests.{oldestDecision}
+use Rattle.horizon.specs.Vacuums.{vacuumDecision}
 use Rattle.decide.proofs.Rules.{begin-rules, end-rules, stamp-rules, finish-rules, snap-rules, own-rules, oldest-rules, vacuum-rules}
 use Rattle.replay.specs.Records.{Lent}
 

@@ -15,24 +15,31 @@ use Rattle.rules.specs.Tally.{active, snapshotOf}
 use Rattle.rules.specs.Tests.{ownerTest, observationTest}
 use Rattle.rules.specs.Answers.{Answer}
 use Rattle.rules.specs.Calls.{Call, after, answer}
-use Rattle.decide.specs.declared.change.Counters.{Counters}
-use Rattle.decide.specs.declared.change.Change.{Change}
-use Rattle.decide.specs.declared.begin.Begun.{Begun}
-use Rattle.decide.specs.declared.begin.Begun.the-variants.{Accepted as Begins, Refused as BeginRefused}
-use Rattle.decide.specs.declared.end.Ended.{Ended}
-use Rattle.decide.specs.declared.end.Ended.the-variants.{Accepted as Ends, Refused as EndRefused}
-use Rattle.decide.specs.declared.snapshot.Taken.{Taken}
-use Rattle.decide.specs.declared.snapshot.Taken.the-variants.{Accepted as Takes, Refused as TakeRefused}
-use Rattle.decide.specs.declared.snapshot.SnapshotDecision.{SnapshotDecision}
-use Rattle.decide.specs.declared.oldest.Oldest.{Oldest}
-use Rattle.decide.specs.declared.oldest.Oldest.the-variants.{Xmin, Refused as OldestRefused}
-use Rattle.decide.specs.declared.oldest.Vacuumed.{Vacuumed}
-use Rattle.decide.specs.declared.oldest.Vacuumed.the-variants.{Line, Refused as VacuumRefused}
-use Rattle.decide.specs.declared.stamp.Stamped.{Stamped}
-use Rattle.decide.specs.declared.stamp.Stamped.the-variants.{Accepted as Stamps, Refused as StampRefused}
-use Rattle.decide.specs.Changes.{applied}
-use Rattle.decide.specs.Papers.{paperBegun, paperEnded, paperTaken, paperOldest, paperVacuumed, paperStamped, Decided}
-use Rattle.decide.specs.Decisions.{snapshotRefused, snapBy, snapDecision, ownBy, ownDecision}
+use Rattle.changes.specs.declared.Counters.{Counters}
+use Rattle.changes.specs.declared.Change.{Change}
+use Rattle.registration.specs.declared.begin.Begun.{Begun}
+use Rattle.registration.specs.declared.begin.Begun.the-variants.{Accepted as Begins, Refused as BeginRefused}
+use Rattle.registration.specs.declared.end.Ended.{Ended}
+use Rattle.registration.specs.declared.end.Ended.the-variants.{Accepted as Ends, Refused as EndRefused}
+use Rattle.snapshots.specs.declared.taken.Taken.{Taken}
+use Rattle.snapshots.specs.declared.taken.Taken.the-variants.{Accepted as Takes, Refused as TakeRefused}
+use Rattle.snapshots.specs.declared.taken.SnapshotDecision.{SnapshotDecision}
+use Rattle.horizon.specs.declared.oldest.Oldest.{Oldest}
+use Rattle.horizon.specs.declared.oldest.Oldest.the-variants.{Xmin, Refused as OldestRefused}
+use Rattle.horizon.specs.declared.line.Vacuumed.{Vacuumed}
+use Rattle.horizon.specs.declared.line.Vacuumed.the-variants.{Line, Refused as VacuumRefused}
+use Rattle.publication.specs.declared.stamp.Stamped.{Stamped}
+use Rattle.publication.specs.declared.stamp.Stamped.the-variants.{Accepted as Stamps, Refused as StampRefused}
+use Rattle.changes.specs.Changes.{applied}
+use Rattle.registration.specs.Begin.{paperBegun}
+use Rattle.registration.specs.End.{paperEnded}
+use Rattle.snapshots.specs.Answers.{paperTaken}
+use Rattle.horizon.specs.Oldests.{paperOldest}
+use Rattle.horizon.specs.Vacuums.{paperVacuumed}
+use Rattle.publication.specs.Stamps.{paperStamped}
+use Rattle.changes.specs.Lent.{Decided}
+use Rattle.snapshots.specs.Answers.{snapshotRefused}
+use Rattle.snapshots.specs.Decisions.{snapBy, snapDecision, ownBy, ownDecision}
 use Rattle.text.specs.declared.Put.{Put}
 use Rattle.render.specs.declared.printed.Printed.{Printed}
 use Rattle.render.specs.Output.{printedOf, printedTaken, eightLines, inLines, answerText, putText, leftText}

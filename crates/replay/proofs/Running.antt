@@ -8,7 +8,7 @@ use native.Mathlib.Omega.{arith}
 use lib.ListN.{length, length-append, length-take, length-drop}
 use Rattle.rules.specs.declared.Table.{Table}
 use Rattle.rules.specs.Calls.{after, answer}
-use Rattle.decide.specs.Changes.{applied}
+use Rattle.changes.specs.Changes.{applied}
 use Rattle.text.specs.declared.Put.the-variants.{Past, NoRoom}
 use Rattle.text.specs.Write.{spliced}
 use Rattle.text.proofs.Splice.{splice-none, splice-append}

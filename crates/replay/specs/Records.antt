@@ -7,8 +7,8 @@ use lib.Dec.{ltb, leb}
 use lib.ListN.{length, set}
 use Rattle.rules.specs.declared.Table.{Table}
 use Rattle.rules.specs.Calls.{Call, after, answer}
-use Rattle.decide.specs.declared.change.Counters.{Counters}
-use Rattle.decide.specs.Changes.{countersOf, applied}
+use Rattle.changes.specs.declared.Counters.{Counters}
+use Rattle.changes.specs.Changes.{countersOf, applied}
 use Rattle.render.specs.Output.{putText, leftText}
 use Rattle.text.specs.Line.{lineText}
 use Rattle.text.specs.Write.{spliced, written}

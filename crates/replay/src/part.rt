@@ -1,6 +1,6 @@
 // As many records as have room in a lent buffer, run one after the other on a table that the loop owns.
 use crate::record::run_record;
-use decide::Counters;
+use changes::Counters;
 use kinds::SLOTS;
 use rules::Table;
 use text::Put;

@@ -1,6 +1,6 @@
 // One record: its call decided on the lent columns, and its answer written. The change is the caller's to make.
-use decide::Change;
-use decide::Counters;
+use changes::Change;
+use changes::Counters;
 use kinds::SlotNo;
 use kinds::Stamp;
 use kinds::Txid;
@@ -20,7 +20,7 @@ pub struct Outcome {
 fn run_begin(txids: &[u64], was: Counters, number: Stamp, buf: &mut [u8], at: usize) -> Outcome
     ensures { λ o. do ⌜ RanBy (← ⟦kinds::SLOTS⟧ .entry) (now (txids .entry)) was (begin number) (now (buf .entry)) at (now (buf .exit)) o ⌝ }
 {
-    let decided = decide::decide_begin(txids, was, number);
+    let decided = registration::decide_begin(txids, was, number);
     let change = decided.change;
     let answer = decided.answer;
     let printed = render::of_begun(answer);
@@ -39,7 +39,7 @@ fn run_end(
 ) -> Outcome
     ensures { λ o. do ⌜ RanBy (← ⟦kinds::SLOTS⟧ .entry) (now (txids .entry)) was (end slot id) (now (buf .entry)) at (now (buf .exit)) o ⌝ }
 {
-    let decided = decide::decide_end(txids, was, slot, id);
+    let decided = registration::decide_end(txids, was, slot, id);
     let change = decided.change;
     let answer = decided.answer;
     let printed = render::of_ended(answer);
@@ -59,7 +59,7 @@ fn run_oldest<'a>(
 ) -> Outcome
     ensures { λ o. do ⌜ RanByBoth (← ⟦kinds::SLOTS⟧ .entry) (now (txids .entry)) (now (xmins .entry)) was (oldest clock sample) (now (buf .entry)) at (now (buf .exit)) o ⌝ }
 {
-    let decided = decide::decide_oldest(txids, xmins, was, clock, sample);
+    let decided = horizon::decide_oldest(txids, xmins, was, clock, sample);
     let change = decided.change;
     let answer = decided.answer;
     let printed = render::of_oldest(answer);
@@ -79,7 +79,7 @@ fn run_vacuum<'a>(
 ) -> Outcome
     ensures { λ o. do ⌜ RanByBoth (← ⟦kinds::SLOTS⟧ .entry) (now (txids .entry)) (now (xmins .entry)) was (vacuum clock sample) (now (buf .entry)) at (now (buf .exit)) o ⌝ }
 {
-    let decided = decide::decide_vacuum(txids, xmins, was, clock, sample);
+    let decided = horizon::decide_vacuum(txids, xmins, was, clock, sample);
     let change = decided.change;
     let answer = decided.answer;
     let printed = render::of_vacuumed(answer);
@@ -91,7 +91,7 @@ fn run_vacuum<'a>(
 fn run_stamp(txids: &[u64], was: Counters, number: Stamp, buf: &mut [u8], at: usize) -> Outcome
     ensures { λ o. do ⌜ RanBy (← ⟦kinds::SLOTS⟧ .entry) (now (txids .entry)) was (stamp number) (now (buf .entry)) at (now (buf .exit)) o ⌝ }
 {
-    let decided = decide::decide_stamp(was, number);
+    let decided = publication::decide_stamp(was, number);
     let change = decided.change;
     let answer = decided.answer;
     let printed = render::of_stamped(answer);
@@ -111,7 +111,7 @@ fn run_finish(
 ) -> Outcome
     ensures { λ o. do ⌜ RanBy (← ⟦kinds::SLOTS⟧ .entry) (now (txids .entry)) was (finish slot id number) (now (buf .entry)) at (now (buf .exit)) o ⌝ }
 {
-    let decided = decide::decide_finish(txids, was, slot, id, number);
+    let decided = publication::decide_finish(txids, was, slot, id, number);
     let change = decided.change;
     let answer = decided.answer;
     let printed = render::of_stamped(answer);
@@ -130,7 +130,7 @@ fn run_snap(
 ) -> Outcome
     ensures { λ o. do ⌜ RanBy (← ⟦kinds::SLOTS⟧ .entry) (now (txids .entry)) was (snap clock sample) (now (buf .entry)) at (now (buf .exit)) o ⌝ }
 {
-    let decided = decide::decide_snap(txids, was, clock, sample);
+    let decided = snapshots::decide_snap(txids, was, clock, sample);
     let change = decided.change;
     let answer = decided.answer;
     let snapshot = decided.snapshot;
@@ -153,7 +153,7 @@ fn run_own(
 ) -> Outcome
     ensures { λ o. do ⌜ RanBy (← ⟦kinds::SLOTS⟧ .entry) (now (txids .entry)) was (own slot id clock sample) (now (buf .entry)) at (now (buf .exit)) o ⌝ }
 {
-    let decided = decide::decide_own(txids, was, slot, id, clock, sample);
+    let decided = snapshots::decide_own(txids, was, slot, id, clock, sample);
     let change = decided.change;
     let answer = decided.answer;
     let snapshot = decided.snapshot;
