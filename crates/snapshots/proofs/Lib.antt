@@ -1,3 +1,4 @@
+pub mod Lists
 pub mod PlainRules
 pub mod OwnRules
 pub mod Unique

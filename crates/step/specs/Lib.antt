@@ -1,0 +1,4 @@
+pub mod Named
+pub mod Step
+pub mod Plain
+pub mod Listing

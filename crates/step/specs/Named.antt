@@ -1,0 +1,27 @@
+-- The call that a record names, and what it prints.
+use Prim.Native.Nat.{ℕ}
+use mathlib.Core.List.{List}
+use Rattle.rules.specs.declared.Table.{Table}
+use Rattle.rules.specs.Calls.{Call, begin, end, snap, own, oldest, vacuum, stamp, finish, after, answer}
+use Rattle.trace.specs.declared.Op.{Op}
+use Rattle.trace.specs.declared.Op.the-variants.{Begin, End, Snap, Own, Oldest, Vacuum, Stamp, Finish}
+use Rattle.trace.specs.declared.Record.{Record}
+use Rattle.render.specs.Output.{answerText}
+
+-- the call with the fields that its op reads
+abbrev pub callBy : Op → Record → Call
+callBy Begin r = begin (record { 0 = r .stamp })
+callBy End r = end (record { 0 = r .slot }) (record { 0 = r .id })
+callBy Snap r = snap (r .clock) (r .sample)
+callBy Own r = own (record { 0 = r .slot }) (record { 0 = r .id }) (r .clock) (r .sample)
+callBy Oldest r = oldest (r .clock) (r .sample)
+callBy Vacuum r = vacuum (r .clock) (r .sample)
+callBy Stamp r = stamp (record { 0 = r .stamp })
+callBy Finish r = finish (record { 0 = r .slot }) (record { 0 = r .id }) (record { 0 = r .stamp })
+
+unfoldable pub callOf : Record → Call
+callOf r = callBy (r .op) r
+
+-- what a call prints: its answer, and the line after it
+unfoldable pub outputOf : ℕ → Table → Call → List ℕ
+outputOf n t c = answerText (after n t c .line) (answer n t c)
