@@ -16,10 +16,10 @@ use Rattle.text.specs.Line.{lineText}
 use Rattle.text.specs.Write.{putAt, written}
 use Rattle.render.specs.Output.{answerKey, Wrote}
 use Rattle.render.proofs.Wrote.{line-wrote, line-put-there, wrote-then}
+use Rattle.replay.specs.Replay.{recordsKey, atKey, brokenText}
+use Rattle.replay.specs.Into.{BrokenFits, EndFits}
 use Rattle.replay.specs.declared.into.Replayed.the-variants.{Written}
 use Rattle.replay.specs.declared.into.Replayed.the-variants.{NoRoom as Short}
-use Rattle.replay.specs.Replay.{recordsKey, atKey, brokenText}
-use Rattle.replay.specs.Records.{BrokenFits, EndFits}
 
 module _ (line : ℕ) (xs : List ℕ) where
   pub broken-short : length xs < 33 → BrokenFits line xs xs (Short 0)

@@ -1,6 +1,3 @@
-pub mod Lent
-pub mod Ran
-pub mod Columns
 pub mod Running
 pub mod Ends
 pub mod Whole

@@ -13,7 +13,10 @@ use Rattle.text.specs.Line.{lineText}
 use Rattle.trace.specs.declared.Record.{Record}
 use Rattle.trace.specs.Trace.{Found, Records, Breaks, traceOf}
 use Rattle.render.specs.Output.{fits}
-use Rattle.replay.specs.Replay.{callOf, outputOf, tableAfter, textOf, recordsKey, brokenText, replayBy, replayOf, Part, withText, partOf, whole, cut, intoEnd, intoBy, intoOf}
+use Rattle.step.specs.Named.{callOf, outputOf}
+use Rattle.replay.specs.Replay.{tableAfter, textOf, recordsKey, brokenText, replayBy, replayOf}
+use Rattle.replay.specs.Part.{Part, withText, partOf}
+use Rattle.replay.specs.Into.{whole, cut, intoEnd, intoBy, intoOf}
 
 -- what a part printed, and then what its table prints for the records it left, is what all the records print
 pub record Joins (n : ℕ) (t : Table) (rs : List Record) (p : Part) : Type 0 where

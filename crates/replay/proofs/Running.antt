@@ -18,9 +18,10 @@ use Rattle.trace.specs.Record.{recordAt}
 use Rattle.trace.specs.Trace.{recordsFrom, Boundary}
 use Rattle.trace.proofs.Loop.{next-record, none-left}
 use Rattle.render.specs.Output.{fits, putText, leftText}
-use Rattle.replay.specs.declared.record.Outcome.{Outcome}
-use Rattle.replay.specs.Replay.{callOf, outputOf, withText, partOf}
-use Rattle.replay.specs.Records.{Ran, PartFits}
+use Rattle.step.specs.Named.{callOf, outputOf}
+use Rattle.step.specs.Step.{Ran}
+use Rattle.replay.specs.Part.{withText, partOf, PartFits}
+use Rattle.step.specs.declared.Outcome.{Outcome}
 
 -- a text that leaves the length as it was ends inside
 inside-of : (xs : List ℕ) (at : ℕ) (t : List ℕ) → at ≤ length xs → length (spliced xs at t) ≡ length xs → at + length t ≤ length xs

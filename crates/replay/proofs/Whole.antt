@@ -17,10 +17,11 @@ use Rattle.trace.specs.declared.Reading.the-variants as reads
 use Rattle.trace.specs.Trace.{Found, Records, Breaks, traceOf, counted, reading, recordsFrom, firstRecord}
 use Rattle.trace.proofs.Grammar.{begun}
 use Rattle.trace.proofs.Loop.{none-left, end-only}
+use Rattle.replay.specs.Replay.{recordsKey, brokenText}
+use Rattle.replay.specs.Part.{Part, partOf, PartFits}
+use Rattle.replay.specs.Into.{Into, whole, cut, textIn, intoEnd, intoOf, BrokenFits, EndFits, replayed, IntoFits}
 use Rattle.replay.specs.declared.into.Replayed.{Replayed}
 use Rattle.replay.specs.declared.into.Replayed.the-variants.{Written, NoRoom}
-use Rattle.replay.specs.Replay.{recordsKey, brokenText, Part, partOf, Into, whole, cut, textIn, intoEnd, intoOf}
-use Rattle.replay.specs.Records.{PartFits, BrokenFits, EndFits, replayed, IntoFits}
 
 broken-found : (f : Found) {line : ℕ} → counted f ≡ reads.Broken line → f ≡ Breaks line
 broken-found (Records rs) e = let z : _≡_ {A = ℕ} 0 1 = cc in absurd (omega arith)

@@ -1,2 +1,3 @@
 pub mod Replay
-pub mod Records
+pub mod Part
+pub mod Into

@@ -2,7 +2,7 @@
 use crate::part::run_part;
 use text::Put;
 use trace::Reading;
-ghost use Rattle.replay.specs.Records.{IntoFits, BrokenFits, EndFits};
+ghost use Rattle.replay.specs.Into.{IntoFits, BrokenFits, EndFits};
 
 // The length of the whole output; or, where it had no room, of the part of it that was written.
 pub enum Replayed {

@@ -2,7 +2,6 @@
 mod into;
 mod out;
 mod part;
-mod record;
 
 pub use into::Replayed;
 pub use into::replay_into;

@@ -1,28 +1,16 @@
 // As many records as have room in a lent buffer, run one after the other on a table that the loop owns.
-use crate::record::run_record;
 use changes::Counters;
-use kinds::SLOTS;
 use rules::Table;
 use text::Put;
 use trace::RecordAt;
-ghost use mathlib.Core.Path.{_≡_};
 ghost use Rattle.trace.specs.Trace.{Boundary};
-ghost use Rattle.replay.specs.Records.{storedAt, PartFits};
+ghost use Rattle.replay.specs.Part.{PartFits};
 
 // Where a part of a run stopped: the table, the place of the next record, the bytes written.
 pub struct Progress {
     pub table: Table,
     pub at: usize,
     pub filled: usize,
-}
-
-// Writes place i of a column, where the column has it.
-fn store_at(column: &mut [u64; SLOTS], i: usize, x: u64)
-    ensures { λ _. do ⌜ now (column .exit) ≡ storedAt (← ⟦kinds::SLOTS⟧ .entry) (now (column .entry)) i x ⌝ }
-{
-    if i < SLOTS {
-        column[i] = x;
-    }
 }
 
 // Runs the records from `from` on until none is left, or the next one has no room.
@@ -46,7 +34,7 @@ pub fn run_part(s: &[u8], from: usize, table: Table, buf: &mut [u8]) -> Progress
             sampled_clock: t.sampled_clock,
             line: t.line,
         };
-        let ran = run_record(&t.txids, &t.snapshot_xmins, was, r, buf, filled);
+        let ran = step::run_record(&t.txids, &t.snapshot_xmins, was, r, buf, filled);
         let put = ran.put;
         let change = ran.change;
         let Put::Past(past) = put else {
@@ -56,8 +44,8 @@ pub fn run_part(s: &[u8], from: usize, table: Table, buf: &mut [u8]) -> Progress
                 filled,
             };
         };
-        store_at(&mut t.txids, change.at, change.txid);
-        store_at(&mut t.snapshot_xmins, change.at, change.snapshot_xmin);
+        changes::store_at(&mut t.txids, change.at, change.txid);
+        changes::store_at(&mut t.snapshot_xmins, change.at, change.snapshot_xmin);
         let counters = change.counters;
         t.clock = counters.clock;
         t.sampled_clock = counters.sampled_clock;

@@ -1,7 +1,7 @@
 use native.Mathlib.Nat.{le-of-eq}
 use Rattle.trace.proofs.Records.{moves}
 use Rattle.trace.proofs.Loop.{none-broken}
-use Rattle.replay.proofs.Columns.{stored-length, stored-applied}
+use Rattle.changes.proofs.Stored.{stored-length, stored-applied}
 use Prim.Native.Nat.{_-_}
 use mathlib.Core.Path.{_≡_, refl, sym, ap, _∙_}
 use native.Mathlib.Omega.{arith}
@@ -60,7 +60,7 @@ returns-2 c =
     let size = simp length-map at (s .good .1 .1 .0 .1 .1 .0 .1 .0 .1) in
     let q = sym (c .before .before .before .before .before .before .before .before .before .before .before .before .before .before .before .next-record .ensures) ∙ c .before .before .before .before .before .before .before .before .before .before .before .before .before .found .given .1 in
     let ran = c .before .before .before .before .before .run-record in
-    let step = ran .ensures (l .t) (record { column = refl; counters = refl; few = le-of-eq (l .inv .1 ∙ size) }) refl in
+    let step = ran .ensures (l .t) (record { column = refl; counters = refl }) refl (le-of-eq (l .inv .1 ∙ size)) in
     running-full _ _ _ _ _ (rw size at (l .inv .2 h)) _ _ q step (c .enum-told2 .given .1)
 
 store-at-requires : tie.Need-store-at-requires Inv-loop μ-loop
@@ -90,7 +90,7 @@ loop-again c =
           let size = simp length-map at (s .good .1 .1 .0 .1 .1 .0 .1 .0 .1) in
           let q = sym (c .before .before .before .before .before .before .before .before .before .before .before .before .before .before .before .before .before .before .before .before .before .next-record .ensures) ∙ c .before .before .before .before .before .before .before .before .before .before .before .before .before .before .before .before .before .before .before .found .given .1 in
           let ran = c .before .before .before .before .before .before .before .before .before .before .before .run-record in
-          let step = ran .ensures (l .t) (record { column = refl; counters = refl; few = le-of-eq (l .inv .1 ∙ size) }) refl in
+          let step = ran .ensures (l .t) (record { column = refl; counters = refl }) refl (le-of-eq (l .inv .1 ∙ size)) in
           rw size (running-more _ _ _ _ _ (rw size at (l .inv .2 h)) _ _ q step (c .before .before .before .before .before .before .put .given .1) kept (stored-applied _ (l .t) (ran .result .change) one two) (long ∙ l .inv .1 ∙ size)),
     )
 
