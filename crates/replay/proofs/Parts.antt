@@ -9,11 +9,12 @@ use lib.ListN.{length}
 use Rattle.rules.specs.declared.Table.{Table}
 use Rattle.rules.specs.Calls.{after, answer}
 use Rattle.rules.specs.Tables.{freshTable}
+use Rattle.text.specs.Keys.{recordsKey}
 use Rattle.text.specs.Line.{lineText}
 use Rattle.trace.specs.declared.Record.{Record}
 use Rattle.trace.specs.Trace.{Found, Records, Breaks, traceOf}
 use Rattle.render.specs.Output.{fits}
-use Rattle.replay.specs.Replay.{callOf, outputOf, tableAfter, textOf, recordsKey, brokenText, replayBy, replayOf, Part, withText, partOf, whole, cut, intoEnd, intoBy, intoOf}
+use Rattle.replay.specs.Replay.{callOf, outputOf, tableAfter, textOf, brokenText, replayBy, replayOf, Part, withText, partOf, whole, cut, intoEnd, intoBy, intoOf}
 
 -- what a part printed, and then what its table prints for the records it left, is what all the records print
 pub record Joins (n : ℕ) (t : Table) (rs : List Record) (p : Part) : Type 0 where

@@ -9,6 +9,7 @@ use lib.Dec.{leb}
 use lib.ListN.{length, length-append}
 use Rattle.rules.specs.declared.Table.{Table}
 use Rattle.rules.specs.Tables.{freshTable}
+use Rattle.text.specs.Keys.{recordsKey}
 use Rattle.text.specs.Line.{lineText}
 use Rattle.text.specs.Write.{spliced, written}
 use Rattle.text.proofs.Splice.{splice-none, splice-append}
@@ -19,7 +20,7 @@ use Rattle.trace.proofs.Grammar.{begun}
 use Rattle.trace.proofs.Loop.{none-left, end-only}
 use Rattle.replay.specs.declared.into.Replayed.{Replayed}
 use Rattle.replay.specs.declared.into.Replayed.the-variants.{Written, NoRoom}
-use Rattle.replay.specs.Replay.{recordsKey, brokenText, Part, partOf, Into, whole, cut, textIn, intoEnd, intoOf}
+use Rattle.replay.specs.Replay.{brokenText, Part, partOf, Into, whole, cut, textIn, intoEnd, intoOf}
 use Rattle.replay.specs.Records.{PartFits, BrokenFits, EndFits, replayed, IntoFits}
 
 broken-found : (f : Found) {line : ℕ} → counted f ≡ reads.Broken line → f ≡ Breaks line

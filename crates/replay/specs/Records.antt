@@ -11,11 +11,12 @@ use Rattle.rules.specs.Calls.{Call, after, answer}
 use Rattle.decide.specs.declared.change.Counters.{Counters}
 use Rattle.decide.specs.Changes.{countersOf, applied}
 use Rattle.render.specs.Output.{putText, leftText}
+use Rattle.text.specs.Keys.{recordsKey}
 use Rattle.text.specs.Line.{lineText}
 use Rattle.text.specs.Write.{spliced, written}
 use Rattle.trace.specs.declared.Record.{Record}
 use Rattle.trace.specs.Trace.{recordsFrom, Boundary}
-use Rattle.replay.specs.Replay.{callOf, outputOf, partOf, recordsKey, brokenText, Into, whole, cut, textIn, intoOf}
+use Rattle.replay.specs.Replay.{callOf, outputOf, partOf, brokenText, Into, whole, cut, textIn, intoOf}
 use Rattle.replay.specs.declared.record.Outcome.{Outcome}
 use Rattle.replay.specs.declared.part.Progress.{Progress}
 use Rattle.replay.specs.declared.into.Replayed.{Replayed}

@@ -3,10 +3,11 @@ use Prim.Native.Nat.{ℕ}
 use mathlib.Core.Path.{_≡_, refl}
 use mathlib.Core.List.{List, [], _∷_}
 use mathlib.Core.Bool.{true}
+use Rattle.text.specs.Keys.{slotKey, idKey, stampKey, clockKey, sampleKey}
 use Rattle.text.specs.Line.{oneLine}
 use Rattle.text.proofs.Lines.{line-one}
 use Rattle.trace.specs.Op.{opLine}
-use Rattle.trace.specs.Record.{slotKey, idKey, stampKey, clockKey, sampleKey, recordLines}
+use Rattle.trace.specs.Record.{recordLines}
 use Rattle.trace.specs.Trace.{linesOf, traceLines}
 use Rattle.trace.specs.declared.Op.{Op}
 use Rattle.trace.specs.declared.Op.the-variants.{Begin, End, Snap, Own, Oldest, Vacuum, Stamp, Finish}

@@ -3,6 +3,7 @@ use Prim.Native.Nat.{ℕ, _-_, _^_, _≤_}
 use mathlib.Core.Bool.{Bool, cond}
 use mathlib.Core.List.{List, [], _∷_}
 use lib.ListN.{getD}
+use Rattle.text.specs.Keys.{slotKey, idKey, stampKey, clockKey, sampleKey}
 use Rattle.text.specs.Line.{Rule, Lines, Read, Breaks, lineText, linesAt, joined}
 use Rattle.trace.specs.Op.{readsStamp, readsOwner, readsClock, opLine, opAt}
 use Rattle.trace.specs.declared.Op.{Op}
@@ -11,26 +12,6 @@ use Rattle.trace.specs.declared.ops.OpAt.the-variants as op
 use Rattle.trace.specs.declared.Record.{Record}
 use Rattle.trace.specs.declared.RecordAt.{RecordAt}
 use Rattle.trace.specs.declared.RecordAt.the-variants.{Is, Broken}
-
--- `slot=`
-abbrev pub slotKey : List ℕ
-slotKey = 115 ∷ 108 ∷ 111 ∷ 116 ∷ 61 ∷ []
-
--- `id=`
-abbrev pub idKey : List ℕ
-idKey = 105 ∷ 100 ∷ 61 ∷ []
-
--- `stamp=`
-abbrev pub stampKey : List ℕ
-stampKey = 115 ∷ 116 ∷ 97 ∷ 109 ∷ 112 ∷ 61 ∷ []
-
--- `clock=`
-abbrev pub clockKey : List ℕ
-clockKey = 99 ∷ 108 ∷ 111 ∷ 99 ∷ 107 ∷ 61 ∷ []
-
--- `sample=`
-abbrev pub sampleKey : List ℕ
-sampleKey = 115 ∷ 97 ∷ 109 ∷ 112 ∷ 108 ∷ 101 ∷ 61 ∷ []
 
 abbrev pub most : ℕ
 most = 2 ^ 64 - 1

@@ -5,7 +5,7 @@ use mathlib.Core.Bool.{cond}
 use mathlib.Core.List.{List, [], _∷_, _++_}
 use lib.Dec.{ltb, eqb}
 use lib.ListN.{length, take}
-use Rattle.text.specs.Bytes.{starts}
+use Rattle.text.specs.Bytes.{bytes, starts}
 use Rattle.text.specs.Line.{joined}
 use Rattle.trace.specs.Record.{Expressible, recordLines, recordAt}
 use Rattle.trace.specs.declared.Record.{Record}
@@ -14,9 +14,9 @@ use Rattle.trace.specs.declared.RecordAt.the-variants as one
 use Rattle.trace.specs.declared.Reading.{Reading}
 use Rattle.trace.specs.declared.Reading.the-variants.{Whole, Broken}
 
--- the first line, `trace=proc-1` and its newline
+-- the first line, with its newline
 abbrev pub header : List ℕ
-header = 116 ∷ 114 ∷ 97 ∷ 99 ∷ 101 ∷ 61 ∷ 112 ∷ 114 ∷ 111 ∷ 99 ∷ 45 ∷ 49 ∷ 10 ∷ []
+header = bytes "trace=proc-1\n"
 
 abbrev pub firstRecord : ℕ
 firstRecord = length header
