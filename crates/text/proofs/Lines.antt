@@ -131,11 +131,12 @@ pub record Opening (s : List ℕ) (at line : ℕ) (rs : List Rule) (k : ℕ) : T
 abbrev Openings : List ℕ → ℕ → List Rule → ℕ → Type 0
 Openings s line rs k = (a : ℕ) → linesAt s a (line + 1) rs ≡ Breaks k → Opening s a (line + 1) rs k
 
-zeros : List Rule → List ℕ
+-- zeros keep every rule
+unfoldable pub zeros : List Rule → List ℕ
 zeros [] = []
 zeros (r ∷ rs) = 0 ∷ zeros rs
 
-zeros-within : (rs : List Rule) → Within rs (zeros rs)
+pub zeros-within : (rs : List Rule) → Within rs (zeros rs)
 unfolding zeros
 zeros-within [] = none
 zeros-within (r ∷ rs) = also {r = r} {n = 0} (omega arith) (omega arith) (zeros-within rs)

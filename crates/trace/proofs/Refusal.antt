@@ -12,11 +12,11 @@ use lib.ListN.{length, take, drop, length-append, take-append-drop}
 use lib.Seq.{take-append-add, take-append-le, take-take}
 use borrow.Author.Tests.{lt-ltb, le-ltb}
 use Rattle.text.specs.Bytes.{starts}
-use Rattle.text.specs.Line.{joined}
+use Rattle.text.specs.Line.{lineTexts, joined}
 use Rattle.text.proofs.Bytes.{starts-of, starts-text}
 use Rattle.text.proofs.Places.{rest-of}
 use Rattle.text.proofs.Lines.{joined-append}
-use Rattle.trace.specs.Record.{recordLines, recordText, recordAt}
+use Rattle.trace.specs.Record.{rules, recordLines, recordText, recordAt}
 use Rattle.trace.specs.Trace.{header, firstRecord, longest, linesOf, traceLines, traceText, AllExpressible, none, also, Found, Records, Breaks, withFirst, foundFrom, traceOf, counted, reading, Opens, FirstBroken}
 use Rattle.trace.specs.declared.Record.{Record}
 use Rattle.trace.specs.declared.RecordAt.the-variants.{Is, Broken}
@@ -26,7 +26,7 @@ use Rattle.trace.proofs.Grammar.{accepted}
 use Rattle.trace.proofs.Walk.{found-next, along, At, ended, broke, went, look, no-records}
 
 six : (r : Record) → length (recordLines r) ≡ 6
-unfolding recordLines
+unfolding recordLines lineTexts rules
 six r = refl
 
 -- the first lines of a record and of those after it

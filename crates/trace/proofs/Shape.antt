@@ -4,10 +4,10 @@ use mathlib.Core.Path.{_≡_, refl}
 use mathlib.Core.List.{List, [], _∷_}
 use mathlib.Core.Bool.{true}
 use Rattle.text.specs.Keys.{slotKey, idKey, stampKey, clockKey, sampleKey}
-use Rattle.text.specs.Line.{oneLine}
+use Rattle.text.specs.Line.{lineTexts, oneLine}
 use Rattle.text.proofs.Lines.{line-one}
 use Rattle.trace.specs.Op.{opLine}
-use Rattle.trace.specs.Record.{recordLines}
+use Rattle.trace.specs.Record.{rules, recordLines}
 use Rattle.trace.specs.Trace.{linesOf, traceLines}
 use Rattle.trace.specs.declared.Op.{Op}
 use Rattle.trace.specs.declared.Op.the-variants.{Begin, End, Snap, Own, Oldest, Vacuum, Stamp, Finish}
@@ -29,7 +29,7 @@ op-one Stamp = refl
 op-one Finish = refl
 
 lines-one : (rs : List Record) → AllLines (linesOf rs)
-unfolding linesOf recordLines oneLine
+unfolding linesOf recordLines lineTexts rules oneLine
 lines-one [] = none
 lines-one (r ∷ rs) =
     also (op-one (r .op))

@@ -1,10 +1,10 @@
 -- A record of six lines: its text, and what is read of a text. Assumes nothing.
-use Prim.Native.Nat.{ℕ, _-_, _^_, _≤_}
+use Prim.Native.Nat.{ℕ, _-_, _^_}
 use mathlib.Core.Bool.{Bool, cond}
 use mathlib.Core.List.{List, [], _∷_}
 use lib.ListN.{getD}
 use Rattle.text.specs.Keys.{slotKey, idKey, stampKey, clockKey, sampleKey}
-use Rattle.text.specs.Line.{Rule, Lines, Read, Breaks, lineText, linesAt, joined}
+use Rattle.text.specs.Line.{Rule, Within, Lines, Read, Breaks, lineTexts, linesAt, joined}
 use Rattle.trace.specs.Op.{readsStamp, readsOwner, readsClock, opLine, opAt}
 use Rattle.trace.specs.declared.Op.{Op}
 use Rattle.trace.specs.declared.ops.OpAt.{OpAt}
@@ -33,29 +33,22 @@ rules o =
     ∷ (record { key = sampleKey; most = limit (readsClock o) most })
     ∷ []
 
+-- the numbers of those lines
+abbrev pub numbersOf : Record → List ℕ
+numbersOf r = r .slot ∷ r .id ∷ r .stamp ∷ r .clock ∷ r .sample ∷ []
+
 -- a record that the text can express: no number above the limit that its op sets
-pub record Expressible (r : Record) : Type 0 where
-  pub slot : r .slot ≤ limit (readsOwner (r .op)) mostSlot
-  pub id : r .id ≤ limit (readsOwner (r .op)) most
-  pub stamp : r .stamp ≤ limit (readsStamp (r .op)) most
-  pub clock : r .clock ≤ limit (readsClock (r .op)) most
-  pub sample : r .sample ≤ limit (readsClock (r .op)) most
+abbrev pub Expressible : Record → Type 0
+Expressible r = Within (rules (r .op)) (numbersOf r)
 
 -- the six lines of a record, and its text
 unfoldable pub recordLines : Record → List (List ℕ)
-recordLines r =
-    opLine (r .op)
-    ∷ lineText slotKey (r .slot)
-    ∷ lineText idKey (r .id)
-    ∷ lineText stampKey (r .stamp)
-    ∷ lineText clockKey (r .clock)
-    ∷ lineText sampleKey (r .sample)
-    ∷ []
+recordLines r = opLine (r .op) ∷ lineTexts (rules (r .op)) (numbersOf r)
 
 unfoldable pub recordText : Record → List ℕ
 recordText r = joined (recordLines r)
 
--- the record of an op and the numbers of its other lines
+-- the record of an op and the numbers of the five lines after it
 abbrev pub recordOf : Op → List ℕ → Record
 recordOf o ns = record { op = o; slot = getD ns 0 0; id = getD ns 1 0; stamp = getD ns 2 0; clock = getD ns 3 0; sample = getD ns 4 0 }
 
