@@ -5,7 +5,7 @@ use mathlib.Core.List.{List, [], _∷_}
 use lib.ListN.{getD}
 use Rattle.text.specs.Keys.{slotKey, idKey, stampKey, clockKey, sampleKey}
 use Rattle.text.specs.Line.{Rule, Within, Lines, Read, Breaks, lineTexts, linesAt, joined}
-use Rattle.trace.specs.Op.{readsStamp, readsOwner, readsClock, opLine, opAt}
+use Rattle.trace.specs.Op.{readsOf, opLine, opAt}
 use Rattle.trace.specs.declared.Op.{Op}
 use Rattle.trace.specs.declared.ops.OpAt.{OpAt}
 use Rattle.trace.specs.declared.ops.OpAt.the-variants as op
@@ -26,11 +26,11 @@ limit reads n = cond reads n 0
 -- the five lines after the op's
 unfoldable pub rules : Op → List Rule
 rules o =
-    (record { key = slotKey; most = limit (readsOwner o) mostSlot })
-    ∷ (record { key = idKey; most = limit (readsOwner o) most })
-    ∷ (record { key = stampKey; most = limit (readsStamp o) most })
-    ∷ (record { key = clockKey; most = limit (readsClock o) most })
-    ∷ (record { key = sampleKey; most = limit (readsClock o) most })
+    (record { key = slotKey; most = limit (readsOf o .owner) mostSlot })
+    ∷ (record { key = idKey; most = limit (readsOf o .owner) most })
+    ∷ (record { key = stampKey; most = limit (readsOf o .stamp) most })
+    ∷ (record { key = clockKey; most = limit (readsOf o .clock) most })
+    ∷ (record { key = sampleKey; most = limit (readsOf o .clock) most })
     ∷ []
 
 -- the numbers of those lines
