@@ -1,4 +1,4 @@
--- Facts of a fixed byte string at the front of a text. Assumes nothing.
+-- Facts of a fixed byte string at the front of a text.
 use Prim.Native.Nat.{ℕ, _+_, _≤_, _<_}
 use native.Mathlib.Omega.{arith}
 use native.Mathlib.Decide.{decLt}

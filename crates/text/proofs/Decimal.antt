@@ -1,4 +1,4 @@
--- The decimal text of a number: its two equations, induction along its digits, its length. Assumes nothing.
+-- The decimal text of a number: its two equations, induction along its digits, its length.
 use Prim.Native.Nat.{ℕ, zero, suc, _+_, _/_, _%_, _^_, _*_, _≤_, _<_}
 use native.Mathlib.Omega.{arith}
 use native.Mathlib.Decide.{decLt}

@@ -1,4 +1,4 @@
--- Lines are read as their numbers, what is read is the lines' text, and the line that breaks its rule is the first that does. Assumes nothing.
+-- Lines are read as their numbers, what is read is the lines' text, and the line that breaks its rule is the first that does.
 use Prim.Native.Nat.{ℕ, zero, suc, _+_, _%_, _^_, _≤_, _<_}
 use native.Mathlib.Omega.{arith}
 use mathlib.Core.Path.{_≡_, refl, sym, ap, _∙_}
@@ -54,10 +54,6 @@ field-text s at key n most e = go (starts key (drop at s)) refl
     go : (b : Bool) → starts key (drop at s) ≡ b → cond b (atMost most (numberAt s (at + length key))) Bad ≡ Is n e → Line s at key n e most
     go false q h = absurd (no-number n e h)
     go true q h = number (numberAt s (at + length key)) refl (key-there s at key q) h
-
-pub nonempty : (key : List ℕ) (n : ℕ) → 0 < length (lineText key n)
-unfolding lineText numberText
-nonempty key n = simp length-append (omega arith)
 
 -- a line is one line, where its key has no newline
 digits-plain : (n : ℕ) (t : List ℕ) → oneLine (decimal n ++ t) ≡ oneLine t

@@ -1,4 +1,4 @@
--- A number's text is read as that number, and what is read as a number is its text. Assumes nothing.
+-- A number's text is read as that number, and what is read as a number is its text.
 use Prim.Native.Nat.{ℕ, _+_, _-_, _*_, _/_, _%_, _^_, _≤_, _<_}
 use native.Mathlib.Omega.{arith}
 use native.Mathlib.Decide.{decLt}

@@ -1,4 +1,4 @@
--- Texts that stand at a place, one after the other. Assumes nothing.
+-- Texts that stand at a place, one after the other.
 use Prim.Native.Nat.{ℕ, _+_}
 use native.Mathlib.Omega.{arith}
 use mathlib.Core.Path.{_≡_, refl, sym, ap, _∙_}

@@ -1,4 +1,4 @@
--- Facts of a text spliced into a buffer. Assumes nothing.
+-- Facts of a text spliced into a buffer.
 use Prim.Native.Nat.{ℕ, suc, _+_, _-_, _/_, _%_, _≤_, _<_}
 use native.Mathlib.Omega.{arith}
 use native.Mathlib.Decide.{decLt}

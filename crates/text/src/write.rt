@@ -1,4 +1,4 @@
-// Writing at a place of a lent buffer: a fixed byte string, a line of a key and a number.
+// Writing at a place of a lent buffer: a line of a key and a number.
 use crate::Put;
 ghost use Prim.Native.Nat.{_≤_, _+_};
 ghost use mathlib.Core.Path.{_≡_};
@@ -58,18 +58,6 @@ fn has_room(buf: &[u8], at: usize, n: usize) -> bool
         return false;
     }
     at <= buf.len() - n
-}
-
-// The bytes of t, from `at` on, where there is room for them.
-pub fn put_bytes(buf: &mut [u8], at: usize, t: &[u8]) -> Put
-    ensures { λ r. ⌜ r ≡ putAt (now (buf .entry)) at (now (t .entry)) ⌝ }
-    ensures { λ _. ⌜ now (buf .exit) ≡ written (now (buf .entry)) at (now (t .entry)) ⌝ }
-{
-    if !has_room(buf, at, t.len()) {
-        return Put::NoRoom;
-    }
-    place_bytes(buf, at, t);
-    Put::Past(at + t.len())
 }
 
 // The line of `key` and n, from `at` on, where there is room for it.

@@ -1,4 +1,4 @@
--- The grammar both ways: what is accepted is the text of its records, and the text of records is accepted as them. Assumes nothing.
+-- The grammar both ways: what is accepted is the text of its records, and the text of records is accepted as them.
 use Prim.Native.Nat.{ℕ, _+_, _≤_}
 use native.Mathlib.Omega.{arith}
 use mathlib.Core.Path.{_≡_, refl, sym, ap, _∙_}
@@ -70,7 +70,7 @@ trace-is : (rs : List Record) → traceText rs ≡ header ++ joined (linesOf rs)
 unfolding traceText traceLines joined
 trace-is rs = refl
 
--- (a) what is accepted is the text of its records
+-- what is accepted is the text of its records
 pub record Accepted (s : List ℕ) (rs : List Record) : Type 0 where
   pub text : s ≡ traceText rs
   pub expressible : AllExpressible rs
@@ -87,7 +87,7 @@ accepted s rs = go (ltb longest (length s)) (starts header s) refl refl
         let t = rest-text s firstRecord 1 rs h in
         record { text = starts-text header s q ∙ ap (λ (z : List ℕ). header ++ z) (t .text) ∙ sym (trace-is rs); expressible = t .expressible; short = ltb-false longest (length s) p }
 
--- (b) the text of expressible records, if it is not too long, is accepted as them
+-- the text of expressible records, if it is not too long, is accepted as them
 pub accepts : (rs : List Record) → AllExpressible rs → length (traceText rs) ≤ longest → traceOf (traceText rs) ≡ Records rs
 unfolding traceOf
 accepts rs x l =
@@ -103,22 +103,22 @@ one-text rs ts x y l e =
     cc
 
 -- what a reader that was answered `Whole n` knows before its first record
-pub record Begun (s : List ℕ) (n : ℕ) : Type 0 where
+pub record Opened (s : List ℕ) (n : ℕ) : Type 0 where
   pub records : traceOf s ≡ Records (recordsFrom s firstRecord)
   pub many : length (recordsFrom s firstRecord) ≡ n
   pub boundary : Boundary s firstRecord
   pub inside : firstRecord ≤ length s
 
-pub begun : (s : List ℕ) (n : ℕ) → reading s ≡ reading.Whole n → Begun s n
+pub opened : (s : List ℕ) (n : ℕ) → reading s ≡ reading.Whole n → Opened s n
 unfolding reading
-begun s n h = go (traceOf s) refl h
+opened s n h = go (traceOf s) refl h
   where
     found : (x y : Bool) (rs : List Record) → cond x (Breaks 0) (cond y (foundFrom s firstRecord 1) (Breaks 1)) ≡ Records rs → foundFrom s firstRecord 1 ≡ Records rs
     found true y rs h = absurd (no-records 0 rs h)
     found false false rs h = absurd (no-records 1 rs h)
     found false true rs h = h
 
-    go : (x : Found) → traceOf s ≡ x → counted x ≡ reading.Whole n → Begun s n
+    go : (x : Found) → traceOf s ≡ x → counted x ≡ reading.Whole n → Opened s n
     go (Breaks k) q h = absurd (let z : _≡_ {A = ℕ} 0 1 = cc in omega arith)
     go (Records rs) q h =
         let many : length rs ≡ n = cc in

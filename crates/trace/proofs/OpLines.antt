@@ -1,4 +1,4 @@
--- An op's line is read as that op, and what is read as an op is its line. Assumes nothing.
+-- An op's line is read as that op, and what is read as an op is its line.
 use Prim.Native.Nat.{ℕ, _+_, _<_}
 use native.Mathlib.Omega.{arith}
 use mathlib.Core.Path.{_≡_, refl, ap, _∙_}

@@ -1,4 +1,4 @@
--- A record's text is read as that record, what is read as a record is its text, and a broken line is the first that breaks a rule. Assumes nothing.
+-- A record's text is read as that record, what is read as a record is its text, and a broken line is the first that breaks a rule.
 use Prim.Native.Nat.{ℕ, zero, suc, _+_, _^_, _≤_, _<_}
 use native.Mathlib.Omega.{arith}
 use mathlib.Core.Path.{_≡_, refl, sym, ap, subst, _∙_}

@@ -1,4 +1,4 @@
--- The line that a refusal names is the first that breaks a rule. Assumes nothing.
+-- The line that a refusal names is the first that breaks a rule.
 use Prim.Native.Nat.{ℕ, zero, suc, _+_, _-_, _≤_, _<_}
 use native.Mathlib.Omega.{arith}
 use native.Mathlib.Decide.{decLt}
@@ -129,7 +129,8 @@ late-from (r ∷ rs) s at b m j rest (also x xs) l e h = go (decLt 6 j) (look s 
     go (no g) w ih = inside (omega arith) w
     go (yes g) w ih = past g ih
 
-trace-breaks : (f : Found) (k : ℕ) → counted f ≡ reading.Broken k → f ≡ Breaks k
+-- what was counted as broken broke at that line
+pub trace-breaks : (f : Found) (k : ℕ) → counted f ≡ reading.Broken k → f ≡ Breaks k
 trace-breaks (Records rs) k h = absurd (let z : _≡_ {A = ℕ} 0 1 = cc in omega arith)
 trace-breaks (Breaks j) k h = let same : j ≡ k = cc in ap Breaks same
 
@@ -166,7 +167,7 @@ from-header k s q h =
       text = starts-text header s q ∙ ap (λ (z : List ℕ). header ++ z) (w .text) ∙ sym (append-assoc header u (w .rest));
     })
 
--- (c) the line that a refusal names is the first that breaks a rule
+-- the line that a refusal names is the first that breaks a rule
 pub first-broken : (s : List ℕ) (k : ℕ) → reading s ≡ reading.Broken (suc k) → FirstBroken k s
 unfolding reading traceOf
 first-broken s k h = go (ltb longest (length s)) (starts header s) refl (trace-breaks (traceOf s) (suc k) h)

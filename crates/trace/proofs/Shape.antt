@@ -1,4 +1,4 @@
--- Every line of a trace is one line: it ends in a newline, and has no other. Assumes nothing.
+-- For `FirstBroken`, which counts the lines of a trace: each of them is one line of text, for it ends in a newline and has no other.
 use Prim.Native.Nat.{ℕ}
 use mathlib.Core.Path.{_≡_, refl}
 use mathlib.Core.List.{List, [], _∷_}

@@ -1,4 +1,4 @@
--- Record after record: one step, induction along the records, the bound that is never reached, and the count. Assumes nothing.
+-- Record after record: one step, induction along the records, the bound that is never reached, and the count.
 use Prim.Native.Nat.{ℕ, zero, suc, _+_, _-_, _*_, _<_}
 use native.Mathlib.Omega.{arith}
 use native.Mathlib.Numerals.{add-one}

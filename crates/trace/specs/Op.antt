@@ -1,4 +1,4 @@
--- The ops of a trace: their names, and which fields they read. Assumes nothing.
+-- The ops of a trace: their names, and which fields they read.
 use Prim.Native.Nat.{ℕ, _+_}
 use mathlib.Core.Bool.{true, false, cond}
 use mathlib.Core.List.{List, [], _∷_, _++_}

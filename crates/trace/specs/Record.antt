@@ -1,4 +1,4 @@
--- A record of six lines: its text, and what is read of a text. Assumes nothing.
+-- A record of six lines: its text, and what is read of a text.
 use Prim.Native.Nat.{ℕ, _-_, _^_}
 use mathlib.Core.Bool.{Bool, cond}
 use mathlib.Core.List.{List, [], _∷_}

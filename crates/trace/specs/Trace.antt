@@ -1,4 +1,4 @@
--- A trace: its text, and what is read of a text. Assumes nothing.
+-- A trace: its text, and what is read of a text.
 use Prim.Native.Nat.{ℕ, zero, suc, _+_, _-_, _≤_}
 use mathlib.Core.Path.{_≡_}
 use mathlib.Core.Bool.{cond}

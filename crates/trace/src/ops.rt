@@ -55,8 +55,8 @@ fn try_name(s: &[u8], at: usize, name: &[u8], op: Op, other: OpAt) -> OpAt
     other
 }
 
-// The op whose name, with its newline, stands at `at`. The last is tried first, and the first
-// decides; at most one fits.
+// The op whose name, with its newline, stands at `at`. All eight are compared; no two can stand at
+// one place.
 fn name_at(s: &[u8], at: usize) -> OpAt
     ensures { λ r. ⌜ r ≡ nameAt (now (s .entry)) at ⌝ }
 {
