@@ -7,3 +7,4 @@ mod record;
 pub use into::Replayed;
 pub use into::replay_into;
 pub use out::replay_to;
+pub use trace::LONGEST;
