@@ -1,6 +1,7 @@
 -- The grammar both ways: what is accepted is the text of its records, and the text of records is accepted as them.
 use Prim.Native.Nat.{ℕ, _+_, _≤_}
 use native.Mathlib.Omega.{arith}
+use native.Mathlib.Nat.{zero-add}
 use mathlib.Core.Path.{_≡_, refl, sym, ap, _∙_}
 use mathlib.Core.List.{List, [], _∷_, _++_}
 use mathlib.Core.Bool.{Bool, true, false, cond}
@@ -66,13 +67,30 @@ rest-found (r ∷ rs) s at b (also x xs) e l =
     let p = at + length (recordText r) in
     found-next s at b r p (λ z. omega (arith, text-length r)) q ∙ ap (withFirst r) (rest-found rs s p (b + 6) xs (rest-of s (recordText r) t at e') (omega arith))
 
-trace-is : (rs : List Record) → traceText rs ≡ header ++ joined (linesOf rs)
-unfolding traceText traceLines joined
-trace-is rs = refl
+-- the same with a first line in front
+module _ (first : List ℕ) where
+  trace-is : (rs : List Record) → traceText first rs ≡ first ++ joined (linesOf rs)
+  unfolding traceText traceLines joined
+  trace-is rs = refl
+
+  trace-length : (rs : List Record) → length first + length (joined (linesOf rs)) ≡ length (traceText first rs)
+  trace-length rs = sym (ap length (trace-is rs) ∙ length-append first (joined (linesOf rs)))
+
+  under-text : (s : List ℕ) (rs : List Record) → starts first s ≡ true → Rest s (length first) rs → s ≡ traceText first rs
+  under-text s rs q t = starts-text first s q ∙ ap (λ (z : List ℕ). first ++ z) (t .text) ∙ sym (trace-is rs)
+
+  under-starts : (rs : List Record) → starts first (traceText first rs) ≡ true
+  under-starts rs = rw (trace-is rs) (starts-of first (joined (linesOf rs)))
+
+  under-found : (rs : List Record) → AllExpressible rs → foundFrom (traceText first rs) (length first) 1 ≡ Records rs
+  under-found rs x =
+      let t = joined (linesOf rs) in
+      let past = rw zero-add at (rest-of (traceText first rs) first t 0 (trace-is rs)) in
+      rest-found rs (traceText first rs) (length first) 1 x past (trace-length rs)
 
 -- what is accepted is the text of its records
 pub record Accepted (s : List ℕ) (rs : List Record) : Type 0 where
-  pub text : s ≡ traceText rs
+  pub text : s ≡ traceText header rs
   pub expressible : AllExpressible rs
   pub short : length s ≤ longest
 
@@ -80,24 +98,28 @@ pub accepted : (s : List ℕ) (rs : List Record) → traceOf s ≡ Records rs �
 unfolding traceOf
 accepted s rs = go (ltb longest (length s)) (starts header s) refl refl
   where
-    go : (x y : Bool) → ltb longest (length s) ≡ x → starts header s ≡ y → cond x (Breaks 0) (cond y (foundFrom s firstRecord 1) (Breaks 1)) ≡ Records rs → Accepted s rs
+    go : (x y : Bool) → ltb longest (length s) ≡ x → starts header s ≡ y
+        → cond x (Breaks 0) (cond y (foundFrom s firstRecord 1) (Breaks 1)) ≡ Records rs → Accepted s rs
     go true y p q h = absurd (no-records 0 rs h)
     go false false p q h = absurd (no-records 1 rs h)
     go false true p q h =
         let t = rest-text s firstRecord 1 rs h in
-        record { text = starts-text header s q ∙ ap (λ (z : List ℕ). header ++ z) (t .text) ∙ sym (trace-is rs); expressible = t .expressible; short = ltb-false longest (length s) p }
+        record {
+          text = under-text header s rs q t;
+          expressible = t .expressible;
+          short = ltb-false longest (length s) p;
+        }
 
 -- the text of expressible records, if it is not too long, is accepted as them
-pub accepts : (rs : List Record) → AllExpressible rs → length (traceText rs) ≤ longest → traceOf (traceText rs) ≡ Records rs
+pub accepts : (rs : List Record) → AllExpressible rs → length (traceText header rs) ≤ longest
+    → traceOf (traceText header rs) ≡ Records rs
 unfolding traceOf
 accepts rs x l =
-    let t = joined (linesOf rs) in
-    let h : starts header (traceText rs) ≡ true = rw (trace-is rs) (starts-of header t) in
-    rw (le-ltb longest (length (traceText rs)) l, h)
-    (rest-found rs (traceText rs) firstRecord 1 x (rest-of (traceText rs) header t 0 (trace-is rs)) (sym (ap length (trace-is rs) ∙ length-append header t)))
+    rw (le-ltb longest (length (traceText header rs)) l, under-starts header rs) (under-found header rs x)
 
 -- so no two lists of records have one text
-pub one-text : (rs ts : List Record) → AllExpressible rs → AllExpressible ts → length (traceText rs) ≤ longest → traceText rs ≡ traceText ts → rs ≡ ts
+pub one-text : (rs ts : List Record) → AllExpressible rs → AllExpressible ts → length (traceText header rs) ≤ longest
+    → traceText header rs ≡ traceText header ts → rs ≡ ts
 one-text rs ts x y l e =
     let p : Records rs ≡ Records ts = sym (accepts rs x l) ∙ ap traceOf e ∙ accepts ts y (rw (← e) l) in
     cc
@@ -129,5 +151,5 @@ opened s n h = go (traceOf s) refl h
           records = q ∙ ap Records (sym (b .1));
           many = ap length (b .1) ∙ many;
           boundary = b .0;
-          inside = omega (arith, ap length (a .text ∙ trace-is rs) ∙ length-append header (joined (linesOf rs)));
+          inside = omega (arith, ap length (a .text), trace-length header rs);
         }

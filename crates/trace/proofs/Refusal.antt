@@ -134,51 +134,85 @@ pub trace-breaks : (f : Found) (k : ℕ) → counted f ≡ reading.Broken k → 
 trace-breaks (Records rs) k h = absurd (let z : _≡_ {A = ℕ} 0 1 = cc in omega arith)
 trace-breaks (Breaks j) k h = let same : j ≡ k = cc in ap Breaks same
 
-opens-none : (s : List ℕ) → Opens 0 s
-unfolding joined
-opens-none s = record { records = []; expressible = none; enough = omega arith; rest = s; text = refl }
+-- under any first line
+module _ (first : List ℕ) where
+  opens-none : (s : List ℕ) → Opens first 0 s
+  unfolding joined
+  opens-none s = record { records = []; expressible = none; enough = omega arith; rest = s; text = refl }
 
-opens-header : (k : ℕ) (s : List ℕ) → Opens (suc k) s → starts header s ≡ true
-unfolding traceLines joined
-opens-header k s o =
-    let u = joined (take k (linesOf (o .records))) in
-    rw (o .text ∙ append-assoc header u (o .rest)) (starts-of header (u ++ o .rest))
+  opens-text : (k : ℕ) (s : List ℕ) (o : Opens first (suc k) s) → s ≡ first ++ (joined (take k (linesOf (o .records))) ++ o .rest)
+  unfolding traceLines joined
+  opens-text k s o = o .text ∙ append-assoc first (joined (take k (linesOf (o .records)))) (o .rest)
 
-late : (k : ℕ) (s : List ℕ) → foundFrom s firstRecord 1 ≡ Breaks (suc k) → Opens (suc k) s → ⊥
-unfolding traceLines joined
-late k s h o =
-    let u = joined (take k (linesOf (o .records))) in
-    let e = rest-of s header (u ++ o .rest) 0 (o .text ∙ append-assoc header u (o .rest)) in
-    let more : suc k ≤ suc (length (linesOf (o .records))) = o .enough in
-    let l = late-from (o .records) s firstRecord 1 (suc k) k (o .rest) (o .expressible) (omega arith) e h in
-    omega (arith, l)
+  opens-header : (k : ℕ) (s : List ℕ) → Opens first (suc k) s → starts first s ≡ true
+  opens-header k s o = rw (opens-text k s o) (starts-of first (joined (take k (linesOf (o .records))) ++ o .rest))
 
-from-header : (k : ℕ) (s : List ℕ) → starts header s ≡ true → foundFrom s firstRecord 1 ≡ Breaks (suc k) → Opens k s
-unfolding traceLines joined
-from-header k s q h =
-    let w = broke-from s firstRecord 1 (suc k) h in
-    let u = joined (take (w .before) (linesOf (w .records))) in
-    let same : k ≡ suc (w .before) = omega (arith, w .which) in
-    rw same (record {
-      records = w .records;
-      expressible = w .expressible;
-      enough = omega (arith, w .enough);
-      rest = w .rest;
-      text = starts-text header s q ∙ ap (λ (z : List ℕ). header ++ z) (w .text) ∙ sym (append-assoc header u (w .rest));
-    })
+  late : (k : ℕ) (s : List ℕ) → foundFrom s (length first) 1 ≡ Breaks (suc k) → Opens first (suc k) s → ⊥
+  unfolding traceLines
+  late k s h o =
+      let u = joined (take k (linesOf (o .records))) in
+      let past = rw zero-add at (rest-of s first (u ++ o .rest) 0 (opens-text k s o)) in
+      let more : suc k ≤ suc (length (linesOf (o .records))) = o .enough in
+      omega (arith, late-from (o .records) s (length first) 1 (suc k) k (o .rest) (o .expressible) (omega arith) past h)
+
+  from-header : (k : ℕ) (s : List ℕ) → starts first s ≡ true → foundFrom s (length first) 1 ≡ Breaks (suc k) → Opens first k s
+  unfolding traceLines joined
+  from-header k s q h =
+      let w = broke-from s (length first) 1 (suc k) h in
+      let u = joined (take (w .before) (linesOf (w .records))) in
+      let same : k ≡ suc (w .before) = omega (arith, w .which) in
+      rw same (record {
+        records = w .records;
+        expressible = w .expressible;
+        enough = omega (arith, w .enough);
+        rest = w .rest;
+        text = starts-text first s q ∙ ap (λ (z : List ℕ). first ++ z) (w .text) ∙ sym (append-assoc first u (w .rest));
+      })
+
+  -- the first lines of a trace begin with fewer of them, so only one line can be the first
+  opens-less : (k : ℕ) (s : List ℕ) → Opens first (suc k) s → Opens first k s
+  opens-less k s o =
+      let ls = traceLines first (o .records) in
+      let t = drop k (take (suc k) ls) in
+      let fewer = take-take k (suc k) ls (omega arith) in
+      let cut : take (suc k) ls ≡ take k ls ++ t =
+      sym (take-append-drop k (take (suc k) ls)) ∙ ap (λ (z : List (List ℕ)). z ++ t) fewer in
+      let apart = ap joined cut ∙ joined-append (take k ls) t in
+      record {
+        records = o .records;
+        expressible = o .expressible;
+        enough = omega (arith, o .enough);
+        rest = joined t ++ o .rest;
+        text = o .text ∙ ap (λ (z : List ℕ). z ++ o .rest) apart ∙ append-assoc (joined (take k ls)) (joined t) (o .rest);
+      }
+
+  opens-down : (d k : ℕ) (s : List ℕ) → Opens first (d + k) s → Opens first k s
+  opens-down zero k s o = rw zero-add at o
+  opens-down (suc d) k s o = opens-down d k s (opens-less (d + k) s (rw suc-add at o))
+
+  opens-upto : (k j : ℕ) (s : List ℕ) → k ≤ j → Opens first j s → Opens first k s
+  opens-upto k j s h o = opens-down (j - k) k s (let e : j ≡ j - k + k = omega arith in rw e at o)
+
+  pub one-first : (j k : ℕ) (s : List ℕ) → FirstBroken first j s → FirstBroken first k s → j ≡ k
+  one-first j k s p q = go (decLt j k) (decLt k j)
+    where
+      go : Dec (j < k) → Dec (k < j) → j ≡ k
+      go (yes l) d = absurd (p .broken (opens-upto (j + 1) k s (omega arith) (q .before)))
+      go (no l) (yes g) = absurd (q .broken (opens-upto (k + 1) j s (omega arith) (p .before)))
+      go (no l) (no g) = omega arith
 
 -- the line that a refusal names is the first that breaks a rule
-pub first-broken : (s : List ℕ) (k : ℕ) → reading s ≡ reading.Broken (suc k) → FirstBroken k s
+pub first-broken : (s : List ℕ) (k : ℕ) → reading s ≡ reading.Broken (suc k) → FirstBroken header k s
 unfolding reading traceOf
 first-broken s k h = go (ltb longest (length s)) (starts header s) refl (trace-breaks (traceOf s) (suc k) h)
   where
-    go : (x y : Bool) → starts header s ≡ y → cond x (Breaks 0) (cond y (foundFrom s firstRecord 1) (Breaks 1)) ≡ Breaks (suc k) → FirstBroken k s
+    go : (x y : Bool) → starts header s ≡ y → cond x (Breaks 0) (cond y (foundFrom s firstRecord 1) (Breaks 1)) ≡ Breaks (suc k) → FirstBroken header k s
     go true y q h = absurd (let z : 0 ≡ suc k = cc in omega arith)
     go false false q h =
         let z : 1 ≡ suc k = cc in
         let none : k ≡ 0 = omega arith in
-        rw none (record { before = opens-none s; broken = λ o. false≢true (sym q ∙ opens-header 0 s o) })
-    go false true q h = record { before = from-header k s q h; broken = λ o. late k s h (rw add-one at o) }
+        rw none (record { before = opens-none header s; broken = λ o. false≢true (sym q ∙ opens-header header 0 s o) })
+    go false true q h = record { before = from-header header k s q h; broken = λ o. late header k s h (rw add-one at o) }
 
 too-long : (s : List ℕ) → traceOf s ≡ Breaks 0 → length s ≤ longest → ⊥
 unfolding traceOf
@@ -188,37 +222,8 @@ too-long s h l = go (starts header s) (rw (le-ltb longest (length s) l) at h)
     go false h = let z : _≡_ {A = ℕ} 1 0 = cc in omega arith
     go true h = omega (arith, broke-from s firstRecord 1 0 h .which)
 
--- the first lines of a trace begin with fewer of them, so only one line can be the first
-opens-less : (k : ℕ) (s : List ℕ) → Opens (suc k) s → Opens k s
-opens-less k s o =
-    let ls = traceLines (o .records) in
-    let t = drop k (take (suc k) ls) in
-    let cut : take (suc k) ls ≡ take k ls ++ t = sym (take-append-drop k (take (suc k) ls)) ∙ ap (λ (z : List (List ℕ)). z ++ t) (take-take k (suc k) ls (omega arith)) in
-    record {
-      records = o .records;
-      expressible = o .expressible;
-      enough = omega (arith, o .enough);
-      rest = joined t ++ o .rest;
-      text = o .text ∙ ap (λ (z : List ℕ). z ++ o .rest) (ap joined cut ∙ joined-append (take k ls) t) ∙ append-assoc (joined (take k ls)) (joined t) (o .rest);
-    }
-
-opens-down : (d k : ℕ) (s : List ℕ) → Opens (d + k) s → Opens k s
-opens-down zero k s o = rw zero-add at o
-opens-down (suc d) k s o = opens-down d k s (opens-less (d + k) s (rw suc-add at o))
-
-opens-upto : (k j : ℕ) (s : List ℕ) → k ≤ j → Opens j s → Opens k s
-opens-upto k j s h o = opens-down (j - k) k s (let e : j ≡ j - k + k = omega arith in rw e at o)
-
-pub one-first : (j k : ℕ) (s : List ℕ) → FirstBroken j s → FirstBroken k s → j ≡ k
-one-first j k s p q = go (decLt j k) (decLt k j)
-  where
-    go : Dec (j < k) → Dec (k < j) → j ≡ k
-    go (yes l) d = absurd (p .broken (opens-upto (j + 1) k s (omega arith) (q .before)))
-    go (no l) (yes g) = absurd (q .broken (opens-upto (k + 1) j s (omega arith) (p .before)))
-    go (no l) (no g) = omega arith
-
 -- a text that is not too long and is no trace is refused at exactly its first broken line
-pub refused : (s : List ℕ) (k : ℕ) → length s ≤ longest → ((rs : List Record) → AllExpressible rs → s ≡ traceText rs → ⊥) → FirstBroken k s → reading s ≡ reading.Broken (suc k)
+pub refused : (s : List ℕ) (k : ℕ) → length s ≤ longest → ((rs : List Record) → AllExpressible rs → s ≡ traceText header rs → ⊥) → FirstBroken header k s → reading s ≡ reading.Broken (suc k)
 unfolding reading
 refused s k l n p = go (traceOf s) refl
   where
@@ -227,7 +232,7 @@ refused s k l n p = go (traceOf s) refl
     go (Breaks zero) q = absurd (too-long s q l)
     go (Breaks (suc j)) q =
         let h : reading s ≡ reading.Broken (suc j) = ap counted q in
-        h ∙ ap (λ (i : ℕ). reading.Broken (suc i)) (one-first j k s (first-broken s j h) p)
+        h ∙ ap (λ (i : ℕ). reading.Broken (suc i)) (one-first header j k s (first-broken s j h) p)
 
 -- and one that is too long at line 0, and nothing else is
 pub long-refused : (s : List ℕ) → longest < length s → reading s ≡ reading.Broken 0

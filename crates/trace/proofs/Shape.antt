@@ -8,7 +8,7 @@ use Rattle.text.specs.Line.{lineTexts, oneLine}
 use Rattle.text.proofs.Lines.{line-one}
 use Rattle.trace.specs.Op.{opLine}
 use Rattle.trace.specs.Record.{rules, recordLines}
-use Rattle.trace.specs.Trace.{linesOf, traceLines}
+use Rattle.trace.specs.Trace.{header, linesOf, traceLines}
 use Rattle.trace.specs.declared.Op.{Op}
 use Rattle.trace.specs.declared.Op.the-variants.{Begin, End, Snap, Own, Oldest, Vacuum, Stamp, Finish}
 use Rattle.trace.specs.declared.Record.{Record}
@@ -39,6 +39,6 @@ lines-one (r ∷ rs) =
     (also (line-one clockKey (r .clock) (λ t. refl))
     (also (line-one sampleKey (r .sample) (λ t. refl)) (lines-one rs))))))
 
-pub trace-one : (rs : List Record) → AllLines (traceLines rs)
+pub trace-one : (rs : List Record) → AllLines (traceLines header rs)
 unfolding traceLines oneLine
 trace-one rs = also refl (lines-one rs)

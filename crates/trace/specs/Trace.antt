@@ -25,16 +25,17 @@ firstRecord = length header
 abbrev pub longest : ℕ
 longest = 65536
 
--- the lines of some records, and the text of a trace of them
+-- the lines of some records
 unfoldable pub linesOf : List Record → List (List ℕ)
 linesOf [] = []
 linesOf (r ∷ rs) = recordLines r ++ linesOf rs
 
-unfoldable pub traceLines : List Record → List (List ℕ)
-traceLines rs = header ∷ linesOf rs
+-- the lines of a trace under its first line, and its text
+unfoldable pub traceLines : List ℕ → List Record → List (List ℕ)
+traceLines first rs = first ∷ linesOf rs
 
-unfoldable pub traceText : List Record → List ℕ
-traceText rs = joined (traceLines rs)
+unfoldable pub traceText : List ℕ → List Record → List ℕ
+traceText first rs = joined (traceLines first rs)
 
 -- records that the text can express, each of them
 pub data AllExpressible : List Record → Type 0 where
@@ -90,15 +91,15 @@ recordsFrom s at = listed (foundFrom s at 0)
 abbrev pub Boundary : List ℕ → ℕ → Type 0
 Boundary s at = foundFrom s at 0 ≡ Records (recordsFrom s at)
 
--- s begins with the first k lines of some trace, each with its newline
-pub record Opens (k : ℕ) (s : List ℕ) : Type 0 where
+-- s begins with the first k lines of some trace under this first line, each with its newline
+pub record Opens (first : List ℕ) (k : ℕ) (s : List ℕ) : Type 0 where
   pub records : List Record
   pub expressible : AllExpressible records
-  pub enough : k ≤ length (traceLines records)
+  pub enough : k ≤ length (traceLines first records)
   pub rest : List ℕ
-  pub text : s ≡ joined (take k (traceLines records)) ++ rest
+  pub text : s ≡ joined (take k (traceLines first records)) ++ rest
 
 -- line k + 1 is the first that breaks a rule: s begins with the first k lines of some trace, and with no first k + 1
-pub record FirstBroken (k : ℕ) (s : List ℕ) : Type 0 where
-  pub before : Opens k s
-  pub broken : Opens (k + 1) s → ⊥
+pub record FirstBroken (first : List ℕ) (k : ℕ) (s : List ℕ) : Type 0 where
+  pub before : Opens first k s
+  pub broken : Opens first (k + 1) s → ⊥
