@@ -1,16 +1,13 @@
 -- Facts of a text spliced into a buffer.
-use Prim.Native.Nat.{ℕ, suc, _+_, _-_, _/_, _%_, _≤_, _<_}
+use Prim.Native.Nat.{ℕ, suc, _+_, _/_, _%_, _≤_, _<_}
 use native.Mathlib.Omega.{arith}
-use native.Mathlib.Decide.{decLt}
 use native.Mathlib.Nat.{add-suc, add-zero, add-assoc}
 use native.Mathlib.Numerals.{add-one}
 use mathlib.Core.Path.{_≡_, sym, ap, _∙_}
-use mathlib.Core.Bool.{true, false}
 use mathlib.Core.List.{List, [], _∷_, _++_, append-assoc, append-nil}
-use lib.Dec.{leb}
 use lib.ListN.{length, take, drop, set, getD, length-append, length-take, length-drop, take-append-drop}
 use lib.Seq.{set-at, drop-cons, length-take-le, take-suc, take-at, drop-append-add, drop-drop}
-use borrow.Author.Tests.{le-leb, lt-leb, leb-true, leb-false}
+use borrow.Author.Tests.{le-leb, lt-leb}
 use Rattle.text.specs.declared.Put.the-variants.{Past, NoRoom}
 use Rattle.text.specs.Decimal.{decimal, numberText}
 use Rattle.text.specs.Line.{lineText}
@@ -56,13 +53,6 @@ splice-take xs at t i h g =
     ap (λ (k : ℕ). set (spliced xs at (take i t)) (at + k) (getD t i 0)) (sym l)
     ∙ splice-more xs at (take i t) (getD t i 0) (omega arith)
     ∙ rw (add-one, take-suc t i 0)
-
-pub room-moved : (at n l : ℕ) → n ≤ l → leb at (l - n) ≡ leb (at + n) l
-room-moved at n l h = go (decLt l (at + n))
-  where
-    go : Dec (l < at + n) → leb at (l - n) ≡ leb (at + n) l
-    go (yes g) = lt-leb at (l - n) (omega arith) ∙ sym (lt-leb (at + n) l g)
-    go (no g) = le-leb at (l - n) (omega arith) ∙ sym (le-leb (at + n) l (omega arith))
 
 -- the answer and the buffer, with room and without
 pub no-room : (xs : List ℕ) (at : ℕ) (t : List ℕ) → length xs < at + length t → (NoRoom ≡ putAt xs at t) × (xs ≡ written xs at t)
@@ -111,15 +101,17 @@ pub line-length : (key : List ℕ) (n : ℕ) → length (lineText key n) ≡ len
 unfolding lineText numberText
 line-length key n = simp length-append (omega arith)
 
-pub line-room : (xs : List ℕ) (at : ℕ) (key : List ℕ) (n d : ℕ) → d ≡ length (decimal n) → leb (at + (length key + d + 1)) (length xs) ≡ true → at + length (lineText key n) ≤ length xs
-line-room xs at key n d e h = omega (arith, line-length key n, leb-true (at + (length key + d + 1)) (length xs) h)
+-- with d for its number of digits, as the code counts them
+module _ (xs : List ℕ) (at : ℕ) (key : List ℕ) (n d : ℕ) (e : d ≡ length (decimal n)) where
+  pub line-short : length xs < at + (length key + d + 1)
+      → (NoRoom ≡ putAt xs at (lineText key n)) × (xs ≡ written xs at (lineText key n))
+  line-short h = no-room xs at (lineText key n) (omega (arith, line-length key n))
 
-pub line-no-room : (xs : List ℕ) (at : ℕ) (key : List ℕ) (n d : ℕ) → d ≡ length (decimal n) → leb (at + (length key + d + 1)) (length xs) ≡ false → length xs < at + length (lineText key n)
-line-no-room xs at key n d e h = omega (arith, line-length key n, leb-false (at + (length key + d + 1)) (length xs) h)
-
-pub line-put : (xs : List ℕ) (at : ℕ) (key : List ℕ) (n d : ℕ) (ys zs : List ℕ) → d ≡ length (decimal n) → at + length (lineText key n) ≤ length xs
-    → ys ≡ spliced xs at key → zs ≡ spliced ys (at + length key) (decimal n)
-    → (Past (at + length key + d + 1) ≡ putAt xs at (lineText key n)) × (set zs (at + length key + d) 10 ≡ written xs at (lineText key n))
-line-put xs at key n d ys zs e h p q =
-    let r = room xs at (lineText key n) h in
-    (ap Past (omega (arith, line-length key n)) ∙ r .0, rw (q, p, e) (line-written xs at key n h ∙ r .1))
+  pub line-put : {ys zs : List ℕ} → at + (length key + d + 1) ≤ length xs
+      → ys ≡ spliced xs at key → zs ≡ spliced ys (at + length key) (decimal n)
+      → (Past (at + length key + d + 1) ≡ putAt xs at (lineText key n)) × (set zs (at + length key + d) 10 ≡ written xs at (lineText key n))
+  line-put h p q =
+      let l = line-length key n in
+      let fits : at + length (lineText key n) ≤ length xs = omega arith in
+      let r = room xs at (lineText key n) fits in
+      (ap Past (omega arith) ∙ r .0, rw (q, p, e) (line-written xs at key n fits ∙ r .1))
