@@ -23,20 +23,26 @@ unfolding spliced
 splice-none xs at = simp (append-nil, add-zero) (sym (take-append-drop at xs))
 
 -- a byte more at the end, and a byte more at the front
-pub splice-more : (xs : List ℕ) (at : ℕ) (t : List ℕ) (b : ℕ) → at + length t < length xs → set (spliced xs at t) (at + length t) b ≡ spliced xs at (t ++ (b ∷ []))
+pub splice-more : (xs : List ℕ) (at : ℕ) (t : List ℕ) (b : ℕ) → at + length t < length xs
+    → set (spliced xs at t) (at + length t) b ≡ spliced xs at (t ++ (b ∷ []))
 unfolding spliced
 splice-more xs at t b h =
-    rw (drop-cons xs (at + length t) 0, set-at (take at xs ++ t) (getD xs (at + length t) 0) (drop (suc (at + length t)) xs) b (at + length t) (simp (length-append, length-take) (omega arith)))
+    let p = at + length t in
+    let before : length (take at xs ++ t) ≡ p = simp (length-append, length-take) (omega arith) in
+    rw (drop-cons xs p 0, set-at (take at xs ++ t) (getD xs p 0) (drop (suc p) xs) b p before)
     (simp (append-assoc, length-append, add-suc, add-one))
 
 pub splice-front : (xs : List ℕ) (at : ℕ) (t : List ℕ) (b : ℕ) → at < length xs → set (spliced xs (suc at) t) at b ≡ spliced xs at (b ∷ t)
 unfolding spliced
 splice-front xs at t b h =
     let d : suc at + length t ≡ at + length (b ∷ t) = omega arith in
-    rw (take-suc xs at 0, append-assoc, append-assoc, set-at (take at xs) (getD xs at 0) (t ++ drop (suc at + length t) xs) b at (length-take-le at xs (omega arith)), d)
+    let before = length-take-le at xs (omega arith) in
+    let there = set-at (take at xs) (getD xs at 0) (t ++ drop (suc at + length t) xs) b at before in
+    rw (take-suc xs at 0, append-assoc, append-assoc, there, d)
     (sym (append-assoc (take at xs) (b ∷ t) (drop (at + length (b ∷ t)) xs)))
 
-pub splice-append : (xs : List ℕ) (at : ℕ) (t u : List ℕ) → at ≤ length xs → spliced (spliced xs at t) (at + length t) u ≡ spliced xs at (t ++ u)
+pub splice-append : (xs : List ℕ) (at : ℕ) (t u : List ℕ) → at ≤ length xs
+    → spliced (spliced xs at t) (at + length t) u ≡ spliced xs at (t ++ u)
 unfolding spliced
 splice-append xs at t u h =
     let l : length (take at xs ++ t) ≡ at + length t = simp (length-append, length-take) (omega arith) in
@@ -55,11 +61,13 @@ splice-take xs at t i h g =
     ∙ rw (add-one, take-suc t i 0)
 
 -- the answer and the buffer, with room and without
-pub no-room : (xs : List ℕ) (at : ℕ) (t : List ℕ) → length xs < at + length t → (NoRoom ≡ putAt xs at t) × (xs ≡ written xs at t)
+pub no-room : (xs : List ℕ) (at : ℕ) (t : List ℕ) → length xs < at + length t
+    → (NoRoom ≡ putAt xs at t) × (xs ≡ written xs at t)
 unfolding putAt written
 no-room xs at t h = (rw (lt-leb (at + length t) (length xs) h), rw (lt-leb (at + length t) (length xs) h))
 
-pub room : (xs : List ℕ) (at : ℕ) (t : List ℕ) → at + length t ≤ length xs → (Past (at + length t) ≡ putAt xs at t) × (spliced xs at t ≡ written xs at t)
+pub room : (xs : List ℕ) (at : ℕ) (t : List ℕ) → at + length t ≤ length xs
+    → (Past (at + length t) ≡ putAt xs at t) × (spliced xs at t ≡ written xs at t)
 unfolding putAt written
 room xs at t h = (rw (le-leb (at + length t) (length xs) h), rw (le-leb (at + length t) (length xs) h))
 
@@ -75,14 +83,18 @@ back-none xs at n i h = record { done = []; digits = sym (append-nil (decimal n)
 
 pub back-more : (xs : List ℕ) (at n : ℕ) (ys : List ℕ) (left i j : ℕ) → 10 ≤ left → i ≡ j + 1 → i < length xs → Backwards xs at n ys left i
     → Backwards xs at n (set ys i (48 + left % 10)) (left / 10) j
-back-more xs at n ys left i j h e l b = record {
-  done = (48 + left % 10) ∷ b .done;
-  digits = b .digits ∙ rw (decimal-more left h, append-assoc);
-  place = omega (arith, b .place, length-more left h);
-  left-there = rw (b .left-there, add-one) (splice-front xs i (b .done) (48 + left % 10) l ∙ ap (λ (k : ℕ). spliced xs k ((48 + left % 10) ∷ b .done)) (omega arith));
-}
+back-more xs at n ys left i j h e l b =
+    let digit = 48 + left % 10 in
+    let one-more = splice-front xs i (b .done) digit l in
+    record {
+      done = digit ∷ b .done;
+      digits = b .digits ∙ rw (decimal-more left h, append-assoc);
+      place = omega (arith, b .place, length-more left h);
+      left-there = rw (b .left-there, add-one) (one-more ∙ ap (λ (k : ℕ). spliced xs k (digit ∷ b .done)) (omega arith));
+    }
 
-pub back-last : (xs : List ℕ) (at n : ℕ) (ys : List ℕ) (left i : ℕ) → left < 10 → i < length xs → Backwards xs at n ys left i → set ys i (48 + left) ≡ spliced xs at (decimal n)
+pub back-last : (xs : List ℕ) (at n : ℕ) (ys : List ℕ) (left i : ℕ) → left < 10 → i < length xs
+    → Backwards xs at n ys left i → set ys i (48 + left) ≡ spliced xs at (decimal n)
 back-last xs at n ys left i h l b =
     let k : i ≡ at = omega (arith, b .place, length-small left h) in
     let text : decimal n ≡ (48 + left) ∷ b .done = b .digits ∙ ap (λ (x : List ℕ). x ++ b .done) (decimal-small left h) in
@@ -90,7 +102,8 @@ back-last xs at n ys left i h l b =
 
 -- a key, then a number's digits, then the newline
 pub line-written : (xs : List ℕ) (at : ℕ) (key : List ℕ) (n : ℕ) → at + length (lineText key n) ≤ length xs
-    → set (spliced (spliced xs at key) (at + length key) (decimal n)) (at + length key + length (decimal n)) 10 ≡ spliced xs at (lineText key n)
+    → set (spliced (spliced xs at key) (at + length key) (decimal n)) (at + length key + length (decimal n)) 10
+    ≡ spliced xs at (lineText key n)
 unfolding lineText numberText
 line-written xs at key n h =
     let l = simp length-append at h in
