@@ -15,12 +15,13 @@ use Rattle.text.proofs.Bytes.{starts-of, starts-text}
 use Rattle.text.proofs.Places.{rest-of}
 use Rattle.text.proofs.Lines.{joined-append}
 use Rattle.trace.specs.Record.{recordLines, recordText, recordAt}
-use Rattle.trace.specs.Trace.{header, firstRecord, longest, linesOf, traceLines, traceText, AllExpressible, none, also, Found, Records, Breaks, withFirst, foundFrom, traceOf, recordsFrom, Boundary, counted, reading}
+use Rattle.trace.specs.Trace.{header, firstRecord, longest, linesOf, traceLines, traceText, AllExpressible, none, also}
+use Rattle.trace.specs.Trace.{Found, Records, Breaks, withFirst, foundFrom, traceOf, recordsFrom, Boundary, counted, reading}
 use Rattle.trace.specs.declared.Record.{Record}
 use Rattle.trace.specs.declared.RecordAt.the-variants.{Is}
 use Rattle.trace.specs.declared.Reading.the-variants as reading
 use Rattle.trace.proofs.Records.{record-of, record-text, text-length}
-use Rattle.trace.proofs.Walk.{found-end, found-next, along, At, ended, broke, went, look, no-records}
+use Rattle.trace.proofs.Walk.{found-end, found-next, Past, along, At, ended, broke, went, look, no-records}
 use Rattle.trace.proofs.Loop.{boundary}
 
 -- the text of some records, one record at a time
@@ -40,15 +41,19 @@ pub rest-text : (s : List ℕ) (at : ℕ) (b : ℕ) (rs : List Record) → found
 unfolding Reads linesOf joined
 rest-text s = along s (Reads s) (λ at ih b rs h. go at ih b rs h (look s at b))
   where
-    first : (at : ℕ) (r : Record) (e : ℕ) (rs : List Record) → recordAt s at ≡ Is r e → Reads s e → (b : ℕ) (x : Found) → foundFrom s e b ≡ x → withFirst r x ≡ Records rs → Rest s at rs
+    first : (at : ℕ) (r : Record) (e : ℕ) (rs : List Record) → recordAt s at ≡ Is r e → Reads s e
+        → (b : ℕ) (x : Found) → foundFrom s e b ≡ x → withFirst r x ≡ Records rs → Rest s at rs
     first at r e rs q ih b (Breaks k) p h = absurd (no-records k rs h)
     first at r e rs q ih b (Records ts) p h =
         let w = record-text s at r e q in
         let t = ih b ts p in
         let same : r ∷ ts ≡ rs = cc in
-        rw same at (let x : Rest s at (r ∷ ts) = record { text = w .text .text ∙ ap (λ (z : List ℕ). recordText r ++ z) (t .text) ∙ sym (lines-first r ts); expressible = also (w .expressible) (t .expressible) } in x)
+        rw (← same) (record {
+          text = w .text .text ∙ ap (λ (z : List ℕ). recordText r ++ z) (t .text) ∙ sym (lines-first r ts);
+          expressible = also (w .expressible) (t .expressible);
+        })
 
-    go : (at : ℕ) → ((r : Record) (e : ℕ) → recordAt s at ≡ Is r e → Reads s e) → (b : ℕ) (rs : List Record) → foundFrom s at b ≡ Records rs → At s at b → Rest s at rs
+    go : (at : ℕ) → Past s (Reads s) at → (b : ℕ) (rs : List Record) → foundFrom s at b ≡ Records rs → At s at b → Rest s at rs
     go at ih b rs h (ended p f) =
         let same : _≡_ {A = List Record} [] rs = cc in
         rw (← same) (record { text = ap (λ (k : ℕ). drop k s) p ∙ drop-length s; expressible = none })
@@ -56,16 +61,17 @@ rest-text s = along s (Reads s) (λ at ih b rs h. go at ih b rs h (look s at b))
     go at ih b rs h (went r e q f) = first at r e rs q (ih r e q) (b + 6) (foundFrom s e (b + 6)) refl (sym f ∙ h)
 
 -- and the text of expressible records, to the last byte, is found as them
-pub rest-found : (rs : List Record) (s : List ℕ) (at b : ℕ) → AllExpressible rs → drop at s ≡ joined (linesOf rs) → at + length (joined (linesOf rs)) ≡ length s → foundFrom s at b ≡ Records rs
+pub rest-found : (rs : List Record) (s : List ℕ) (at b : ℕ) → AllExpressible rs
+    → drop at s ≡ joined (linesOf rs) → at + length (joined (linesOf rs)) ≡ length s → foundFrom s at b ≡ Records rs
 unfolding linesOf joined
 rest-found [] s at b x e l = found-end s at b (omega arith)
 rest-found (r ∷ rs) s at b (also x xs) e l =
     let t = joined (linesOf rs) in
     let e' : drop at s ≡ recordText r ++ t = e ∙ lines-first r rs in
-    let l' : at + (length (recordText r) + length t) ≡ length s = ap (λ (z : ℕ). at + z) (sym (length-append (recordText r) t) ∙ ap length (sym (lines-first r rs))) ∙ l in
-    let q = record-of r s at t x e' in
+    let size = ap length (lines-first r rs) ∙ length-append (recordText r) t in
     let p = at + length (recordText r) in
-    found-next s at b r p (λ z. omega (arith, text-length r)) q ∙ ap (withFirst r) (rest-found rs s p (b + 6) xs (rest-of s (recordText r) t at e') (omega arith))
+    let others = rest-found rs s p (b + 6) xs (rest-of s (recordText r) t at e') (omega arith) in
+    found-next s at b r p (λ z. omega (arith, text-length r)) (record-of r s at t x e') ∙ ap (withFirst r) others
 
 -- the same with a first line in front
 module _ (first : List ℕ) where
@@ -135,7 +141,8 @@ pub opened : (s : List ℕ) (n : ℕ) → reading s ≡ reading.Whole n → Open
 unfolding reading
 opened s n h = go (traceOf s) refl h
   where
-    found : (x y : Bool) (rs : List Record) → cond x (Breaks 0) (cond y (foundFrom s firstRecord 1) (Breaks 1)) ≡ Records rs → foundFrom s firstRecord 1 ≡ Records rs
+    found : (x y : Bool) (rs : List Record)
+        → cond x (Breaks 0) (cond y (foundFrom s firstRecord 1) (Breaks 1)) ≡ Records rs → foundFrom s firstRecord 1 ≡ Records rs
     found true y rs h = absurd (no-records 0 rs h)
     found false false rs h = absurd (no-records 1 rs h)
     found false true rs h = h

@@ -53,4 +53,7 @@ end-only s at h none = go (look s at 0)
     go : At s at 0 → at ≡ length s
     go (ended p f) = p
     go (broke k q f) = absurd (no-records (0 + k) (recordsFrom s at) (sym f ∙ h))
-    go (went r e q f) = absurd (let z : _≡_ {A = List Record} [] (r ∷ recordsFrom s e) = sym none ∙ next-record s at r e h q .first in let y : _≡_ {A = ℕ} 0 1 = cc in omega arith)
+    go (went r e q f) =
+        let some = next-record s at r e h q .first in
+        let y : _≡_ {A = ℕ} 0 1 = cc in
+        absurd (omega arith)

@@ -10,7 +10,8 @@ use Rattle.text.proofs.Places.{rest-of, There, then}
 use Rattle.text.proofs.Lines.{field-text, lines-of, lines-text, Spelled, zeros, zeros-within, lines-open, Opening, lines-late}
 use Rattle.text.specs.declared.Number.the-variants as number
 use Rattle.trace.specs.Op.{opLine, opAt}
-use Rattle.trace.specs.Record.{mostSlot, limit, rules, numbersOf, Expressible, recordLines, recordText, recordOf, onOp, onLines, recordAt}
+use Rattle.trace.specs.Record.{mostSlot, limit, rules, numbersOf, Expressible, recordLines, recordText}
+use Rattle.trace.specs.Record.{recordOf, onOp, onLines, recordAt}
 use Rattle.trace.specs.declared.Op.{Op}
 use Rattle.trace.specs.declared.Op.the-variants.{Begin}
 use Rattle.trace.specs.declared.ops.OpAt.{OpAt}
@@ -47,14 +48,16 @@ pub text-length : (r : Record) → 0 < length (recordText r)
 text-length r = rw (text-is r) (simp length-append (omega (arith, op-length (r .op))))
 
 -- reading what is printed gives the record
-pub record-of : (r : Record) (s : List ℕ) (at : ℕ) (rest : List ℕ) → Expressible r → drop at s ≡ recordText r ++ rest → recordAt s at ≡ Is r (at + length (recordText r))
+pub record-of : (r : Record) (s : List ℕ) (at : ℕ) (rest : List ℕ) → Expressible r
+    → drop at s ≡ recordText r ++ rest → recordAt s at ≡ Is r (at + length (recordText r))
 unfolding recordAt
 record-of r s at rest x e =
     let o = opLine (r .op) in
     let t = joined (lineTexts (rules (r .op)) (numbersOf r)) in
     let e' : drop at s ≡ o ++ (t ++ rest) = e ∙ ap (λ (z : List ℕ). z ++ rest) (text-is r) ∙ append-assoc o t rest in
     let l : length (recordText r) ≡ length o + length t = ap length (text-is r) ∙ length-append o t in
-    rw (op-of s at (r .op) (t ++ rest) e', lines-of (rules (r .op)) (numbersOf r) s (at + length o) 2 rest x (rest-of s o (t ++ rest) at e'))
+    let lines = lines-of (rules (r .op)) (numbersOf r) s (at + length o) 2 rest x (rest-of s o (t ++ rest) at e') in
+    rw (op-of s at (r .op) (t ++ rest) e', lines)
     (ap (Is r) (omega arith))
 
 -- what is read as a record is that record's text
@@ -65,7 +68,8 @@ pub record Written (s : List ℕ) (at : ℕ) (r : Record) (e : ℕ) : Type 0 whe
 no-record : (k : ℕ) (r : Record) (e : ℕ) → Broken k ≡ Is r e → ⊥
 no-record k r e h = let z : _≡_ {A = ℕ} 0 1 = cc in omega arith
 
-made-written : (s : List ℕ) (at : ℕ) (o : Op) (a : ℕ) (ns : List ℕ) (e : ℕ) → There s at (opLine o) a → Spelled s a (rules o) ns e → Written s at (recordOf o ns) e
+made-written : (s : List ℕ) (at : ℕ) (o : Op) (a : ℕ) (ns : List ℕ) (e : ℕ)
+    → There s at (opLine o) a → Spelled s a (rules o) ns e → Written s at (recordOf o ns) e
 made-written s at o a ns e p q =
     let same = numbers-made o ns (q .within) in
     let t = then s at (opLine o) a (joined (lineTexts (rules o) ns)) e p (q .text) in
@@ -119,6 +123,8 @@ after-op s at o a k p w =
     let t = joined (take (w .before) (lineTexts (rules o) ns)) in
     let first : joined (take (suc (w .before)) (recordLines (recordOf o ns))) ≡ opLine o ++ t =
     ap (λ (z : List ℕ). opLine o ++ joined (take (w .before) (lineTexts (rules o) z))) (sym (numbers-made o ns (w .within))) in
+    let apart : drop at s ≡ opLine o ++ t ++ w .rest =
+    p .text ∙ ap (λ (z : List ℕ). opLine o ++ z) (w .text) ∙ sym (append-assoc (opLine o) t (w .rest)) in
     record {
       maybe = recordOf o ns;
       expressible = expressible-made o ns (w .within);
@@ -126,14 +132,15 @@ after-op s at o a k p w =
       which = omega (arith, w .which);
       short = five o (w .before) (w .short);
       rest = w .rest;
-      text = p .text ∙ ap (λ (z : List ℕ). opLine o ++ z) (w .text) ∙ sym (append-assoc (opLine o) t (w .rest)) ∙ ap (λ (z : List ℕ). z ++ w .rest) (sym first);
+      text = apart ∙ ap (λ (z : List ℕ). z ++ w .rest) (sym first);
     }
 
 pub record-open : (s : List ℕ) (at k : ℕ) → recordAt s at ≡ Broken k → BrokenOff s at k
 unfolding recordAt joined
 record-open s at k h = go (opAt s at) refl h
   where
-    lines : (o : Op) (a : ℕ) → There s at (opLine o) a → (x : Lines) → linesAt s a 2 (rules o) ≡ x → onLines o x ≡ Broken k → BrokenOff s at k
+    lines : (o : Op) (a : ℕ) → There s at (opLine o) a → (x : Lines) → linesAt s a 2 (rules o) ≡ x
+        → onLines o x ≡ Broken k → BrokenOff s at k
     lines o a p (Read ns b) q h = absurd (no-record k (recordOf o ns) b (sym h))
     lines o a p (Breaks j) q h =
         let same : j ≡ k = cc in
@@ -142,21 +149,34 @@ record-open s at k h = go (opAt s at) refl h
     go : (x : OpAt) → opAt s at ≡ x → onOp x (λ o a. onLines o (linesAt s a 2 (rules o))) ≡ Broken k → BrokenOff s at k
     go op.Unknown q h =
         let same : 1 ≡ k = cc in
-        record { maybe = recordOf Begin []; expressible = begin-zeros; before = 0; which = omega arith; short = omega arith; rest = drop at s; text = refl }
+        record {
+          maybe = recordOf Begin [];
+          expressible = begin-zeros;
+          before = 0;
+          which = omega arith;
+          short = omega arith;
+          rest = drop at s;
+          text = refl;
+        }
     go (op.Is o a) q h = lines o a (op-there s at o a q) (linesAt s a 2 (rules o)) refl h
 
 -- and where the first j lines of an expressible record stand, a line that breaks a rule comes later
-pub record-late : (r : Record) (j : ℕ) (s : List ℕ) (at k : ℕ) (rest : List ℕ) → Expressible r → drop at s ≡ joined (take j (recordLines r)) ++ rest → recordAt s at ≡ Broken k → j < k
+pub record-late : (r : Record) (j : ℕ) (s : List ℕ) (at k : ℕ) (rest : List ℕ) → Expressible r
+    → drop at s ≡ joined (take j (recordLines r)) ++ rest → recordAt s at ≡ Broken k → j < k
 unfolding recordAt recordLines joined
 record-late r zero s at k rest x e h = omega (arith, record-open s at k h .which)
 record-late r (suc i) s at k rest x e h =
     let o = opLine (r .op) in
     let t = joined (take i (lineTexts (rules (r .op)) (numbersOf r))) in
     let e' : drop at s ≡ o ++ (t ++ rest) = e ∙ append-assoc o t rest in
-    let h' : onLines (r .op) (linesAt s (at + length o) 2 (rules (r .op))) ≡ Broken k = rw (op-of s at (r .op) (t ++ rest) e') at h in
-    go (linesAt s (at + length o) 2 (rules (r .op))) refl (lines-late (rules (r .op)) (numbersOf r) i s (at + length o) 2 k rest x (rest-of s o (t ++ rest) at e')) h'
+    let h' : onLines (r .op) lines ≡ Broken k = rw (op-of s at (r .op) (t ++ rest) e') at h in
+    let late = lines-late (rules (r .op)) (numbersOf r) i s (at + length o) 2 k rest x (rest-of s o (t ++ rest) at e') in
+    go lines refl late h'
   where
-    go : (x : Lines) → linesAt s (at + length (opLine (r .op))) 2 (rules (r .op)) ≡ x → (linesAt s (at + length (opLine (r .op))) 2 (rules (r .op)) ≡ Breaks k → 2 + i ≤ k)
+    lines : Lines
+    lines = linesAt s (at + length (opLine (r .op))) 2 (rules (r .op))
+
+    go : (x : Lines) → lines ≡ x → (lines ≡ Breaks k → 2 + i ≤ k)
         → onLines (r .op) x ≡ Broken k → suc i < k
     go (Read ns b) q late h = absurd (no-record k (recordOf (r .op) ns) b (sym h))
     go (Breaks j) q late h =

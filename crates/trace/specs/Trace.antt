@@ -58,7 +58,10 @@ onRecord (one.Broken k) before f = Breaks (before + k)
 -- what stands from `at` to the end, where `before` lines stand before it; the first number bounds how many records are tried
 unfoldable pub foundIn : ℕ → List ℕ → ℕ → ℕ → Found
 foundIn zero s at before = Breaks (before + 1)
-foundIn (suc more) s at before = cond (eqb at (length s)) (Records []) (onRecord (recordAt s at) before (λ e. foundIn more s e (before + 6)))
+foundIn (suc more) s at before =
+    cond (eqb at (length s))
+    (Records [])
+    (onRecord (recordAt s at) before (λ e. foundIn more s e (before + 6)))
 
 -- no more records than bytes are left, and one more try finds the end
 unfoldable pub foundFrom : List ℕ → ℕ → ℕ → Found
