@@ -6,7 +6,7 @@ use mathlib.Core.Bool.{Bool, true, false, _&&_}
 use mathlib.Core.List.{List, [], _∷_}
 use lib.Dec.{eqb}
 
--- the bytes of a quoted text, which for plain letters, digits and signs are its characters' codes
+-- the bytes of a quoted text in ASCII
 abbrev pub bytes : String → List ℕ
 bytes none = []
 bytes (c then s) = code c ∷ bytes s

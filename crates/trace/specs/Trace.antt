@@ -102,7 +102,7 @@ pub record Opens (first : List ℕ) (k : ℕ) (s : List ℕ) : Type 0 where
   pub rest : List ℕ
   pub text : s ≡ joined (take k (traceLines first records)) ++ rest
 
--- line k + 1 is the first that breaks a rule: s begins with the first k lines of some trace, and with no first k + 1
+-- line k + 1 is the first that breaks a rule: s begins with the first k lines of some trace under this first line, and with no first k + 1
 pub record FirstBroken (first : List ℕ) (k : ℕ) (s : List ℕ) : Type 0 where
   pub before : Opens first k s
   pub broken : Opens first (k + 1) s → ⊥
