@@ -1,4 +1,4 @@
--- A reader as a value: the lent trace, its pointer with it, and a place. Assumes nothing.
+-- A reader as a value: the lent trace, its pointer with it, and a place.
 use Prim.Native.Nat.{ℕ}
 use mathlib.Core.List.{List}
 use denote.Ref.{RefT}

@@ -12,11 +12,12 @@ use borrow.Author.Tests.{leb-true}
 use Rattle.rules.proofs.Bools.{and-true}
 use Rattle.text.specs.declared.Put.{Put}
 use Rattle.text.specs.declared.Put.the-variants.{Past, NoRoom}
+use Rattle.text.specs.Keys.{inKey}
 use Rattle.text.specs.Line.{lineText}
 use Rattle.text.specs.Write.{spliced, putAt, written}
 use Rattle.text.proofs.Decimal.{length-word}
 use Rattle.text.proofs.Splice.{splice-length, splice-none, splice-append, room, line-length}
-use Rattle.render.specs.Output.{inKey, inLines, need, fits, putText, leftText, Wrote}
+use Rattle.render.specs.Output.{inLines, need, fits, putText, leftText, Wrote}
 
 line-short : (key : List ℕ) (n : ℕ) → n < 2 ^ 64 → length (lineText key n) ≤ length key + 21
 line-short key n h = omega (arith, line-length key n, length-word n h)

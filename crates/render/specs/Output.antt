@@ -11,45 +11,10 @@ use Rattle.snapshots.specs.declared.taken.Taken.{Taken}
 use Rattle.snapshots.specs.declared.taken.Taken.the-variants.{Accepted, Refused}
 use Rattle.text.specs.declared.Put.{Put}
 use Rattle.text.specs.declared.Put.the-variants.{Past, NoRoom}
+use Rattle.text.specs.Keys.{answerKey, slotKey, idKey, seenKey, xminKey, xmaxKey, vacuumKey, countKey, inKey}
 use Rattle.text.specs.Line.{lineText}
 use Rattle.text.specs.Write.{spliced}
 use Rattle.render.specs.declared.printed.Printed.{Printed}
-
--- `answer=`
-abbrev pub answerKey : List ℕ
-answerKey = 97 ∷ 110 ∷ 115 ∷ 119 ∷ 101 ∷ 114 ∷ 61 ∷ []
-
--- `slot=`
-abbrev pub slotKey : List ℕ
-slotKey = 115 ∷ 108 ∷ 111 ∷ 116 ∷ 61 ∷ []
-
--- `id=`
-abbrev pub idKey : List ℕ
-idKey = 105 ∷ 100 ∷ 61 ∷ []
-
--- `seen=`
-abbrev pub seenKey : List ℕ
-seenKey = 115 ∷ 101 ∷ 101 ∷ 110 ∷ 61 ∷ []
-
--- `xmin=`
-abbrev pub xminKey : List ℕ
-xminKey = 120 ∷ 109 ∷ 105 ∷ 110 ∷ 61 ∷ []
-
--- `xmax=`
-abbrev pub xmaxKey : List ℕ
-xmaxKey = 120 ∷ 109 ∷ 97 ∷ 120 ∷ 61 ∷ []
-
--- `vacuum=`
-abbrev pub vacuumKey : List ℕ
-vacuumKey = 118 ∷ 97 ∷ 99 ∷ 117 ∷ 117 ∷ 109 ∷ 61 ∷ []
-
--- `count=`
-abbrev pub countKey : List ℕ
-countKey = 99 ∷ 111 ∷ 117 ∷ 110 ∷ 116 ∷ 61 ∷ []
-
--- `in=`
-abbrev pub inKey : List ℕ
-inKey = 105 ∷ 110 ∷ 61 ∷ []
 
 -- the first four, with no xmin and no xmax
 abbrev pub numbers : ℕ → ℕ → ℕ → ℕ → Printed

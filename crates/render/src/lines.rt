@@ -6,8 +6,9 @@ ghost use mathlib.Core.Path.{_≡_};
 ghost use mathlib.Core.List.{_++_};
 ghost use Prim.Native.Nat.{_+_, _*_, _≤_};
 ghost use lib.ListN.{length, take};
+ghost use Rattle.text.specs.Keys.{inKey};
 ghost use Rattle.text.specs.Line.{lineText};
-ghost use Rattle.render.specs.Output.{eightLines, inKey, inLines, fits, putText, leftText, Wrote};
+ghost use Rattle.render.specs.Output.{eightLines, inLines, fits, putText, leftText, Wrote};
 
 // The line of `key` and n, where the caller has seen that there is room: a number takes 20 digits at most.
 fn line(buf: &mut [u8], at: usize, key: &[u8], n: u64) -> usize

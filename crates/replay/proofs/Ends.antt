@@ -12,9 +12,10 @@ use Rattle.kinds.specs.Refusals.{told}
 use Rattle.text.specs.declared.Put.{Put}
 use Rattle.text.specs.declared.Put.the-variants.{Past, NoRoom}
 use Rattle.text.specs.Decimal.{decimalIn, decimal, numberText}
+use Rattle.text.specs.Keys.{answerKey, recordsKey, atKey}
 use Rattle.text.specs.Line.{lineText}
 use Rattle.text.specs.Write.{putAt, written}
-use Rattle.render.specs.Output.{answerKey, Wrote}
+use Rattle.render.specs.Output.{Wrote}
 use Rattle.render.proofs.Wrote.{line-wrote, line-put-there, wrote-then}
 use Rattle.replay.specs.Replay.{recordsKey, atKey, brokenText}
 use Rattle.replay.specs.Into.{BrokenFits, EndFits}

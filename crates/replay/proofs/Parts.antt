@@ -9,12 +9,13 @@ use lib.ListN.{length}
 use Rattle.rules.specs.declared.Table.{Table}
 use Rattle.rules.specs.Calls.{after, answer}
 use Rattle.rules.specs.Tables.{freshTable}
+use Rattle.text.specs.Keys.{recordsKey}
 use Rattle.text.specs.Line.{lineText}
 use Rattle.trace.specs.declared.Record.{Record}
 use Rattle.trace.specs.Trace.{Found, Records, Breaks, traceOf}
 use Rattle.render.specs.Output.{fits}
 use Rattle.step.specs.Named.{callOf, outputOf}
-use Rattle.replay.specs.Replay.{tableAfter, textOf, recordsKey, brokenText, replayBy, replayOf}
+use Rattle.replay.specs.Replay.{tableAfter, textOf, brokenText, replayBy, replayOf}
 use Rattle.replay.specs.Part.{Part, withText, partOf}
 use Rattle.replay.specs.Into.{whole, cut, intoEnd, intoBy, intoOf}
 

@@ -9,23 +9,21 @@ use lib.Dec.{leb}
 use lib.ListN.{length, length-append}
 use Rattle.rules.specs.declared.Table.{Table}
 use Rattle.rules.specs.Tables.{freshTable}
+use Rattle.text.specs.Keys.{recordsKey}
 use Rattle.text.specs.Line.{lineText}
 use Rattle.text.specs.Write.{spliced, written}
 use Rattle.text.proofs.Splice.{splice-none, splice-append}
 use Rattle.trace.specs.declared.Record.{Record}
 use Rattle.trace.specs.declared.Reading.the-variants as reads
-use Rattle.trace.specs.Trace.{Found, Records, Breaks, traceOf, counted, reading, recordsFrom, firstRecord}
-use Rattle.trace.proofs.Grammar.{begun}
+use Rattle.trace.specs.Trace.{Breaks, traceOf, reading, recordsFrom, firstRecord}
+use Rattle.trace.proofs.Grammar.{opened}
+use Rattle.trace.proofs.Refusal.{trace-breaks}
 use Rattle.trace.proofs.Loop.{none-left, end-only}
 use Rattle.replay.specs.Replay.{recordsKey, brokenText}
 use Rattle.replay.specs.Part.{Part, partOf, PartFits}
 use Rattle.replay.specs.Into.{Into, whole, cut, textIn, intoEnd, intoOf, BrokenFits, EndFits, replayed, IntoFits}
 use Rattle.replay.specs.declared.into.Replayed.{Replayed}
 use Rattle.replay.specs.declared.into.Replayed.the-variants.{Written, NoRoom}
-
-broken-found : (f : Found) {line : ℕ} → counted f ≡ reads.Broken line → f ≡ Breaks line
-broken-found (Records rs) e = let z : _≡_ {A = ℕ} 0 1 = cc in absurd (omega arith)
-broken-found (Breaks k) e = cc
 
 module _ (n : ℕ) (s xs : List ℕ) where
   -- what is left at the buffer's start says all of it
@@ -37,7 +35,7 @@ module _ (n : ℕ) (s xs : List ℕ) where
   into-broken line {ys} {r} e f = go (leb 33 (length xs)) refl
     where
       found : traceOf s ≡ Breaks line
-      found = broken-found (traceOf s) e
+      found = trace-breaks (traceOf s) line e
 
       go : (b : Bool) → leb 33 (length xs) ≡ b → IntoFits n s xs ys r
       go true q = fits-by (whole (brokenText line)) (rw (found, q)) (rw q at (f .says)) (rw q at (f .text))
@@ -52,7 +50,7 @@ module _ (n : ℕ) (s xs : List ℕ) where
 
       into-is : intoOf n (length xs) s ≡ intoEnd (length xs) count (part .left) (part .text)
       unfolding intoOf part
-      into-is = let b = begun s count e in rw (b .records) (rw (b .many))
+      into-is = let b = opened s count e in rw (b .records) (rw (b .many))
 
       pub into-whole : {zs : List ℕ} {r : Replayed} → at ≡ length s → length ys ≡ length xs → EndFits count filled ys zs r → IntoFits n s xs zs r
       unfolding written part

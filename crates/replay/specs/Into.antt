@@ -6,13 +6,14 @@ use mathlib.Core.List.{List, [], _∷_, _++_}
 use lib.Dec.{leb}
 use lib.ListN.{length}
 use Rattle.rules.specs.Tables.{freshTable}
+use Rattle.text.specs.Keys.{recordsKey}
 use Rattle.text.specs.Line.{lineText}
 use Rattle.text.specs.Write.{spliced, written}
 use Rattle.trace.specs.declared.Record.{Record}
 use Rattle.trace.specs.Trace.{Found, Records, Breaks, traceOf}
 use Rattle.replay.specs.declared.into.Replayed.{Replayed}
 use Rattle.replay.specs.declared.into.Replayed.the-variants.{Written, NoRoom}
-use Rattle.replay.specs.Replay.{recordsKey, brokenText}
+use Rattle.replay.specs.Replay.{brokenText}
 use Rattle.replay.specs.Part.{partOf}
 
 -- what a replay into a buffer of size bytes leaves at its start: the whole text, or as much of it as had room

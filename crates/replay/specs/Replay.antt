@@ -7,10 +7,10 @@ use Rattle.kinds.specs.Refusals.{told}
 use Rattle.rules.specs.declared.Table.{Table}
 use Rattle.rules.specs.Calls.{after}
 use Rattle.rules.specs.Tables.{freshTable}
+use Rattle.text.specs.Keys.{answerKey, recordsKey, atKey}
 use Rattle.text.specs.Line.{lineText}
 use Rattle.trace.specs.declared.Record.{Record}
 use Rattle.trace.specs.Trace.{Found, Records, Breaks, traceOf}
-use Rattle.render.specs.Output.{answerKey}
 use Rattle.step.specs.Named.{callOf, outputOf}
 
 -- the table after records, and what they print
@@ -21,14 +21,6 @@ tableAfter n t (r ∷ rs) = tableAfter n (after n t (callOf r)) rs
 unfoldable pub textOf : ℕ → Table → List Record → List ℕ
 textOf n t [] = []
 textOf n t (r ∷ rs) = outputOf n t (callOf r) ++ textOf n (after n t (callOf r)) rs
-
--- `records=`
-abbrev pub recordsKey : List ℕ
-recordsKey = 114 ∷ 101 ∷ 99 ∷ 111 ∷ 114 ∷ 100 ∷ 115 ∷ 61 ∷ []
-
--- `at=`
-abbrev pub atKey : List ℕ
-atKey = 97 ∷ 116 ∷ 61 ∷ []
 
 -- refusal 9 prints its number and its line, and nothing else
 unfoldable pub brokenText : ℕ → List ℕ

@@ -6,3 +6,4 @@ mod part;
 pub use into::Replayed;
 pub use into::replay_into;
 pub use out::replay_to;
+pub use trace::LONGEST;

@@ -3,7 +3,7 @@ use libc::STDIN_FILENO;
 use libc::STDOUT_FILENO;
 
 // One byte more than a trace may have, to know that there is one.
-const ROOM: usize = 65537;
+const ROOM: usize = replay::LONGEST + 1;
 
 fn main() {
     let mut input = [0u8; ROOM];

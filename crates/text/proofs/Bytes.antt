@@ -1,4 +1,4 @@
--- Facts of a fixed byte string at the front of a text. Assumes nothing.
+-- Facts of a fixed byte string at the front of a text.
 use Prim.Native.Nat.{ℕ, _+_, _≤_, _<_}
 use native.Mathlib.Omega.{arith}
 use native.Mathlib.Decide.{decLt}
@@ -25,7 +25,8 @@ starts-text [] s e = refl
 starts-text (b ∷ k) [] e = absurd (false≢true e)
 starts-text (b ∷ k) (c ∷ s) e = go (eqb c b) refl e (starts-text k s)
   where
-    go : (x : Bool) → eqb c b ≡ x → (x && starts k s) ≡ true → (starts k s ≡ true → s ≡ k ++ drop (length k) s) → c ∷ s ≡ b ∷ k ++ drop (length k) s
+    go : (x : Bool) → eqb c b ≡ x → (x && starts k s) ≡ true → (starts k s ≡ true → s ≡ k ++ drop (length k) s)
+        → c ∷ s ≡ b ∷ k ++ drop (length k) s
     go true p e ih = ap₂ (λ (x : ℕ) (l : List ℕ). x ∷ l) (eqb-true c b p) (ih e)
     go false p e ih = absurd (false≢true e)
 
@@ -33,7 +34,8 @@ starts-text (b ∷ k) (c ∷ s) e = go (eqb c b) refl e (starts-text k s)
 pub starts-room : (k s : List ℕ) (at : ℕ) → 0 < length k → starts k (drop at s) ≡ true → at + length k ≤ length s
 starts-room k s at h e = omega (arith, simp (length-append, length-drop) at (ap length (starts-text k (drop at s) e)))
 
-pub starts-within : (k s : List ℕ) (at most : ℕ) → at ≤ most → length s ≤ most → starts k (drop at s) ≡ true → at + length k ≤ most
+pub starts-within : (k s : List ℕ) (at most : ℕ) → at ≤ most → length s ≤ most
+    → starts k (drop at s) ≡ true → at + length k ≤ most
 starts-within k s at most h g e = go (decLt 0 (length k))
   where
     go : Dec (0 < length k) → at + length k ≤ most
@@ -56,7 +58,8 @@ unfolding starts
 starts-end k j t h = rw (drop-of-length-le k)
 
 module _ (k s : List ℕ) (j i : ℕ) where
-  pub starts-same : j < length k → i < length s → getD s i 0 ≡ getD k j 0 → starts (drop j k) (drop i s) ≡ starts (drop (j + 1) k) (drop (i + 1) s)
+  pub starts-same : j < length k → i < length s → getD s i 0 ≡ getD k j 0
+      → starts (drop j k) (drop i s) ≡ starts (drop (j + 1) k) (drop (i + 1) s)
   unfolding starts
   starts-same h g e = rw (drop-cons k j 0, drop-cons s i 0, eq-eqb (getD s i 0) (getD k j 0) e) (simp add-one)
 

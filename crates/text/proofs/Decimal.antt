@@ -1,4 +1,4 @@
--- The decimal text of a number: its two equations, induction along its digits, its length. Assumes nothing.
+-- The decimal text of a number: its two equations, induction along its digits, its length.
 use Prim.Native.Nat.{ℕ, zero, suc, _+_, _/_, _%_, _^_, _*_, _≤_, _<_}
 use native.Mathlib.Omega.{arith}
 use native.Mathlib.Decide.{decLt}
@@ -36,7 +36,9 @@ decimal-small n h = in-small n n h
 pub decimal-more : (n : ℕ) → 10 ≤ n → decimal n ≡ decimal (n / 10) ++ ((48 + n % 10) ∷ [])
 unfolding decimal
 decimal-more zero h = absurd (omega arith)
-decimal-more (suc k) h = in-more k (suc k) h ∙ ap (λ (x : List ℕ). x ++ ((48 + suc k % 10) ∷ [])) (places k (suc k / 10) (suc k / 10) (omega arith) (le-refl _))
+decimal-more (suc k) h =
+    let tenth = suc k / 10 in
+    in-more k (suc k) h ∙ ap (λ (x : List ℕ). x ++ ((48 + suc k % 10) ∷ [])) (places k tenth tenth (omega arith) (le-refl _))
 
 -- induction along the digits
 module _ (P : ℕ → Type 0) (small : (n : ℕ) → n < 10 → P n) (more : (n : ℕ) → 10 ≤ n → P (n / 10) → P n) where
@@ -59,7 +61,10 @@ pub length-more : (n : ℕ) → 10 ≤ n → length (decimal n) ≡ length (deci
 length-more n h = ap length (decimal-more n h) ∙ length-append (decimal (n / 10)) ((48 + n % 10) ∷ [])
 
 pub length-some : (n : ℕ) → 1 ≤ length (decimal n)
-length-some = by-tens (λ (n : ℕ). 1 ≤ length (decimal n)) (λ n h. omega (arith, length-small n h)) (λ n h ih. omega (arith, length-more n h))
+length-some =
+    by-tens (λ (n : ℕ). 1 ≤ length (decimal n))
+    (λ n h. omega (arith, length-small n h))
+    (λ n h ih. omega (arith, length-more n h))
 
 -- a number below 10 ^ k has at most k digits, and one from 10 ^ k on has more
 pub length-below : (k n : ℕ) → n < 10 ^ suc k → length (decimal n) ≤ suc k

@@ -1,4 +1,4 @@
--- A number's text is read as that number, and what is read as a number is its text. Assumes nothing.
+-- A number's text is read as that number, and what is read as a number is its text.
 use Prim.Native.Nat.{ℕ, _+_, _-_, _*_, _/_, _%_, _^_, _≤_, _<_}
 use native.Mathlib.Omega.{arith}
 use native.Mathlib.Decide.{decLt}
@@ -46,7 +46,10 @@ pub goes-last : (n b : ℕ) → n ≡ 1844674407370955161 → 48 ≤ b → b ≤
 goes-last n b e lo hi = go (decLt 53 b)
   where
     go : Dec (53 < b) → leb b 53 ≡ goesOn n b
-    go (yes l) = simp (lt-leb b 53 l, le-leb 48 b lo, le-leb b 57 hi, lt-ltb 0 n (omega arith), le-ltb (n * 10 + (b - 48)) (2 ^ 64) (omega arith))
+    go (yes l) =
+        let some = lt-ltb 0 n (omega arith) in
+        let large = le-ltb (n * 10 + (b - 48)) (2 ^ 64) (omega arith) in
+        simp (lt-leb b 53 l, le-leb 48 b lo, le-leb b 57 hi, some, large)
     go (no l) = le-leb b 53 (omega arith) ∙ sym (goes n b lo hi (omega arith) (omega arith))
 
 -- reading the digits of n leaves what stands after them, with n in hand
@@ -55,10 +58,20 @@ Reads n = n < 2 ^ 64 → (t : List ℕ) (at : ℕ) → numberFrom (decimal n ++ 
 
 reads : (n : ℕ) → Reads n
 unfolding Reads numberFrom numberTail
-reads = by-tens Reads
-    (λ n h fits t at. rw (decimal-small n h) (simp (le-leb 48 (48 + n) (omega arith), le-leb (48 + n) 57 (omega arith)) (rw (add-sub-cancel-left 48 n))))
-    (λ n h ih fits t at. rw (decimal-more n h, append-assoc, ih (omega arith), ne-eqb (48 + n % 10) 10 (λ x. omega arith), goes (n / 10) (48 + n % 10) (omega arith) (omega arith) (omega arith) (omega arith))
-    (ap₂ (numberTail t) (omega arith) (simp length-append (omega arith))))
+reads = by-tens Reads one-digit more-digits
+  where
+    one-digit : (n : ℕ) → n < 10 → Reads n
+    one-digit n h fits t at =
+        let low = le-leb 48 (48 + n) (omega arith) in
+        let high = le-leb (48 + n) 57 (omega arith) in
+        rw (decimal-small n h) (simp (low, high) (rw (add-sub-cancel-left 48 n)))
+
+    more-digits : (n : ℕ) → 10 ≤ n → Reads (n / 10) → Reads n
+    more-digits n h ih fits t at =
+        let b = 48 + n % 10 in
+        let on = goes (n / 10) b (omega arith) (omega arith) (omega arith) (omega arith) in
+        rw (decimal-more n h, append-assoc, ih (omega arith), ne-eqb b 10 (λ x. omega arith), on)
+        (ap₂ (numberTail t) (omega arith) (simp length-append (omega arith)))
 
 -- reading what is printed gives the number
 pub number-of : (n : ℕ) → n < 2 ^ 64 → (rest : List ℕ) (at : ℕ) → numberFrom (numberText n ++ rest) at ≡ Is n (at + length (numberText n))
@@ -110,21 +123,38 @@ unfolding numberTail
 tail-text [] n at m e fits h = absurd (no-number m e h)
 tail-text (b ∷ bs) n at m e fits h = go (eqb b 10) (goesOn n b) refl refl (tail-text bs (n * 10 + (b - 48)) at m e) h
   where
+    k : ℕ
+    k = n * 10 + (b - 48)
+
+    past : ℕ
+    past = at + length (decimal n) + 1
+
     go : (x y : Bool) → eqb b 10 ≡ x → goesOn n b ≡ y
-        → (n * 10 + (b - 48) < 2 ^ 64 → numberTail bs (n * 10 + (b - 48)) (at + length (decimal (n * 10 + (b - 48)))) ≡ Is m e → Spelt (decimal (n * 10 + (b - 48)) ++ bs) at m e)
-        → cond x (Is n (at + length (decimal n) + 1)) (cond y (numberTail bs (n * 10 + (b - 48)) (at + length (decimal n) + 1)) Bad) ≡ Is m e → Spelt (decimal n ++ b ∷ bs) at m e
+        → (k < 2 ^ 64 → numberTail bs k (at + length (decimal k)) ≡ Is m e → Spelt (decimal k ++ bs) at m e)
+        → cond x (Is n past) (cond y (numberTail bs k past) Bad) ≡ Is m e → Spelt (decimal n ++ b ∷ bs) at m e
     go true y p q ih h =
         let same : n ≡ m = cc in
         let place : at + length (decimal n) + 1 ≡ e = cc in
-        record { rest = bs; text = rw (eqb-true b 10 p, same, text-then); past = omega (arith, length-text m, ap (λ (x : ℕ). length (decimal x)) same); fits = omega arith }
+        record {
+          rest = bs;
+          text = rw (eqb-true b 10 p, same, text-then);
+          past = omega (arith, length-text m, ap (λ (x : ℕ). length (decimal x)) same);
+          fits = omega arith;
+        }
     go false false p q ih h = absurd (no-number m e h)
     go false true p q ih h =
         let w = went n b q in
-        let k = n * 10 + (b - 48) in
+        let tenth : k / 10 ≡ n = omega (arith, w .low, w .high) in
+        let last : 48 + k % 10 ≡ b = omega (arith, w .low, w .high) in
         let digits : decimal k ≡ decimal n ++ (b ∷ []) =
-        decimal-more k (omega (arith, w .some)) ∙ ap₂ (λ (x y : ℕ). decimal x ++ (y ∷ [])) (omega (arith, w .low, w .high)) (omega (arith, w .low, w .high)) in
+        decimal-more k (omega (arith, w .some)) ∙ ap₂ (λ (x y : ℕ). decimal x ++ (y ∷ [])) tenth last in
         let r = ih (w .fits) (ap (numberTail bs k) (omega (arith, simp length-append at (ap length digits))) ∙ h) in
-        record { rest = r .rest; text = sym (append-assoc (decimal n) (b ∷ []) bs) ∙ ap (λ (x : List ℕ). x ++ bs) (sym digits) ∙ r .text; past = r .past; fits = r .fits }
+        record {
+          rest = r .rest;
+          text = sym (append-assoc (decimal n) (b ∷ []) bs) ∙ ap (λ (x : List ℕ). x ++ bs) (sym digits) ∙ r .text;
+          past = r .past;
+          fits = r .fits;
+        }
 
 -- what is read as a number is that number's text
 pub text-of : (s : List ℕ) (at m e : ℕ) → numberFrom s at ≡ Is m e → Spelt s at m e
@@ -136,5 +166,6 @@ text-of (b ∷ bs) at m e h = go (isDigit b) refl h
     go false q h = absurd (no-number m e h)
     go true q h =
         let d = digit b q in
-        let one : decimal (b - 48) ≡ b ∷ [] = decimal-small (b - 48) (omega (arith, d .low, d .high)) ∙ ap (λ (x : ℕ). x ∷ []) (omega (arith, d .low)) in
+        let one : decimal (b - 48) ≡ b ∷ [] =
+        decimal-small (b - 48) (omega (arith, d .low, d .high)) ∙ ap (λ (x : ℕ). x ∷ []) (omega (arith, d .low)) in
         rw one at (tail-text bs (b - 48) at m e (omega (arith, d .high)) (rw one h))

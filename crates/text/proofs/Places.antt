@@ -1,4 +1,4 @@
--- Texts that stand at a place, one after the other. Assumes nothing.
+-- Texts that stand at a place, one after the other.
 use Prim.Native.Nat.{ℕ, _+_}
 use native.Mathlib.Omega.{arith}
 use mathlib.Core.Path.{_≡_, refl, sym, ap, _∙_}
@@ -19,7 +19,9 @@ pub record There (s : List ℕ) (at : ℕ) (t : List ℕ) (e : ℕ) : Type 0 whe
   pub past : e ≡ at + length t
 
 pub there : (s t rest : List ℕ) (at e : ℕ) → drop at s ≡ t ++ rest → e ≡ at + length t → There s at t e
-there s t rest at e h p = record { text = h ∙ ap (λ (r : List ℕ). t ++ r) (sym (rest-of s t rest at h) ∙ ap (λ (x : ℕ). drop x s) (sym p)); past = p }
+there s t rest at e h p =
+    let left : rest ≡ drop e s = sym (rest-of s t rest at h) ∙ ap (λ (x : ℕ). drop x s) (sym p) in
+    record { text = h ∙ ap (λ (r : List ℕ). t ++ r) left; past = p }
 
 pub then : (s : List ℕ) (at : ℕ) (t : List ℕ) (a : ℕ) (u : List ℕ) (e : ℕ) → There s at t a → There s a u e → There s at (t ++ u) e
 then s at t a u e p q = record {
@@ -28,4 +30,6 @@ then s at t a u e p q = record {
 }
 
 pub key-there : (s : List ℕ) (at : ℕ) (key : List ℕ) → starts key (drop at s) ≡ true → There s at key (at + length key)
-key-there s at key h = record { text = starts-text key (drop at s) h ∙ ap (λ (x : List ℕ). key ++ x) (drop-drop (length key) at s); past = refl }
+key-there s at key h =
+    let left = drop-drop (length key) at s in
+    record { text = starts-text key (drop at s) h ∙ ap (λ (x : List ℕ). key ++ x) left; past = refl }

@@ -1,16 +1,13 @@
--- Facts of a text spliced into a buffer. Assumes nothing.
-use Prim.Native.Nat.{ℕ, suc, _+_, _-_, _/_, _%_, _≤_, _<_}
+-- Facts of a text spliced into a buffer.
+use Prim.Native.Nat.{ℕ, suc, _+_, _/_, _%_, _≤_, _<_}
 use native.Mathlib.Omega.{arith}
-use native.Mathlib.Decide.{decLt}
 use native.Mathlib.Nat.{add-suc, add-zero, add-assoc}
 use native.Mathlib.Numerals.{add-one}
 use mathlib.Core.Path.{_≡_, sym, ap, _∙_}
-use mathlib.Core.Bool.{true, false}
 use mathlib.Core.List.{List, [], _∷_, _++_, append-assoc, append-nil}
-use lib.Dec.{leb}
 use lib.ListN.{length, take, drop, set, getD, length-append, length-take, length-drop, take-append-drop}
 use lib.Seq.{set-at, drop-cons, length-take-le, take-suc, take-at, drop-append-add, drop-drop}
-use borrow.Author.Tests.{le-leb, lt-leb, leb-true, leb-false}
+use borrow.Author.Tests.{le-leb, lt-leb}
 use Rattle.text.specs.declared.Put.the-variants.{Past, NoRoom}
 use Rattle.text.specs.Decimal.{decimal, numberText}
 use Rattle.text.specs.Line.{lineText}
@@ -26,20 +23,26 @@ unfolding spliced
 splice-none xs at = simp (append-nil, add-zero) (sym (take-append-drop at xs))
 
 -- a byte more at the end, and a byte more at the front
-pub splice-more : (xs : List ℕ) (at : ℕ) (t : List ℕ) (b : ℕ) → at + length t < length xs → set (spliced xs at t) (at + length t) b ≡ spliced xs at (t ++ (b ∷ []))
+pub splice-more : (xs : List ℕ) (at : ℕ) (t : List ℕ) (b : ℕ) → at + length t < length xs
+    → set (spliced xs at t) (at + length t) b ≡ spliced xs at (t ++ (b ∷ []))
 unfolding spliced
 splice-more xs at t b h =
-    rw (drop-cons xs (at + length t) 0, set-at (take at xs ++ t) (getD xs (at + length t) 0) (drop (suc (at + length t)) xs) b (at + length t) (simp (length-append, length-take) (omega arith)))
+    let p = at + length t in
+    let before : length (take at xs ++ t) ≡ p = simp (length-append, length-take) (omega arith) in
+    rw (drop-cons xs p 0, set-at (take at xs ++ t) (getD xs p 0) (drop (suc p) xs) b p before)
     (simp (append-assoc, length-append, add-suc, add-one))
 
 pub splice-front : (xs : List ℕ) (at : ℕ) (t : List ℕ) (b : ℕ) → at < length xs → set (spliced xs (suc at) t) at b ≡ spliced xs at (b ∷ t)
 unfolding spliced
 splice-front xs at t b h =
     let d : suc at + length t ≡ at + length (b ∷ t) = omega arith in
-    rw (take-suc xs at 0, append-assoc, append-assoc, set-at (take at xs) (getD xs at 0) (t ++ drop (suc at + length t) xs) b at (length-take-le at xs (omega arith)), d)
+    let before = length-take-le at xs (omega arith) in
+    let there = set-at (take at xs) (getD xs at 0) (t ++ drop (suc at + length t) xs) b at before in
+    rw (take-suc xs at 0, append-assoc, append-assoc, there, d)
     (sym (append-assoc (take at xs) (b ∷ t) (drop (at + length (b ∷ t)) xs)))
 
-pub splice-append : (xs : List ℕ) (at : ℕ) (t u : List ℕ) → at ≤ length xs → spliced (spliced xs at t) (at + length t) u ≡ spliced xs at (t ++ u)
+pub splice-append : (xs : List ℕ) (at : ℕ) (t u : List ℕ) → at ≤ length xs
+    → spliced (spliced xs at t) (at + length t) u ≡ spliced xs at (t ++ u)
 unfolding spliced
 splice-append xs at t u h =
     let l : length (take at xs ++ t) ≡ at + length t = simp (length-append, length-take) (omega arith) in
@@ -57,19 +60,14 @@ splice-take xs at t i h g =
     ∙ splice-more xs at (take i t) (getD t i 0) (omega arith)
     ∙ rw (add-one, take-suc t i 0)
 
-pub room-moved : (at n l : ℕ) → n ≤ l → leb at (l - n) ≡ leb (at + n) l
-room-moved at n l h = go (decLt l (at + n))
-  where
-    go : Dec (l < at + n) → leb at (l - n) ≡ leb (at + n) l
-    go (yes g) = lt-leb at (l - n) (omega arith) ∙ sym (lt-leb (at + n) l g)
-    go (no g) = le-leb at (l - n) (omega arith) ∙ sym (le-leb (at + n) l (omega arith))
-
 -- the answer and the buffer, with room and without
-pub no-room : (xs : List ℕ) (at : ℕ) (t : List ℕ) → length xs < at + length t → (NoRoom ≡ putAt xs at t) × (xs ≡ written xs at t)
+pub no-room : (xs : List ℕ) (at : ℕ) (t : List ℕ) → length xs < at + length t
+    → (NoRoom ≡ putAt xs at t) × (xs ≡ written xs at t)
 unfolding putAt written
 no-room xs at t h = (rw (lt-leb (at + length t) (length xs) h), rw (lt-leb (at + length t) (length xs) h))
 
-pub room : (xs : List ℕ) (at : ℕ) (t : List ℕ) → at + length t ≤ length xs → (Past (at + length t) ≡ putAt xs at t) × (spliced xs at t ≡ written xs at t)
+pub room : (xs : List ℕ) (at : ℕ) (t : List ℕ) → at + length t ≤ length xs
+    → (Past (at + length t) ≡ putAt xs at t) × (spliced xs at t ≡ written xs at t)
 unfolding putAt written
 room xs at t h = (rw (le-leb (at + length t) (length xs) h), rw (le-leb (at + length t) (length xs) h))
 
@@ -85,14 +83,18 @@ back-none xs at n i h = record { done = []; digits = sym (append-nil (decimal n)
 
 pub back-more : (xs : List ℕ) (at n : ℕ) (ys : List ℕ) (left i j : ℕ) → 10 ≤ left → i ≡ j + 1 → i < length xs → Backwards xs at n ys left i
     → Backwards xs at n (set ys i (48 + left % 10)) (left / 10) j
-back-more xs at n ys left i j h e l b = record {
-  done = (48 + left % 10) ∷ b .done;
-  digits = b .digits ∙ rw (decimal-more left h, append-assoc);
-  place = omega (arith, b .place, length-more left h);
-  left-there = rw (b .left-there, add-one) (splice-front xs i (b .done) (48 + left % 10) l ∙ ap (λ (k : ℕ). spliced xs k ((48 + left % 10) ∷ b .done)) (omega arith));
-}
+back-more xs at n ys left i j h e l b =
+    let digit = 48 + left % 10 in
+    let one-more = splice-front xs i (b .done) digit l in
+    record {
+      done = digit ∷ b .done;
+      digits = b .digits ∙ rw (decimal-more left h, append-assoc);
+      place = omega (arith, b .place, length-more left h);
+      left-there = rw (b .left-there, add-one) (one-more ∙ ap (λ (k : ℕ). spliced xs k (digit ∷ b .done)) (omega arith));
+    }
 
-pub back-last : (xs : List ℕ) (at n : ℕ) (ys : List ℕ) (left i : ℕ) → left < 10 → i < length xs → Backwards xs at n ys left i → set ys i (48 + left) ≡ spliced xs at (decimal n)
+pub back-last : (xs : List ℕ) (at n : ℕ) (ys : List ℕ) (left i : ℕ) → left < 10 → i < length xs
+    → Backwards xs at n ys left i → set ys i (48 + left) ≡ spliced xs at (decimal n)
 back-last xs at n ys left i h l b =
     let k : i ≡ at = omega (arith, b .place, length-small left h) in
     let text : decimal n ≡ (48 + left) ∷ b .done = b .digits ∙ ap (λ (x : List ℕ). x ++ b .done) (decimal-small left h) in
@@ -100,7 +102,8 @@ back-last xs at n ys left i h l b =
 
 -- a key, then a number's digits, then the newline
 pub line-written : (xs : List ℕ) (at : ℕ) (key : List ℕ) (n : ℕ) → at + length (lineText key n) ≤ length xs
-    → set (spliced (spliced xs at key) (at + length key) (decimal n)) (at + length key + length (decimal n)) 10 ≡ spliced xs at (lineText key n)
+    → set (spliced (spliced xs at key) (at + length key) (decimal n)) (at + length key + length (decimal n)) 10
+    ≡ spliced xs at (lineText key n)
 unfolding lineText numberText
 line-written xs at key n h =
     let l = simp length-append at h in
@@ -111,15 +114,17 @@ pub line-length : (key : List ℕ) (n : ℕ) → length (lineText key n) ≡ len
 unfolding lineText numberText
 line-length key n = simp length-append (omega arith)
 
-pub line-room : (xs : List ℕ) (at : ℕ) (key : List ℕ) (n d : ℕ) → d ≡ length (decimal n) → leb (at + (length key + d + 1)) (length xs) ≡ true → at + length (lineText key n) ≤ length xs
-line-room xs at key n d e h = omega (arith, line-length key n, leb-true (at + (length key + d + 1)) (length xs) h)
+-- with d for its number of digits, as the code counts them
+module _ (xs : List ℕ) (at : ℕ) (key : List ℕ) (n d : ℕ) (e : d ≡ length (decimal n)) where
+  pub line-short : length xs < at + (length key + d + 1)
+      → (NoRoom ≡ putAt xs at (lineText key n)) × (xs ≡ written xs at (lineText key n))
+  line-short h = no-room xs at (lineText key n) (omega (arith, line-length key n))
 
-pub line-no-room : (xs : List ℕ) (at : ℕ) (key : List ℕ) (n d : ℕ) → d ≡ length (decimal n) → leb (at + (length key + d + 1)) (length xs) ≡ false → length xs < at + length (lineText key n)
-line-no-room xs at key n d e h = omega (arith, line-length key n, leb-false (at + (length key + d + 1)) (length xs) h)
-
-pub line-put : (xs : List ℕ) (at : ℕ) (key : List ℕ) (n d : ℕ) (ys zs : List ℕ) → d ≡ length (decimal n) → at + length (lineText key n) ≤ length xs
-    → ys ≡ spliced xs at key → zs ≡ spliced ys (at + length key) (decimal n)
-    → (Past (at + length key + d + 1) ≡ putAt xs at (lineText key n)) × (set zs (at + length key + d) 10 ≡ written xs at (lineText key n))
-line-put xs at key n d ys zs e h p q =
-    let r = room xs at (lineText key n) h in
-    (ap Past (omega (arith, line-length key n)) ∙ r .0, rw (q, p, e) (line-written xs at key n h ∙ r .1))
+  pub line-put : {ys zs : List ℕ} → at + (length key + d + 1) ≤ length xs
+      → ys ≡ spliced xs at key → zs ≡ spliced ys (at + length key) (decimal n)
+      → (Past (at + length key + d + 1) ≡ putAt xs at (lineText key n)) × (set zs (at + length key + d) 10 ≡ written xs at (lineText key n))
+  line-put h p q =
+      let l = line-length key n in
+      let fits : at + length (lineText key n) ≤ length xs = omega arith in
+      let r = room xs at (lineText key n) fits in
+      (ap Past (omega arith) ∙ r .0, rw (q, p, e) (line-written xs at key n fits ∙ r .1))

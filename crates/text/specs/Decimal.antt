@@ -1,4 +1,4 @@
--- A number as text: what is printed, and what is read. Assumes nothing.
+-- A number as text: what is printed, and what is read.
 use Prim.Native.Nat.{ℕ, zero, suc, _+_, _-_, _*_, _/_, _%_, _^_}
 use mathlib.Core.Bool.{Bool, true, false, cond, _&&_}
 use mathlib.Core.List.{List, [], _∷_, _++_}

@@ -1,4 +1,5 @@
 pub mod Decimal
 pub mod Bytes
+pub mod Keys
 pub mod Line
 pub mod Write

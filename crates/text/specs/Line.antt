@@ -1,4 +1,4 @@
--- Lines of a key and a number: their text, and what is read of a text. Assumes nothing.
+-- Lines of a key and a number: their text, and what is read of a text.
 use Prim.Native.Nat.{ℕ, _+_, _^_, _≤_, _<_}
 use mathlib.Core.Bool.{Bool, false, cond}
 use mathlib.Core.List.{List, [], _∷_, _++_}

@@ -1,4 +1,4 @@
--- A text written into a buffer at a place. Assumes nothing.
+-- A text written into a buffer at a place.
 use Prim.Native.Nat.{ℕ, _+_}
 use mathlib.Core.Bool.{Bool, cond}
 use mathlib.Core.List.{List, _++_}

@@ -4,8 +4,6 @@ mod write;
 
 pub use read::bytes_at;
 pub use read::field_at;
-pub use read::number_at;
-pub use write::put_bytes;
 pub use write::put_line;
 
 // What stands at a place: a number, with the place past its newline, or none.

@@ -6,12 +6,6 @@ ghost use Rattle.text.specs.Decimal.{goesOn, numberAt};
 ghost use Rattle.text.specs.Bytes.{starts};
 ghost use Rattle.text.specs.Line.{fieldAt};
 
-fn wide(b: u8) -> u64
-    ensures { λ r. ⌜ r ≡ b ⌝ }
-{
-    b as u64
-}
-
 // Whether the byte b is a digit that may follow digits that make n. It compares with a tenth of
 // the largest number: a division for each digit would take longer than all the rest.
 fn goes_on(n: u64, b: u8) -> bool
@@ -36,7 +30,7 @@ fn goes_on(n: u64, b: u8) -> bool
 }
 
 // The decimal number at `at`, ended by one newline.
-pub fn number_at(s: &[u8], at: usize) -> Number
+fn number_at(s: &[u8], at: usize) -> Number
     ensures { λ r. ⌜ r ≡ numberAt (now (s .entry)) at ⌝ }
 {
     if s.len() <= at {
@@ -49,7 +43,7 @@ pub fn number_at(s: &[u8], at: usize) -> Number
     if b'9' < first {
         return Number::Bad;
     }
-    let mut n = wide(first - b'0');
+    let mut n = (first - b'0') as u64;
     let mut i = at + 1;
     while i < s.len() {
         let b = s[i];
@@ -59,7 +53,7 @@ pub fn number_at(s: &[u8], at: usize) -> Number
         if !goes_on(n, b) {
             return Number::Bad;
         }
-        n = n * 10 + wide(b - b'0');
+        n = n * 10 + (b - b'0') as u64;
         i += 1;
     }
     Number::Bad

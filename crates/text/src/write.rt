@@ -1,8 +1,7 @@
-// Writing at a place of a lent buffer: a fixed byte string, a line of a key and a number.
+// Writing at a place of a lent buffer: a line of a key and a number.
 use crate::Put;
 ghost use Prim.Native.Nat.{_≤_, _+_};
 ghost use mathlib.Core.Path.{_≡_};
-ghost use lib.Dec.{leb};
 ghost use lib.ListN.{length};
 ghost use Rattle.text.specs.Decimal.{decimal};
 ghost use Rattle.text.specs.Line.{lineText};
@@ -50,35 +49,17 @@ fn place_bytes(buf: &mut [u8], at: usize, t: &[u8])
     }
 }
 
-// Whether n bytes have room from `at` on.
-fn has_room(buf: &[u8], at: usize, n: usize) -> bool
-    ensures { λ r. ⌜ r ≡ leb (at + n) (length (now (buf .entry))) ⌝ }
-{
-    if buf.len() < n {
-        return false;
-    }
-    at <= buf.len() - n
-}
-
-// The bytes of t, from `at` on, where there is room for them.
-pub fn put_bytes(buf: &mut [u8], at: usize, t: &[u8]) -> Put
-    ensures { λ r. ⌜ r ≡ putAt (now (buf .entry)) at (now (t .entry)) ⌝ }
-    ensures { λ _. ⌜ now (buf .exit) ≡ written (now (buf .entry)) at (now (t .entry)) ⌝ }
-{
-    if !has_room(buf, at, t.len()) {
-        return Put::NoRoom;
-    }
-    place_bytes(buf, at, t);
-    Put::Past(at + t.len())
-}
-
 // The line of `key` and n, from `at` on, where there is room for it.
 pub fn put_line(buf: &mut [u8], at: usize, key: &[u8], n: u64) -> Put
     ensures { λ r. ⌜ r ≡ putAt (now (buf .entry)) at (lineText (now (key .entry)) n) ⌝ }
     ensures { λ _. ⌜ now (buf .exit) ≡ written (now (buf .entry)) at (lineText (now (key .entry)) n) ⌝ }
 {
     let digits = digits_in(n);
-    if !has_room(buf, at, key.len() + digits + 1) {
+    let size = key.len() + digits + 1;
+    if buf.len() < size {
+        return Put::NoRoom;
+    }
+    if buf.len() - size < at {
         return Put::NoRoom;
     }
     place_bytes(buf, at, key);

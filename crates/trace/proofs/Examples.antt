@@ -1,55 +1,51 @@
--- Texts and what they are read as, computed. Assumes nothing.
+-- Texts and what they are read as, computed.
 use mathlib.Core.Path.{_≡_, refl}
-use mathlib.Core.List.{[], _∷_}
+use mathlib.Core.List.{[], _++_}
 use Rattle.text.specs.Decimal.{numberTail, numberFrom, numberAt}
-use Rattle.text.specs.Bytes.{starts}
+use Rattle.text.specs.Bytes.{bytes, starts}
 use Rattle.text.specs.Line.{fieldAt, linesAt}
 use Rattle.trace.specs.Op.{tryName, opAt}
 use Rattle.trace.specs.Record.{limit, rules, recordAt}
-use Rattle.trace.specs.Trace.{foundIn, foundFrom, traceOf, reading}
+use Rattle.trace.specs.Trace.{header, foundIn, foundFrom, traceOf, reading}
 use Rattle.trace.specs.declared.Reading.the-variants.{Whole, Broken}
 
--- the input of document 01's whole case: two records
-whole-case : reading (116 ∷ 114 ∷ 97 ∷ 99 ∷ 101 ∷ 61 ∷ 112 ∷ 114 ∷ 111 ∷ 99 ∷ 45 ∷ 49 ∷ 10 ∷ 111 ∷ 112 ∷ 61 ∷ 98 ∷ 101 ∷ 103 ∷ 105 ∷ 110 ∷ 10 ∷ 115 ∷ 108 ∷ 111 ∷ 116 ∷ 61 ∷ 48 ∷ 10 ∷ 105 ∷ 100 ∷ 61 ∷ 48 ∷ 10 ∷ 115 ∷ 116 ∷ 97 ∷ 109 ∷ 112 ∷ 61 ∷ 53 ∷ 10 ∷ 99 ∷ 108 ∷ 111 ∷ 99 ∷ 107 ∷ 61 ∷ 48 ∷ 10 ∷ 115 ∷ 97 ∷ 109 ∷ 112 ∷ 108 ∷ 101 ∷ 61 ∷ 48 ∷ 10 ∷ 111 ∷ 112 ∷ 61 ∷ 115 ∷ 110 ∷ 97 ∷ 112 ∷ 10 ∷ 115 ∷ 108 ∷ 111 ∷ 116 ∷ 61 ∷ 48 ∷ 10 ∷ 105 ∷ 100 ∷ 61 ∷ 48 ∷ 10 ∷ 115 ∷ 116 ∷ 97 ∷ 109 ∷ 112 ∷ 61 ∷ 48 ∷ 10 ∷ 99 ∷ 108 ∷ 111 ∷ 99 ∷ 107 ∷ 61 ∷ 57 ∷ 10 ∷ 115 ∷ 97 ∷ 109 ∷ 112 ∷ 108 ∷ 101 ∷ 61 ∷ 51 ∷ 10 ∷ []) ≡ Whole 2
-unfolding reading traceOf foundFrom foundIn recordAt opAt tryName rules limit linesAt fieldAt numberAt numberFrom numberTail starts
-whole-case = refl
+record Read : Type 0 where
+  -- the input of document 01's whole case: two records
+  whole-case :
+      reading
+      (bytes "trace=proc-1\n"
+      ++ bytes "op=begin\nslot=0\nid=0\nstamp=5\nclock=0\nsample=0\n"
+      ++ bytes "op=snap\nslot=0\nid=0\nstamp=0\nclock=9\nsample=3\n")
+      ≡ Whole 2
+  -- a header with no record
+  header-only : reading header ≡ Whole 0
+  -- a header without its newline
+  header-open : reading (bytes "trace=proc-1") ≡ Broken 1
+  -- nothing at all
+  empty : reading [] ≡ Broken 1
+  -- slot 65536 is out of range: line 3
+  slot-too-large : reading (header ++ bytes "op=end\nslot=65536\n") ≡ Broken 3
+  -- end doesn't read `stamp`: line 5
+  unread-stamp : reading (header ++ bytes "op=end\nslot=65535\nid=7\nstamp=1\n") ≡ Broken 5
+  -- an op that is none: line 2, whatever follows
+  unknown-op : reading (header ++ bytes "op=begins\nslot=9\n") ≡ Broken 2
+  -- a record that stops after four lines: its fifth
+  missing-line : reading (header ++ bytes "op=own\nslot=0\nid=1\nstamp=0\n") ≡ Broken 6
+  -- an empty line after the last record is the next record's first
+  blank-line : reading (header ++ bytes "op=snap\nslot=0\nid=0\nstamp=0\nclock=1\nsample=1\n\n") ≡ Broken 8
 
--- a header with no record
-header-only : reading (116 ∷ 114 ∷ 97 ∷ 99 ∷ 101 ∷ 61 ∷ 112 ∷ 114 ∷ 111 ∷ 99 ∷ 45 ∷ 49 ∷ 10 ∷ []) ≡ Whole 0
-unfolding reading traceOf foundFrom foundIn recordAt opAt tryName rules limit linesAt fieldAt numberAt numberFrom numberTail starts
-header-only = refl
-
--- a header without its newline
-header-open : reading (116 ∷ 114 ∷ 97 ∷ 99 ∷ 101 ∷ 61 ∷ 112 ∷ 114 ∷ 111 ∷ 99 ∷ 45 ∷ 49 ∷ []) ≡ Broken 1
-unfolding reading traceOf foundFrom foundIn recordAt opAt tryName rules limit linesAt fieldAt numberAt numberFrom numberTail starts
-header-open = refl
-
--- nothing at all
-empty : reading ([]) ≡ Broken 1
-unfolding reading traceOf foundFrom foundIn recordAt opAt tryName rules limit linesAt fieldAt numberAt numberFrom numberTail starts
-empty = refl
-
--- slot 65536 is out of range: line 3
-slot-too-large : reading (116 ∷ 114 ∷ 97 ∷ 99 ∷ 101 ∷ 61 ∷ 112 ∷ 114 ∷ 111 ∷ 99 ∷ 45 ∷ 49 ∷ 10 ∷ 111 ∷ 112 ∷ 61 ∷ 101 ∷ 110 ∷ 100 ∷ 10 ∷ 115 ∷ 108 ∷ 111 ∷ 116 ∷ 61 ∷ 54 ∷ 53 ∷ 53 ∷ 51 ∷ 54 ∷ 10 ∷ []) ≡ Broken 3
-unfolding reading traceOf foundFrom foundIn recordAt opAt tryName rules limit linesAt fieldAt numberAt numberFrom numberTail starts
-slot-too-large = refl
-
--- end doesn't read `stamp`: line 5
-unread-stamp : reading (116 ∷ 114 ∷ 97 ∷ 99 ∷ 101 ∷ 61 ∷ 112 ∷ 114 ∷ 111 ∷ 99 ∷ 45 ∷ 49 ∷ 10 ∷ 111 ∷ 112 ∷ 61 ∷ 101 ∷ 110 ∷ 100 ∷ 10 ∷ 115 ∷ 108 ∷ 111 ∷ 116 ∷ 61 ∷ 54 ∷ 53 ∷ 53 ∷ 51 ∷ 53 ∷ 10 ∷ 105 ∷ 100 ∷ 61 ∷ 55 ∷ 10 ∷ 115 ∷ 116 ∷ 97 ∷ 109 ∷ 112 ∷ 61 ∷ 49 ∷ 10 ∷ []) ≡ Broken 5
-unfolding reading traceOf foundFrom foundIn recordAt opAt tryName rules limit linesAt fieldAt numberAt numberFrom numberTail starts
-unread-stamp = refl
-
--- an op that is none: line 2, whatever follows
-unknown-op : reading (116 ∷ 114 ∷ 97 ∷ 99 ∷ 101 ∷ 61 ∷ 112 ∷ 114 ∷ 111 ∷ 99 ∷ 45 ∷ 49 ∷ 10 ∷ 111 ∷ 112 ∷ 61 ∷ 98 ∷ 101 ∷ 103 ∷ 105 ∷ 110 ∷ 115 ∷ 10 ∷ 115 ∷ 108 ∷ 111 ∷ 116 ∷ 61 ∷ 57 ∷ 10 ∷ []) ≡ Broken 2
-unfolding reading traceOf foundFrom foundIn recordAt opAt tryName rules limit linesAt fieldAt numberAt numberFrom numberTail starts
-unknown-op = refl
-
--- a record that stops after four lines: its fifth
-missing-line : reading (116 ∷ 114 ∷ 97 ∷ 99 ∷ 101 ∷ 61 ∷ 112 ∷ 114 ∷ 111 ∷ 99 ∷ 45 ∷ 49 ∷ 10 ∷ 111 ∷ 112 ∷ 61 ∷ 111 ∷ 119 ∷ 110 ∷ 10 ∷ 115 ∷ 108 ∷ 111 ∷ 116 ∷ 61 ∷ 48 ∷ 10 ∷ 105 ∷ 100 ∷ 61 ∷ 49 ∷ 10 ∷ 115 ∷ 116 ∷ 97 ∷ 109 ∷ 112 ∷ 61 ∷ 48 ∷ 10 ∷ []) ≡ Broken 6
-unfolding reading traceOf foundFrom foundIn recordAt opAt tryName rules limit linesAt fieldAt numberAt numberFrom numberTail starts
-missing-line = refl
-
--- an empty line after the last record is the next record's first
-blank-line : reading (116 ∷ 114 ∷ 97 ∷ 99 ∷ 101 ∷ 61 ∷ 112 ∷ 114 ∷ 111 ∷ 99 ∷ 45 ∷ 49 ∷ 10 ∷ 111 ∷ 112 ∷ 61 ∷ 115 ∷ 110 ∷ 97 ∷ 112 ∷ 10 ∷ 115 ∷ 108 ∷ 111 ∷ 116 ∷ 61 ∷ 48 ∷ 10 ∷ 105 ∷ 100 ∷ 61 ∷ 48 ∷ 10 ∷ 115 ∷ 116 ∷ 97 ∷ 109 ∷ 112 ∷ 61 ∷ 48 ∷ 10 ∷ 99 ∷ 108 ∷ 111 ∷ 99 ∷ 107 ∷ 61 ∷ 49 ∷ 10 ∷ 115 ∷ 97 ∷ 109 ∷ 112 ∷ 108 ∷ 101 ∷ 61 ∷ 49 ∷ 10 ∷ 10 ∷ []) ≡ Broken 8
-unfolding reading traceOf foundFrom foundIn recordAt opAt tryName rules limit linesAt fieldAt numberAt numberFrom numberTail starts
-blank-line = refl
+read : Read
+unfolding
+    reading traceOf foundFrom foundIn recordAt opAt tryName rules limit
+    linesAt fieldAt numberAt numberFrom numberTail starts
+read = record {
+  whole-case = refl;
+  header-only = refl;
+  header-open = refl;
+  empty = refl;
+  slot-too-large = refl;
+  unread-stamp = refl;
+  unknown-op = refl;
+  missing-line = refl;
+  blank-line = refl;
+}

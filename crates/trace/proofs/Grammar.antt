@@ -1,6 +1,7 @@
--- The grammar both ways: what is accepted is the text of its records, and the text of records is accepted as them. Assumes nothing.
+-- The grammar both ways: what is accepted is the text of its records, and the text of records is accepted as them.
 use Prim.Native.Nat.{ℕ, _+_, _≤_}
 use native.Mathlib.Omega.{arith}
+use native.Mathlib.Nat.{zero-add}
 use mathlib.Core.Path.{_≡_, refl, sym, ap, _∙_}
 use mathlib.Core.List.{List, [], _∷_, _++_}
 use mathlib.Core.Bool.{Bool, true, false, cond}
@@ -14,12 +15,13 @@ use Rattle.text.proofs.Bytes.{starts-of, starts-text}
 use Rattle.text.proofs.Places.{rest-of}
 use Rattle.text.proofs.Lines.{joined-append}
 use Rattle.trace.specs.Record.{recordLines, recordText, recordAt}
-use Rattle.trace.specs.Trace.{header, firstRecord, longest, linesOf, traceLines, traceText, AllExpressible, none, also, Found, Records, Breaks, withFirst, foundFrom, traceOf, recordsFrom, Boundary, counted, reading}
+use Rattle.trace.specs.Trace.{header, firstRecord, longest, linesOf, traceLines, traceText, AllExpressible, none, also}
+use Rattle.trace.specs.Trace.{Found, Records, Breaks, withFirst, foundFrom, traceOf, recordsFrom, Boundary, counted, reading}
 use Rattle.trace.specs.declared.Record.{Record}
 use Rattle.trace.specs.declared.RecordAt.the-variants.{Is}
 use Rattle.trace.specs.declared.Reading.the-variants as reading
 use Rattle.trace.proofs.Records.{record-of, record-text, text-length}
-use Rattle.trace.proofs.Walk.{found-end, found-next, along, At, ended, broke, went, look, no-records}
+use Rattle.trace.proofs.Walk.{found-end, found-next, Past, along, At, ended, broke, went, look, no-records}
 use Rattle.trace.proofs.Loop.{boundary}
 
 -- the text of some records, one record at a time
@@ -39,15 +41,19 @@ pub rest-text : (s : List ℕ) (at : ℕ) (b : ℕ) (rs : List Record) → found
 unfolding Reads linesOf joined
 rest-text s = along s (Reads s) (λ at ih b rs h. go at ih b rs h (look s at b))
   where
-    first : (at : ℕ) (r : Record) (e : ℕ) (rs : List Record) → recordAt s at ≡ Is r e → Reads s e → (b : ℕ) (x : Found) → foundFrom s e b ≡ x → withFirst r x ≡ Records rs → Rest s at rs
+    first : (at : ℕ) (r : Record) (e : ℕ) (rs : List Record) → recordAt s at ≡ Is r e → Reads s e
+        → (b : ℕ) (x : Found) → foundFrom s e b ≡ x → withFirst r x ≡ Records rs → Rest s at rs
     first at r e rs q ih b (Breaks k) p h = absurd (no-records k rs h)
     first at r e rs q ih b (Records ts) p h =
         let w = record-text s at r e q in
         let t = ih b ts p in
         let same : r ∷ ts ≡ rs = cc in
-        rw same at (let x : Rest s at (r ∷ ts) = record { text = w .text .text ∙ ap (λ (z : List ℕ). recordText r ++ z) (t .text) ∙ sym (lines-first r ts); expressible = also (w .expressible) (t .expressible) } in x)
+        rw (← same) (record {
+          text = w .text .text ∙ ap (λ (z : List ℕ). recordText r ++ z) (t .text) ∙ sym (lines-first r ts);
+          expressible = also (w .expressible) (t .expressible);
+        })
 
-    go : (at : ℕ) → ((r : Record) (e : ℕ) → recordAt s at ≡ Is r e → Reads s e) → (b : ℕ) (rs : List Record) → foundFrom s at b ≡ Records rs → At s at b → Rest s at rs
+    go : (at : ℕ) → Past s (Reads s) at → (b : ℕ) (rs : List Record) → foundFrom s at b ≡ Records rs → At s at b → Rest s at rs
     go at ih b rs h (ended p f) =
         let same : _≡_ {A = List Record} [] rs = cc in
         rw (← same) (record { text = ap (λ (k : ℕ). drop k s) p ∙ drop-length s; expressible = none })
@@ -55,24 +61,42 @@ rest-text s = along s (Reads s) (λ at ih b rs h. go at ih b rs h (look s at b))
     go at ih b rs h (went r e q f) = first at r e rs q (ih r e q) (b + 6) (foundFrom s e (b + 6)) refl (sym f ∙ h)
 
 -- and the text of expressible records, to the last byte, is found as them
-pub rest-found : (rs : List Record) (s : List ℕ) (at b : ℕ) → AllExpressible rs → drop at s ≡ joined (linesOf rs) → at + length (joined (linesOf rs)) ≡ length s → foundFrom s at b ≡ Records rs
+pub rest-found : (rs : List Record) (s : List ℕ) (at b : ℕ) → AllExpressible rs
+    → drop at s ≡ joined (linesOf rs) → at + length (joined (linesOf rs)) ≡ length s → foundFrom s at b ≡ Records rs
 unfolding linesOf joined
 rest-found [] s at b x e l = found-end s at b (omega arith)
 rest-found (r ∷ rs) s at b (also x xs) e l =
     let t = joined (linesOf rs) in
     let e' : drop at s ≡ recordText r ++ t = e ∙ lines-first r rs in
-    let l' : at + (length (recordText r) + length t) ≡ length s = ap (λ (z : ℕ). at + z) (sym (length-append (recordText r) t) ∙ ap length (sym (lines-first r rs))) ∙ l in
-    let q = record-of r s at t x e' in
+    let size = ap length (lines-first r rs) ∙ length-append (recordText r) t in
     let p = at + length (recordText r) in
-    found-next s at b r p (λ z. omega (arith, text-length r)) q ∙ ap (withFirst r) (rest-found rs s p (b + 6) xs (rest-of s (recordText r) t at e') (omega arith))
+    let others = rest-found rs s p (b + 6) xs (rest-of s (recordText r) t at e') (omega arith) in
+    found-next s at b r p (λ z. omega (arith, text-length r)) (record-of r s at t x e') ∙ ap (withFirst r) others
 
-trace-is : (rs : List Record) → traceText rs ≡ header ++ joined (linesOf rs)
-unfolding traceText traceLines joined
-trace-is rs = refl
+-- the same with a first line in front
+module _ (first : List ℕ) where
+  trace-is : (rs : List Record) → traceText first rs ≡ first ++ joined (linesOf rs)
+  unfolding traceText traceLines joined
+  trace-is rs = refl
 
--- (a) what is accepted is the text of its records
+  trace-length : (rs : List Record) → length first + length (joined (linesOf rs)) ≡ length (traceText first rs)
+  trace-length rs = sym (ap length (trace-is rs) ∙ length-append first (joined (linesOf rs)))
+
+  under-text : (s : List ℕ) (rs : List Record) → starts first s ≡ true → Rest s (length first) rs → s ≡ traceText first rs
+  under-text s rs q t = starts-text first s q ∙ ap (λ (z : List ℕ). first ++ z) (t .text) ∙ sym (trace-is rs)
+
+  under-starts : (rs : List Record) → starts first (traceText first rs) ≡ true
+  under-starts rs = rw (trace-is rs) (starts-of first (joined (linesOf rs)))
+
+  under-found : (rs : List Record) → AllExpressible rs → foundFrom (traceText first rs) (length first) 1 ≡ Records rs
+  under-found rs x =
+      let t = joined (linesOf rs) in
+      let past = rw zero-add at (rest-of (traceText first rs) first t 0 (trace-is rs)) in
+      rest-found rs (traceText first rs) (length first) 1 x past (trace-length rs)
+
+-- what is accepted is the text of its records
 pub record Accepted (s : List ℕ) (rs : List Record) : Type 0 where
-  pub text : s ≡ traceText rs
+  pub text : s ≡ traceText header rs
   pub expressible : AllExpressible rs
   pub short : length s ≤ longest
 
@@ -80,45 +104,50 @@ pub accepted : (s : List ℕ) (rs : List Record) → traceOf s ≡ Records rs �
 unfolding traceOf
 accepted s rs = go (ltb longest (length s)) (starts header s) refl refl
   where
-    go : (x y : Bool) → ltb longest (length s) ≡ x → starts header s ≡ y → cond x (Breaks 0) (cond y (foundFrom s firstRecord 1) (Breaks 1)) ≡ Records rs → Accepted s rs
+    go : (x y : Bool) → ltb longest (length s) ≡ x → starts header s ≡ y
+        → cond x (Breaks 0) (cond y (foundFrom s firstRecord 1) (Breaks 1)) ≡ Records rs → Accepted s rs
     go true y p q h = absurd (no-records 0 rs h)
     go false false p q h = absurd (no-records 1 rs h)
     go false true p q h =
         let t = rest-text s firstRecord 1 rs h in
-        record { text = starts-text header s q ∙ ap (λ (z : List ℕ). header ++ z) (t .text) ∙ sym (trace-is rs); expressible = t .expressible; short = ltb-false longest (length s) p }
+        record {
+          text = under-text header s rs q t;
+          expressible = t .expressible;
+          short = ltb-false longest (length s) p;
+        }
 
--- (b) the text of expressible records, if it is not too long, is accepted as them
-pub accepts : (rs : List Record) → AllExpressible rs → length (traceText rs) ≤ longest → traceOf (traceText rs) ≡ Records rs
+-- the text of expressible records, if it is not too long, is accepted as them
+pub accepts : (rs : List Record) → AllExpressible rs → length (traceText header rs) ≤ longest
+    → traceOf (traceText header rs) ≡ Records rs
 unfolding traceOf
 accepts rs x l =
-    let t = joined (linesOf rs) in
-    let h : starts header (traceText rs) ≡ true = rw (trace-is rs) (starts-of header t) in
-    rw (le-ltb longest (length (traceText rs)) l, h)
-    (rest-found rs (traceText rs) firstRecord 1 x (rest-of (traceText rs) header t 0 (trace-is rs)) (sym (ap length (trace-is rs) ∙ length-append header t)))
+    rw (le-ltb longest (length (traceText header rs)) l, under-starts header rs) (under-found header rs x)
 
 -- so no two lists of records have one text
-pub one-text : (rs ts : List Record) → AllExpressible rs → AllExpressible ts → length (traceText rs) ≤ longest → traceText rs ≡ traceText ts → rs ≡ ts
+pub one-text : (rs ts : List Record) → AllExpressible rs → AllExpressible ts → length (traceText header rs) ≤ longest
+    → traceText header rs ≡ traceText header ts → rs ≡ ts
 one-text rs ts x y l e =
     let p : Records rs ≡ Records ts = sym (accepts rs x l) ∙ ap traceOf e ∙ accepts ts y (rw (← e) l) in
     cc
 
 -- what a reader that was answered `Whole n` knows before its first record
-pub record Begun (s : List ℕ) (n : ℕ) : Type 0 where
+pub record Opened (s : List ℕ) (n : ℕ) : Type 0 where
   pub records : traceOf s ≡ Records (recordsFrom s firstRecord)
   pub many : length (recordsFrom s firstRecord) ≡ n
   pub boundary : Boundary s firstRecord
   pub inside : firstRecord ≤ length s
 
-pub begun : (s : List ℕ) (n : ℕ) → reading s ≡ reading.Whole n → Begun s n
+pub opened : (s : List ℕ) (n : ℕ) → reading s ≡ reading.Whole n → Opened s n
 unfolding reading
-begun s n h = go (traceOf s) refl h
+opened s n h = go (traceOf s) refl h
   where
-    found : (x y : Bool) (rs : List Record) → cond x (Breaks 0) (cond y (foundFrom s firstRecord 1) (Breaks 1)) ≡ Records rs → foundFrom s firstRecord 1 ≡ Records rs
+    found : (x y : Bool) (rs : List Record)
+        → cond x (Breaks 0) (cond y (foundFrom s firstRecord 1) (Breaks 1)) ≡ Records rs → foundFrom s firstRecord 1 ≡ Records rs
     found true y rs h = absurd (no-records 0 rs h)
     found false false rs h = absurd (no-records 1 rs h)
     found false true rs h = h
 
-    go : (x : Found) → traceOf s ≡ x → counted x ≡ reading.Whole n → Begun s n
+    go : (x : Found) → traceOf s ≡ x → counted x ≡ reading.Whole n → Opened s n
     go (Breaks k) q h = absurd (let z : _≡_ {A = ℕ} 0 1 = cc in omega arith)
     go (Records rs) q h =
         let many : length rs ≡ n = cc in
@@ -129,5 +158,5 @@ begun s n h = go (traceOf s) refl h
           records = q ∙ ap Records (sym (b .1));
           many = ap length (b .1) ∙ many;
           boundary = b .0;
-          inside = omega (arith, ap length (a .text ∙ trace-is rs) ∙ length-append header (joined (linesOf rs)));
+          inside = omega (arith, ap length (a .text), trace-length header rs);
         }

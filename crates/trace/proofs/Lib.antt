@@ -1,4 +1,3 @@
-pub mod Arms
 pub mod OpLines
 pub mod Records
 pub mod Walk

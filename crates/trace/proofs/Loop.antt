@@ -1,4 +1,4 @@
--- What a loop over the records of a trace knows, wherever it stands. Assumes nothing.
+-- What a loop over the records of a trace knows, wherever it stands.
 use Prim.Native.Nat.{ℕ, _+_, _≤_, _<_}
 use native.Mathlib.Omega.{arith}
 use mathlib.Core.Path.{_≡_, refl, sym, ap, _∙_}
@@ -46,24 +46,14 @@ next-record s at r e h q =
 pub none-broken : (s : List ℕ) (at k : ℕ) → Boundary s at → (at ≡ length s → ⊥) → recordAt s at ≡ Broken k → ⊥
 none-broken s at k h n q = no-records (0 + k) (recordsFrom s at) (sym (found-broken s at 0 k n q) ∙ h)
 
--- so a boundary before the end has a record, and one with no record left is the end
-pub record Some (s : List ℕ) (at : ℕ) : Type 0 where
-  pub record-there : Record
-  pub past : ℕ
-  pub is : recordAt s at ≡ Is record-there past
-
-pub some-left : (s : List ℕ) (at : ℕ) → Boundary s at → (at ≡ length s → ⊥) → Some s at
-some-left s at h n = go (look s at 0)
-  where
-    go : At s at 0 → Some s at
-    go (ended p f) = absurd (n p)
-    go (broke k q f) = absurd (none-broken s at k h n q)
-    go (went r e q f) = record { record-there = r; past = e; is = q }
-
+-- and a boundary with no record left is the end
 pub end-only : (s : List ℕ) (at : ℕ) → Boundary s at → recordsFrom s at ≡ [] → at ≡ length s
 end-only s at h none = go (look s at 0)
   where
     go : At s at 0 → at ≡ length s
     go (ended p f) = p
     go (broke k q f) = absurd (no-records (0 + k) (recordsFrom s at) (sym f ∙ h))
-    go (went r e q f) = absurd (let z : _≡_ {A = List Record} [] (r ∷ recordsFrom s e) = sym none ∙ next-record s at r e h q .first in let y : _≡_ {A = ℕ} 0 1 = cc in omega arith)
+    go (went r e q f) =
+        let some = next-record s at r e h q .first in
+        let y : _≡_ {A = ℕ} 0 1 = cc in
+        absurd (omega arith)

@@ -1,4 +1,4 @@
--- An op's line is read as that op, and what is read as an op is its line. Assumes nothing.
+-- An op's line is read as that op, and what is read as an op is its line.
 use Prim.Native.Nat.{ℕ, _+_, _<_}
 use native.Mathlib.Omega.{arith}
 use mathlib.Core.Path.{_≡_, refl, ap, _∙_}
@@ -6,9 +6,10 @@ use mathlib.Core.List.{List, [], _∷_, _++_, append-assoc}
 use mathlib.Core.Bool.{Bool, true, false, cond}
 use lib.ListN.{length, drop, length-append}
 use Rattle.text.specs.Bytes.{starts}
+use Rattle.text.specs.Keys.{opKey}
 use Rattle.text.proofs.Bytes.{starts-of}
 use Rattle.text.proofs.Places.{rest-of, There, then, key-there}
-use Rattle.trace.specs.Op.{opKey, opName, ops, opLine, tryName, firstNamed, nameAt, opAt}
+use Rattle.trace.specs.Op.{opName, ops, opLine, tryName, firstNamed, nameAt, opAt}
 use Rattle.trace.specs.declared.Op.{Op}
 use Rattle.trace.specs.declared.Op.the-variants.{Begin, End, Snap, Own, Oldest, Vacuum, Stamp, Finish}
 use Rattle.trace.specs.declared.ops.OpAt.the-variants.{Is, Unknown}

@@ -1,16 +1,17 @@
--- A record's text is read as that record, what is read as a record is its text, and a broken line is the first that breaks a rule. Assumes nothing.
+-- A record's text is read as that record, what is read as a record is its text, and a broken line is the first that breaks a rule.
 use Prim.Native.Nat.{ℕ, zero, suc, _+_, _^_, _≤_, _<_}
 use native.Mathlib.Omega.{arith}
-use mathlib.Core.Path.{_≡_, refl, sym, ap, _∙_}
-use mathlib.Core.List.{List, [], _∷_, _++_, append-assoc}
+use mathlib.Core.Path.{_≡_, refl, sym, ap, subst, _∙_}
+use mathlib.Core.List.{List, [], _++_, append-assoc}
 use mathlib.Core.Bool.{Bool, true, false}
 use lib.ListN.{length, take, drop, length-append, length-drop}
 use Rattle.text.specs.Line.{lineTexts, joined, Within, none, also, Lines, Read, Breaks, fieldAt, linesAt}
 use Rattle.text.proofs.Places.{rest-of, There, then}
-use Rattle.text.proofs.Lines.{field-text, Line, lines-of, lines-text, Spelled, lines-open, Opening, lines-late}
+use Rattle.text.proofs.Lines.{field-text, lines-of, lines-text, Spelled, zeros, zeros-within, lines-open, Opening, lines-late}
 use Rattle.text.specs.declared.Number.the-variants as number
-use Rattle.trace.specs.Op.{readsStamp, readsOwner, readsClock, opLine, opAt}
-use Rattle.trace.specs.Record.{most, mostSlot, limit, rules, Expressible, recordLines, recordText, recordOf, onOp, onLines, recordAt}
+use Rattle.trace.specs.Op.{opLine, opAt}
+use Rattle.trace.specs.Record.{mostSlot, limit, rules, numbersOf, Expressible, recordLines, recordText}
+use Rattle.trace.specs.Record.{recordOf, onOp, onLines, recordAt}
 use Rattle.trace.specs.declared.Op.{Op}
 use Rattle.trace.specs.declared.Op.the-variants.{Begin}
 use Rattle.trace.specs.declared.ops.OpAt.{OpAt}
@@ -18,15 +19,6 @@ use Rattle.trace.specs.declared.ops.OpAt.the-variants as op
 use Rattle.trace.specs.declared.Record.{Record}
 use Rattle.trace.specs.declared.RecordAt.the-variants.{Is, Broken}
 use Rattle.trace.proofs.OpLines.{op-of, op-there, op-length}
-
--- the numbers of a record, in the order of its lines
-abbrev numbersOf : Record → List ℕ
-numbersOf r = r .slot ∷ r .id ∷ r .stamp ∷ r .clock ∷ r .sample ∷ []
-
-limit-fits : (b : Bool) (n m : ℕ) → m < 2 ^ 64 → n ≤ limit b m → n < 2 ^ 64
-unfolding limit
-limit-fits true n m h g = omega arith
-limit-fits false n m h g = omega arith
 
 limit-at-most : (b : Bool) (m : ℕ) → limit b m ≤ m
 unfolding limit
@@ -40,45 +32,32 @@ slot-fits s at key b n e q =
     let most-is = limit-at-most b mostSlot in
     omega arith
 
-expressible-within : (r : Record) → Expressible r → Within (rules (r .op)) (numbersOf r)
+-- five numbers within the rules of an op are the numbers of a record of it
+numbers-made : (o : Op) (ns : List ℕ) → Within (rules o) ns → ns ≡ numbersOf (recordOf o ns)
 unfolding rules
-expressible-within r x =
-    let o = r .op in
-    also (x .slot) (limit-fits (readsOwner o) (r .slot) 65535 (omega arith) (x .slot))
-    (also (x .id) (limit-fits (readsOwner o) (r .id) most (omega arith) (x .id))
-    (also (x .stamp) (limit-fits (readsStamp o) (r .stamp) most (omega arith) (x .stamp))
-    (also (x .clock) (limit-fits (readsClock o) (r .clock) most (omega arith) (x .clock))
-    (also (x .sample) (limit-fits (readsClock o) (r .sample) most (omega arith) (x .sample)) none))))
+numbers-made o _ (also _ _ (also _ _ (also _ _ (also _ _ (also _ _ none))))) = refl
 
--- five numbers within the rules of an op make an expressible record of it
-record Made (o : Op) (ns : List ℕ) : Type 0 where
-  same : ns ≡ numbersOf (recordOf o ns)
-  expressible : Expressible (recordOf o ns)
-
-within-made : (o : Op) (ns : List ℕ) → Within (rules o) ns → Made o ns
-unfolding rules
-within-made o _ (also a _ (also b _ (also c _ (also d _ (also e _ none))))) = record { same = refl; expressible = record { slot = a; id = b; stamp = c; clock = d; sample = e } }
-
-lines-are : (r : Record) → recordLines r ≡ opLine (r .op) ∷ lineTexts (rules (r .op)) (numbersOf r)
-unfolding recordLines rules lineTexts
-lines-are r = refl
+expressible-made : (o : Op) (ns : List ℕ) → Within (rules o) ns → Expressible (recordOf o ns)
+expressible-made o ns w = subst (Within (rules o)) (numbers-made o ns w) w
 
 text-is : (r : Record) → recordText r ≡ opLine (r .op) ++ joined (lineTexts (rules (r .op)) (numbersOf r))
-unfolding recordText joined
-text-is r = ap joined (lines-are r)
+unfolding recordText recordLines joined
+text-is r = refl
 
 pub text-length : (r : Record) → 0 < length (recordText r)
 text-length r = rw (text-is r) (simp length-append (omega (arith, op-length (r .op))))
 
 -- reading what is printed gives the record
-pub record-of : (r : Record) (s : List ℕ) (at : ℕ) (rest : List ℕ) → Expressible r → drop at s ≡ recordText r ++ rest → recordAt s at ≡ Is r (at + length (recordText r))
+pub record-of : (r : Record) (s : List ℕ) (at : ℕ) (rest : List ℕ) → Expressible r
+    → drop at s ≡ recordText r ++ rest → recordAt s at ≡ Is r (at + length (recordText r))
 unfolding recordAt
 record-of r s at rest x e =
     let o = opLine (r .op) in
     let t = joined (lineTexts (rules (r .op)) (numbersOf r)) in
     let e' : drop at s ≡ o ++ (t ++ rest) = e ∙ ap (λ (z : List ℕ). z ++ rest) (text-is r) ∙ append-assoc o t rest in
     let l : length (recordText r) ≡ length o + length t = ap length (text-is r) ∙ length-append o t in
-    rw (op-of s at (r .op) (t ++ rest) e', lines-of (rules (r .op)) (numbersOf r) s (at + length o) 2 rest (expressible-within r x) (rest-of s o (t ++ rest) at e'))
+    let lines = lines-of (rules (r .op)) (numbersOf r) s (at + length o) 2 rest x (rest-of s o (t ++ rest) at e') in
+    rw (op-of s at (r .op) (t ++ rest) e', lines)
     (ap (Is r) (omega arith))
 
 -- what is read as a record is that record's text
@@ -89,11 +68,12 @@ pub record Written (s : List ℕ) (at : ℕ) (r : Record) (e : ℕ) : Type 0 whe
 no-record : (k : ℕ) (r : Record) (e : ℕ) → Broken k ≡ Is r e → ⊥
 no-record k r e h = let z : _≡_ {A = ℕ} 0 1 = cc in omega arith
 
-made-written : (s : List ℕ) (at : ℕ) (o : Op) (a : ℕ) (ns : List ℕ) (e : ℕ) → There s at (opLine o) a → Spelled s a (rules o) ns e → Written s at (recordOf o ns) e
+made-written : (s : List ℕ) (at : ℕ) (o : Op) (a : ℕ) (ns : List ℕ) (e : ℕ)
+    → There s at (opLine o) a → Spelled s a (rules o) ns e → Written s at (recordOf o ns) e
 made-written s at o a ns e p q =
-    let m = within-made o ns (q .within) in
+    let same = numbers-made o ns (q .within) in
     let t = then s at (opLine o) a (joined (lineTexts (rules o) ns)) e p (q .text) in
-    record { text = rw (text-is (recordOf o ns), ← m .same) t; expressible = m .expressible }
+    record { text = rw (text-is (recordOf o ns), ← same) t; expressible = expressible-made o ns (q .within) }
 
 pub record-text : (s : List ℕ) (at : ℕ) (r : Record) (e : ℕ) → recordAt s at ≡ Is r e → Written s at r e
 unfolding recordAt
@@ -128,37 +108,39 @@ pub record BrokenOff (s : List ℕ) (at k : ℕ) : Type 0 where
   pub rest : List ℕ
   pub text : drop at s ≡ joined (take before (recordLines maybe)) ++ rest
 
-zeros : Expressible (recordOf Begin [])
-unfolding limit
-zeros = record { slot = omega arith; id = omega arith; stamp = omega arith; clock = omega arith; sample = omega arith }
+begin-zeros : Expressible (recordOf Begin [])
+unfolding rules zeros
+begin-zeros = zeros-within (rules Begin)
 
 five : (o : Op) (i : ℕ) → i < length (rules o) → suc i < 6
 unfolding rules
 five o i h = omega arith
 
 after-op : (s : List ℕ) (at : ℕ) (o : Op) (a k : ℕ) → There s at (opLine o) a → Opening s a 2 (rules o) k → BrokenOff s at k
-unfolding joined
+unfolding recordLines joined
 after-op s at o a k p w =
     let ns = w .numbers in
-    let m = within-made o ns (w .within) in
     let t = joined (take (w .before) (lineTexts (rules o) ns)) in
     let first : joined (take (suc (w .before)) (recordLines (recordOf o ns))) ≡ opLine o ++ t =
-    ap (λ (ls : List (List ℕ)). joined (take (suc (w .before)) ls)) (lines-are (recordOf o ns) ∙ ap (λ (z : List ℕ). opLine o ∷ lineTexts (rules o) z) (sym (m .same))) in
+    ap (λ (z : List ℕ). opLine o ++ joined (take (w .before) (lineTexts (rules o) z))) (sym (numbers-made o ns (w .within))) in
+    let apart : drop at s ≡ opLine o ++ t ++ w .rest =
+    p .text ∙ ap (λ (z : List ℕ). opLine o ++ z) (w .text) ∙ sym (append-assoc (opLine o) t (w .rest)) in
     record {
       maybe = recordOf o ns;
-      expressible = m .expressible;
+      expressible = expressible-made o ns (w .within);
       before = suc (w .before);
       which = omega (arith, w .which);
       short = five o (w .before) (w .short);
       rest = w .rest;
-      text = p .text ∙ ap (λ (z : List ℕ). opLine o ++ z) (w .text) ∙ sym (append-assoc (opLine o) t (w .rest)) ∙ ap (λ (z : List ℕ). z ++ w .rest) (sym first);
+      text = apart ∙ ap (λ (z : List ℕ). z ++ w .rest) (sym first);
     }
 
 pub record-open : (s : List ℕ) (at k : ℕ) → recordAt s at ≡ Broken k → BrokenOff s at k
 unfolding recordAt joined
 record-open s at k h = go (opAt s at) refl h
   where
-    lines : (o : Op) (a : ℕ) → There s at (opLine o) a → (x : Lines) → linesAt s a 2 (rules o) ≡ x → onLines o x ≡ Broken k → BrokenOff s at k
+    lines : (o : Op) (a : ℕ) → There s at (opLine o) a → (x : Lines) → linesAt s a 2 (rules o) ≡ x
+        → onLines o x ≡ Broken k → BrokenOff s at k
     lines o a p (Read ns b) q h = absurd (no-record k (recordOf o ns) b (sym h))
     lines o a p (Breaks j) q h =
         let same : j ≡ k = cc in
@@ -167,21 +149,34 @@ record-open s at k h = go (opAt s at) refl h
     go : (x : OpAt) → opAt s at ≡ x → onOp x (λ o a. onLines o (linesAt s a 2 (rules o))) ≡ Broken k → BrokenOff s at k
     go op.Unknown q h =
         let same : 1 ≡ k = cc in
-        record { maybe = recordOf Begin []; expressible = zeros; before = 0; which = omega arith; short = omega arith; rest = drop at s; text = refl }
+        record {
+          maybe = recordOf Begin [];
+          expressible = begin-zeros;
+          before = 0;
+          which = omega arith;
+          short = omega arith;
+          rest = drop at s;
+          text = refl;
+        }
     go (op.Is o a) q h = lines o a (op-there s at o a q) (linesAt s a 2 (rules o)) refl h
 
 -- and where the first j lines of an expressible record stand, a line that breaks a rule comes later
-pub record-late : (r : Record) (j : ℕ) (s : List ℕ) (at k : ℕ) (rest : List ℕ) → Expressible r → drop at s ≡ joined (take j (recordLines r)) ++ rest → recordAt s at ≡ Broken k → j < k
-unfolding recordAt joined
+pub record-late : (r : Record) (j : ℕ) (s : List ℕ) (at k : ℕ) (rest : List ℕ) → Expressible r
+    → drop at s ≡ joined (take j (recordLines r)) ++ rest → recordAt s at ≡ Broken k → j < k
+unfolding recordAt recordLines joined
 record-late r zero s at k rest x e h = omega (arith, record-open s at k h .which)
 record-late r (suc i) s at k rest x e h =
     let o = opLine (r .op) in
     let t = joined (take i (lineTexts (rules (r .op)) (numbersOf r))) in
-    let e' : drop at s ≡ o ++ (t ++ rest) = e ∙ ap (λ (ls : List (List ℕ)). joined (take (suc i) ls) ++ rest) (lines-are r) ∙ append-assoc o t rest in
-    let h' : onLines (r .op) (linesAt s (at + length o) 2 (rules (r .op))) ≡ Broken k = rw (op-of s at (r .op) (t ++ rest) e') at h in
-    go (linesAt s (at + length o) 2 (rules (r .op))) refl (lines-late (rules (r .op)) (numbersOf r) i s (at + length o) 2 k rest (expressible-within r x) (rest-of s o (t ++ rest) at e')) h'
+    let e' : drop at s ≡ o ++ (t ++ rest) = e ∙ append-assoc o t rest in
+    let h' : onLines (r .op) lines ≡ Broken k = rw (op-of s at (r .op) (t ++ rest) e') at h in
+    let late = lines-late (rules (r .op)) (numbersOf r) i s (at + length o) 2 k rest x (rest-of s o (t ++ rest) at e') in
+    go lines refl late h'
   where
-    go : (x : Lines) → linesAt s (at + length (opLine (r .op))) 2 (rules (r .op)) ≡ x → (linesAt s (at + length (opLine (r .op))) 2 (rules (r .op)) ≡ Breaks k → 2 + i ≤ k)
+    lines : Lines
+    lines = linesAt s (at + length (opLine (r .op))) 2 (rules (r .op))
+
+    go : (x : Lines) → lines ≡ x → (lines ≡ Breaks k → 2 + i ≤ k)
         → onLines (r .op) x ≡ Broken k → suc i < k
     go (Read ns b) q late h = absurd (no-record k (recordOf (r .op) ns) b (sym h))
     go (Breaks j) q late h =

@@ -1,13 +1,14 @@
--- Every line of a trace is one line: it ends in a newline, and has no other. Assumes nothing.
+-- For `FirstBroken`, which counts the lines of a trace: each of them is one line of text, for it ends in a newline and has no other.
 use Prim.Native.Nat.{ℕ}
 use mathlib.Core.Path.{_≡_, refl}
 use mathlib.Core.List.{List, [], _∷_}
 use mathlib.Core.Bool.{true}
-use Rattle.text.specs.Line.{oneLine}
+use Rattle.text.specs.Keys.{slotKey, idKey, stampKey, clockKey, sampleKey}
+use Rattle.text.specs.Line.{lineTexts, oneLine}
 use Rattle.text.proofs.Lines.{line-one}
 use Rattle.trace.specs.Op.{opLine}
-use Rattle.trace.specs.Record.{slotKey, idKey, stampKey, clockKey, sampleKey, recordLines}
-use Rattle.trace.specs.Trace.{linesOf, traceLines}
+use Rattle.trace.specs.Record.{rules, recordLines}
+use Rattle.trace.specs.Trace.{header, linesOf, traceLines}
 use Rattle.trace.specs.declared.Op.{Op}
 use Rattle.trace.specs.declared.Op.the-variants.{Begin, End, Snap, Own, Oldest, Vacuum, Stamp, Finish}
 use Rattle.trace.specs.declared.Record.{Record}
@@ -28,7 +29,7 @@ op-one Stamp = refl
 op-one Finish = refl
 
 lines-one : (rs : List Record) → AllLines (linesOf rs)
-unfolding linesOf recordLines oneLine
+unfolding linesOf recordLines lineTexts rules oneLine
 lines-one [] = none
 lines-one (r ∷ rs) =
     also (op-one (r .op))
@@ -38,6 +39,6 @@ lines-one (r ∷ rs) =
     (also (line-one clockKey (r .clock) (λ t. refl))
     (also (line-one sampleKey (r .sample) (λ t. refl)) (lines-one rs))))))
 
-pub trace-one : (rs : List Record) → AllLines (traceLines rs)
+pub trace-one : (rs : List Record) → AllLines (traceLines header rs)
 unfolding traceLines oneLine
 trace-one rs = also refl (lines-one rs)

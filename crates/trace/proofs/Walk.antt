@@ -1,4 +1,4 @@
--- Record after record: one step, induction along the records, the bound that is never reached, and the count. Assumes nothing.
+-- Record after record: one step, induction along the records, the bound that is never reached, and the count.
 use Prim.Native.Nat.{ℕ, zero, suc, _+_, _-_, _*_, _<_}
 use native.Mathlib.Omega.{arith}
 use native.Mathlib.Numerals.{add-one}
@@ -22,7 +22,8 @@ in-end : (k : ℕ) (s : List ℕ) (at b : ℕ) → at ≡ length s → foundIn (
 unfolding foundIn
 in-end k s at b h = rw (foundIn, eq-eqb at (length s) h)
 
-in-step : (k : ℕ) (s : List ℕ) (at b : ℕ) {x : RecordAt} → (at ≡ length s → ⊥) → recordAt s at ≡ x → foundIn (suc k) s at b ≡ onRecord x b (λ e. foundIn k s e (b + 6))
+in-step : (k : ℕ) (s : List ℕ) (at b : ℕ) {x : RecordAt} → (at ≡ length s → ⊥) → recordAt s at ≡ x
+    → foundIn (suc k) s at b ≡ onRecord x b (λ e. foundIn k s e (b + 6))
 unfolding foundIn
 in-step k s at b h e = rw (foundIn, ne-eqb at (length s) h, e)
 
@@ -32,7 +33,8 @@ in-enough zero j s at b h g = absurd (omega arith)
 in-enough (suc k) zero s at b h g = absurd (omega arith)
 in-enough (suc k) (suc j) s at b h g = go (eqb at (length s)) refl (recordAt s at) refl (λ e. in-enough k j s e (b + 6))
   where
-    go : (t : Bool) → eqb at (length s) ≡ t → (x : RecordAt) → recordAt s at ≡ x → ((e : ℕ) → length s - e < k → length s - e < j → foundIn k s e (b + 6) ≡ foundIn j s e (b + 6))
+    go : (t : Bool) → eqb at (length s) ≡ t → (x : RecordAt) → recordAt s at ≡ x
+        → ((e : ℕ) → length s - e < k → length s - e < j → foundIn k s e (b + 6) ≡ foundIn j s e (b + 6))
         → foundIn (suc k) s at b ≡ foundIn (suc j) s at b
     go true p x q ih = in-end k s at b (eqb-true at (length s) p) ∙ sym (in-end j s at b (eqb-true at (length s) p))
     go false p (Broken l) q ih = in-step k s at b (eqb-false at (length s) p) q ∙ sym (in-step j s at b (eqb-false at (length s) p) q)
@@ -51,7 +53,8 @@ pub found-broken : (s : List ℕ) (at b k : ℕ) → (at ≡ length s → ⊥) �
 unfolding foundFrom
 found-broken s at b k h e = ap (λ (k : ℕ). foundIn k s at b) (add-one (length s - at)) ∙ in-step (length s - at) s at b h e
 
-pub found-next : (s : List ℕ) (at b : ℕ) (r : Record) (e : ℕ) → (at ≡ length s → ⊥) → recordAt s at ≡ Is r e → foundFrom s at b ≡ withFirst r (foundFrom s e (b + 6))
+pub found-next : (s : List ℕ) (at b : ℕ) (r : Record) (e : ℕ) → (at ≡ length s → ⊥) → recordAt s at ≡ Is r e
+    → foundFrom s at b ≡ withFirst r (foundFrom s e (b + 6))
 unfolding foundFrom
 found-next s at b r e h q =
     let m = moves s at r e q in
@@ -59,8 +62,12 @@ found-next s at b r e h q =
     ∙ in-step (length s - at) s at b h q
     ∙ ap (withFirst r) (in-enough (length s - at) (length s - e + 1) s e (b + 6) (omega (arith, m .0, m .1)) (omega arith))
 
+-- P holds past the record at `at`, if one stands there
+abbrev pub Past : List ℕ → (ℕ → Type 0) → ℕ → Type 0
+Past s P at = (r : Record) (e : ℕ) → recordAt s at ≡ Is r e → P e
+
 -- induction along the records of a text
-module _ (s : List ℕ) (P : ℕ → Type 0) (step : (at : ℕ) → ((r : Record) (e : ℕ) → recordAt s at ≡ Is r e → P e) → P at) where
+module _ (s : List ℕ) (P : ℕ → Type 0) (step : (at : ℕ) → Past s P at → P at) where
   below : (k at : ℕ) → length s - at < k → P at
   below zero at h = absurd (omega arith)
   below (suc k) at h = step at (λ r e q. let m = moves s at r e q in below k e (omega (arith, m .0, m .1)))
@@ -93,16 +100,19 @@ pub alike : (s : List ℕ) (at b c : ℕ) (rs : List Record) → foundFrom s at 
 unfolding Alike
 alike s = along s (Alike s) (λ at ih b c rs h. go at ih b c rs h (look s at b))
   where
-    tail : (e b c : ℕ) (r : Record) (rs : List Record) → Alike s e → (x : Found) → foundFrom s e b ≡ x → withFirst r x ≡ Records rs → withFirst r (foundFrom s e c) ≡ Records rs
+    tail : (e b c : ℕ) (r : Record) (rs : List Record) → Alike s e
+        → (x : Found) → foundFrom s e b ≡ x → withFirst r x ≡ Records rs → withFirst r (foundFrom s e c) ≡ Records rs
     tail e b c r rs ih (Breaks k) q h = absurd (no-records k rs h)
     tail e b c r rs ih (Records ts) q h = ap (withFirst r) (ih b c ts q) ∙ h
 
-    go : (at : ℕ) → ((r : Record) (e : ℕ) → recordAt s at ≡ Is r e → Alike s e) → (b c : ℕ) (rs : List Record) → foundFrom s at b ≡ Records rs → At s at b → foundFrom s at c ≡ Records rs
+    go : (at : ℕ) → Past s (Alike s) at → (b c : ℕ) (rs : List Record) → foundFrom s at b ≡ Records rs → At s at b
+        → foundFrom s at c ≡ Records rs
     go at ih b c rs h (ended p f) = found-end s at c p ∙ sym f ∙ h
     go at ih b c rs h (broke k q f) = absurd (no-records (b + k) rs (sym f ∙ h))
     go at ih b c rs h (went r e q f) =
         let m = moves s at r e q in
-        found-next s at c r e (λ p. omega (arith, m .0, m .1)) q ∙ tail e (b + 6) (c + 6) r rs (ih r e q) (foundFrom s e (b + 6)) refl (sym f ∙ h)
+        found-next s at c r e (λ p. omega (arith, m .0, m .1)) q
+        ∙ tail e (b + 6) (c + 6) r rs (ih r e q) (foundFrom s e (b + 6)) refl (sym f ∙ h)
 
 -- the count of a reader that has gone past n records
 abbrev pub counting : ℕ → Found → Reading
@@ -121,4 +131,6 @@ pub count-next : (s : List ℕ) (at n : ℕ) (r : Record) (e : ℕ) → (at ≡ 
     → counting n (foundFrom s at (1 + 6 * n)) ≡ counting (n + 1) (foundFrom s e (1 + 6 * (n + 1)))
 count-next s at n r e h q =
     let b : 1 + 6 * n + 6 ≡ 1 + 6 * (n + 1) = omega arith in
-    ap (counting n) (found-next s at (1 + 6 * n) r e h q) ∙ count-first n r (foundFrom s e (1 + 6 * n + 6)) ∙ ap (λ (k : ℕ). counting (n + 1) (foundFrom s e k)) b
+    ap (counting n) (found-next s at (1 + 6 * n) r e h q)
+    ∙ count-first n r (foundFrom s e (1 + 6 * n + 6))
+    ∙ ap (λ (k : ℕ). counting (n + 1) (foundFrom s e k)) b

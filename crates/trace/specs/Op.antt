@@ -1,61 +1,37 @@
--- The ops of a trace: their names, and which fields they read. Assumes nothing.
+-- The ops of a trace: their names, and which fields they read.
 use Prim.Native.Nat.{ℕ, _+_}
-use mathlib.Core.Bool.{Bool, true, false, cond}
+use mathlib.Core.Bool.{true, false, cond}
 use mathlib.Core.List.{List, [], _∷_, _++_}
 use lib.ListN.{length, drop}
-use Rattle.text.specs.Bytes.{starts}
+use Rattle.text.specs.Bytes.{bytes, starts}
+use Rattle.text.specs.Keys.{opKey}
 use Rattle.trace.specs.declared.Op.{Op}
 use Rattle.trace.specs.declared.Op.the-variants.{Begin, End, Snap, Own, Oldest, Vacuum, Stamp, Finish}
+use Rattle.trace.specs.declared.ops.Reads.{Reads}
 use Rattle.trace.specs.declared.ops.OpAt.{OpAt}
 use Rattle.trace.specs.declared.ops.OpAt.the-variants.{Is, Unknown}
 
--- begin, stamp and finish read `stamp`
-abbrev pub readsStamp : Op → Bool
-readsStamp Begin = true
-readsStamp Stamp = true
-readsStamp Finish = true
-readsStamp End = false
-readsStamp Snap = false
-readsStamp Own = false
-readsStamp Oldest = false
-readsStamp Vacuum = false
-
--- end, own and finish read `slot` and `id`
-abbrev pub readsOwner : Op → Bool
-readsOwner End = true
-readsOwner Own = true
-readsOwner Finish = true
-readsOwner Begin = false
-readsOwner Snap = false
-readsOwner Oldest = false
-readsOwner Vacuum = false
-readsOwner Stamp = false
-
--- snap, own, oldest and vacuum read `clock` and `sample`
-abbrev pub readsClock : Op → Bool
-readsClock Snap = true
-readsClock Own = true
-readsClock Oldest = true
-readsClock Vacuum = true
-readsClock Begin = false
-readsClock End = false
-readsClock Stamp = false
-readsClock Finish = false
-
--- `op=`
-abbrev pub opKey : List ℕ
-opKey = 111 ∷ 112 ∷ 61 ∷ []
+-- the fields that an op reads: owner is `slot` and `id`, clock is `clock` and `sample`
+abbrev pub readsOf : Op → Reads
+readsOf Begin = record { owner = false; stamp = true; clock = false }
+readsOf End = record { owner = true; stamp = false; clock = false }
+readsOf Snap = record { owner = false; stamp = false; clock = true }
+readsOf Own = record { owner = true; stamp = false; clock = true }
+readsOf Oldest = record { owner = false; stamp = false; clock = true }
+readsOf Vacuum = record { owner = false; stamp = false; clock = true }
+readsOf Stamp = record { owner = false; stamp = true; clock = false }
+readsOf Finish = record { owner = true; stamp = true; clock = false }
 
 -- the name of an op, with the newline that ends its line
 abbrev pub opName : Op → List ℕ
-opName Begin = 98 ∷ 101 ∷ 103 ∷ 105 ∷ 110 ∷ 10 ∷ []
-opName End = 101 ∷ 110 ∷ 100 ∷ 10 ∷ []
-opName Snap = 115 ∷ 110 ∷ 97 ∷ 112 ∷ 10 ∷ []
-opName Own = 111 ∷ 119 ∷ 110 ∷ 10 ∷ []
-opName Oldest = 111 ∷ 108 ∷ 100 ∷ 101 ∷ 115 ∷ 116 ∷ 10 ∷ []
-opName Vacuum = 118 ∷ 97 ∷ 99 ∷ 117 ∷ 117 ∷ 109 ∷ 10 ∷ []
-opName Stamp = 115 ∷ 116 ∷ 97 ∷ 109 ∷ 112 ∷ 10 ∷ []
-opName Finish = 102 ∷ 105 ∷ 110 ∷ 105 ∷ 115 ∷ 104 ∷ 10 ∷ []
+opName Begin = bytes "begin\n"
+opName End = bytes "end\n"
+opName Snap = bytes "snap\n"
+opName Own = bytes "own\n"
+opName Oldest = bytes "oldest\n"
+opName Vacuum = bytes "vacuum\n"
+opName Stamp = bytes "stamp\n"
+opName Finish = bytes "finish\n"
 
 abbrev pub ops : List Op
 ops = Begin ∷ End ∷ Snap ∷ Own ∷ Oldest ∷ Vacuum ∷ Stamp ∷ Finish ∷ []

@@ -1,36 +1,17 @@
--- A record of six lines: its text, and what is read of a text. Assumes nothing.
-use Prim.Native.Nat.{ℕ, _-_, _^_, _≤_}
+-- A record of six lines: its text, and what is read of a text.
+use Prim.Native.Nat.{ℕ, _-_, _^_}
 use mathlib.Core.Bool.{Bool, cond}
 use mathlib.Core.List.{List, [], _∷_}
 use lib.ListN.{getD}
-use Rattle.text.specs.Line.{Rule, Lines, Read, Breaks, lineText, linesAt, joined}
-use Rattle.trace.specs.Op.{readsStamp, readsOwner, readsClock, opLine, opAt}
+use Rattle.text.specs.Keys.{slotKey, idKey, stampKey, clockKey, sampleKey}
+use Rattle.text.specs.Line.{Rule, Within, Lines, Read, Breaks, lineTexts, linesAt, joined}
+use Rattle.trace.specs.Op.{readsOf, opLine, opAt}
 use Rattle.trace.specs.declared.Op.{Op}
 use Rattle.trace.specs.declared.ops.OpAt.{OpAt}
 use Rattle.trace.specs.declared.ops.OpAt.the-variants as op
 use Rattle.trace.specs.declared.Record.{Record}
 use Rattle.trace.specs.declared.RecordAt.{RecordAt}
 use Rattle.trace.specs.declared.RecordAt.the-variants.{Is, Broken}
-
--- `slot=`
-abbrev pub slotKey : List ℕ
-slotKey = 115 ∷ 108 ∷ 111 ∷ 116 ∷ 61 ∷ []
-
--- `id=`
-abbrev pub idKey : List ℕ
-idKey = 105 ∷ 100 ∷ 61 ∷ []
-
--- `stamp=`
-abbrev pub stampKey : List ℕ
-stampKey = 115 ∷ 116 ∷ 97 ∷ 109 ∷ 112 ∷ 61 ∷ []
-
--- `clock=`
-abbrev pub clockKey : List ℕ
-clockKey = 99 ∷ 108 ∷ 111 ∷ 99 ∷ 107 ∷ 61 ∷ []
-
--- `sample=`
-abbrev pub sampleKey : List ℕ
-sampleKey = 115 ∷ 97 ∷ 109 ∷ 112 ∷ 108 ∷ 101 ∷ 61 ∷ []
 
 abbrev pub most : ℕ
 most = 2 ^ 64 - 1
@@ -45,36 +26,29 @@ limit reads n = cond reads n 0
 -- the five lines after the op's
 unfoldable pub rules : Op → List Rule
 rules o =
-    (record { key = slotKey; most = limit (readsOwner o) mostSlot })
-    ∷ (record { key = idKey; most = limit (readsOwner o) most })
-    ∷ (record { key = stampKey; most = limit (readsStamp o) most })
-    ∷ (record { key = clockKey; most = limit (readsClock o) most })
-    ∷ (record { key = sampleKey; most = limit (readsClock o) most })
+    (record { key = slotKey; most = limit (readsOf o .owner) mostSlot })
+    ∷ (record { key = idKey; most = limit (readsOf o .owner) most })
+    ∷ (record { key = stampKey; most = limit (readsOf o .stamp) most })
+    ∷ (record { key = clockKey; most = limit (readsOf o .clock) most })
+    ∷ (record { key = sampleKey; most = limit (readsOf o .clock) most })
     ∷ []
 
+-- the numbers of those lines
+abbrev pub numbersOf : Record → List ℕ
+numbersOf r = r .slot ∷ r .id ∷ r .stamp ∷ r .clock ∷ r .sample ∷ []
+
 -- a record that the text can express: no number above the limit that its op sets
-pub record Expressible (r : Record) : Type 0 where
-  pub slot : r .slot ≤ limit (readsOwner (r .op)) mostSlot
-  pub id : r .id ≤ limit (readsOwner (r .op)) most
-  pub stamp : r .stamp ≤ limit (readsStamp (r .op)) most
-  pub clock : r .clock ≤ limit (readsClock (r .op)) most
-  pub sample : r .sample ≤ limit (readsClock (r .op)) most
+abbrev pub Expressible : Record → Type 0
+Expressible r = Within (rules (r .op)) (numbersOf r)
 
 -- the six lines of a record, and its text
 unfoldable pub recordLines : Record → List (List ℕ)
-recordLines r =
-    opLine (r .op)
-    ∷ lineText slotKey (r .slot)
-    ∷ lineText idKey (r .id)
-    ∷ lineText stampKey (r .stamp)
-    ∷ lineText clockKey (r .clock)
-    ∷ lineText sampleKey (r .sample)
-    ∷ []
+recordLines r = opLine (r .op) ∷ lineTexts (rules (r .op)) (numbersOf r)
 
 unfoldable pub recordText : Record → List ℕ
 recordText r = joined (recordLines r)
 
--- the record of an op and the numbers of its other lines
+-- the record of an op and the numbers of the five lines after it
 abbrev pub recordOf : Op → List ℕ → Record
 recordOf o ns = record { op = o; slot = getD ns 0 0; id = getD ns 1 0; stamp = getD ns 2 0; clock = getD ns 3 0; sample = getD ns 4 0 }
 

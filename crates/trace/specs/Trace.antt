@@ -1,11 +1,11 @@
--- A trace: its text, and what is read of a text. Assumes nothing.
+-- A trace: its text, and what is read of a text.
 use Prim.Native.Nat.{ℕ, zero, suc, _+_, _-_, _≤_}
 use mathlib.Core.Path.{_≡_}
 use mathlib.Core.Bool.{cond}
 use mathlib.Core.List.{List, [], _∷_, _++_}
 use lib.Dec.{ltb, eqb}
 use lib.ListN.{length, take}
-use Rattle.text.specs.Bytes.{starts}
+use Rattle.text.specs.Bytes.{bytes, starts}
 use Rattle.text.specs.Line.{joined}
 use Rattle.trace.specs.Record.{Expressible, recordLines, recordAt}
 use Rattle.trace.specs.declared.Record.{Record}
@@ -14,9 +14,9 @@ use Rattle.trace.specs.declared.RecordAt.the-variants as one
 use Rattle.trace.specs.declared.Reading.{Reading}
 use Rattle.trace.specs.declared.Reading.the-variants.{Whole, Broken}
 
--- the first line, `trace=proc-1` and its newline
+-- the first line, with its newline
 abbrev pub header : List ℕ
-header = 116 ∷ 114 ∷ 97 ∷ 99 ∷ 101 ∷ 61 ∷ 112 ∷ 114 ∷ 111 ∷ 99 ∷ 45 ∷ 49 ∷ 10 ∷ []
+header = bytes "trace=proc-1\n"
 
 abbrev pub firstRecord : ℕ
 firstRecord = length header
@@ -25,16 +25,17 @@ firstRecord = length header
 abbrev pub longest : ℕ
 longest = 65536
 
--- the lines of some records, and the text of a trace of them
+-- the lines of some records
 unfoldable pub linesOf : List Record → List (List ℕ)
 linesOf [] = []
 linesOf (r ∷ rs) = recordLines r ++ linesOf rs
 
-unfoldable pub traceLines : List Record → List (List ℕ)
-traceLines rs = header ∷ linesOf rs
+-- the lines of a trace under its first line, and its text
+unfoldable pub traceLines : List ℕ → List Record → List (List ℕ)
+traceLines first rs = first ∷ linesOf rs
 
-unfoldable pub traceText : List Record → List ℕ
-traceText rs = joined (traceLines rs)
+unfoldable pub traceText : List ℕ → List Record → List ℕ
+traceText first rs = joined (traceLines first rs)
 
 -- records that the text can express, each of them
 pub data AllExpressible : List Record → Type 0 where
@@ -57,7 +58,10 @@ onRecord (one.Broken k) before f = Breaks (before + k)
 -- what stands from `at` to the end, where `before` lines stand before it; the first number bounds how many records are tried
 unfoldable pub foundIn : ℕ → List ℕ → ℕ → ℕ → Found
 foundIn zero s at before = Breaks (before + 1)
-foundIn (suc more) s at before = cond (eqb at (length s)) (Records []) (onRecord (recordAt s at) before (λ e. foundIn more s e (before + 6)))
+foundIn (suc more) s at before =
+    cond (eqb at (length s))
+    (Records [])
+    (onRecord (recordAt s at) before (λ e. foundIn more s e (before + 6)))
 
 -- no more records than bytes are left, and one more try finds the end
 unfoldable pub foundFrom : List ℕ → ℕ → ℕ → Found
@@ -90,15 +94,15 @@ recordsFrom s at = listed (foundFrom s at 0)
 abbrev pub Boundary : List ℕ → ℕ → Type 0
 Boundary s at = foundFrom s at 0 ≡ Records (recordsFrom s at)
 
--- s begins with the first k lines of some trace, each with its newline
-pub record Opens (k : ℕ) (s : List ℕ) : Type 0 where
+-- s begins with the first k lines of some trace under this first line, each with its newline
+pub record Opens (first : List ℕ) (k : ℕ) (s : List ℕ) : Type 0 where
   pub records : List Record
   pub expressible : AllExpressible records
-  pub enough : k ≤ length (traceLines records)
+  pub enough : k ≤ length (traceLines first records)
   pub rest : List ℕ
-  pub text : s ≡ joined (take k (traceLines records)) ++ rest
+  pub text : s ≡ joined (take k (traceLines first records)) ++ rest
 
--- line k + 1 is the first that breaks a rule: s begins with the first k lines of some trace, and with no first k + 1
-pub record FirstBroken (k : ℕ) (s : List ℕ) : Type 0 where
-  pub before : Opens k s
-  pub broken : Opens (k + 1) s → ⊥
+-- line k + 1 is the first that breaks a rule: s begins with the first k lines of some trace under this first line, and with no first k + 1
+pub record FirstBroken (first : List ℕ) (k : ℕ) (s : List ℕ) : Type 0 where
+  pub before : Opens first k s
+  pub broken : Opens first (k + 1) s → ⊥

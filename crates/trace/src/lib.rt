@@ -4,6 +4,7 @@ mod ops;
 mod whole;
 
 pub use lines::record_at;
+pub use whole::LONGEST;
 pub use whole::first_record;
 pub use whole::read_trace;
 

@@ -33,28 +33,27 @@ pub fn record_at(s: &[u8], at: usize) -> RecordAt
     let OpAt::Is(op, a) = crate::ops::op_at(s, at) else {
         return RecordAt::Broken(1);
     };
-    let owner = crate::ops::reads_owner(op);
-    let stamped = crate::ops::reads_stamp(op);
-    let timed = crate::ops::reads_clock(op);
-    let Number::Is(slot, b) = field_if(s, a, b"slot=", owner, MOST_SLOT) else {
+    let reads = crate::ops::reads_of(op);
+    let Number::Is(slot, b) = field_if(s, a, b"slot=", reads.owner, MOST_SLOT) else {
         return RecordAt::Broken(2);
     };
-    let Number::Is(id, c) = field_if(s, b, b"id=", owner, u64::MAX) else {
+    let Number::Is(id, c) = field_if(s, b, b"id=", reads.owner, u64::MAX) else {
         return RecordAt::Broken(3);
     };
-    let Number::Is(stamp, d) = field_if(s, c, b"stamp=", stamped, u64::MAX) else {
+    let Number::Is(stamp, d) = field_if(s, c, b"stamp=", reads.stamp, u64::MAX) else {
         return RecordAt::Broken(4);
     };
-    let Number::Is(clock, e) = field_if(s, d, b"clock=", timed, u64::MAX) else {
+    let Number::Is(clock, e) = field_if(s, d, b"clock=", reads.clock, u64::MAX) else {
         return RecordAt::Broken(5);
     };
-    let Number::Is(sample, f) = field_if(s, e, b"sample=", timed, u64::MAX) else {
+    let Number::Is(sample, f) = field_if(s, e, b"sample=", reads.clock, u64::MAX) else {
         return RecordAt::Broken(6);
     };
+    let slot_no = slot as u16;
     RecordAt::Is(
         Record {
             op,
-            slot: slot as u16,
+            slot: slot_no,
             id,
             stamp,
             clock,

@@ -3,7 +3,7 @@ use crate::Op;
 ghost use Prim.Native.Nat.{_<_};
 ghost use mathlib.Core.Path.{_≡_};
 ghost use lib.ListN.{length};
-ghost use Rattle.trace.specs.Op.{readsStamp, readsOwner, readsClock, tryName, nameAt, opAt};
+ghost use Rattle.trace.specs.Op.{readsOf, tryName, nameAt, opAt};
 
 // An op, with the place past its line, or none.
 pub enum OpAt {
@@ -11,33 +11,36 @@ pub enum OpAt {
     Unknown,
 }
 
-// Begin, stamp and finish read `stamp`.
-pub fn reads_stamp(op: Op) -> bool
-    ensures { λ r. ⌜ r ≡ readsStamp op ⌝ }
+// Which fields an op reads: owner is `slot` and `id`, clock is `clock` and `sample`.
+pub struct Reads {
+    pub owner: bool,
+    pub stamp: bool,
+    pub clock: bool,
+}
+
+fn fields(owner: bool, stamp: bool, clock: bool) -> Reads
+    ensures { λ r. ⌜ r ≡ record { owner = owner; stamp = stamp; clock = clock } ⌝ }
 {
-    match op {
-        Op::Begin | Op::Stamp | Op::Finish => true,
-        _ => false,
+    Reads {
+        owner,
+        stamp,
+        clock,
     }
 }
 
-// End, own and finish read `slot` and `id`.
-pub fn reads_owner(op: Op) -> bool
-    ensures { λ r. ⌜ r ≡ readsOwner op ⌝ }
+// The fields that `op` reads.
+pub fn reads_of(op: Op) -> Reads
+    ensures { λ r. ⌜ r ≡ readsOf op ⌝ }
 {
     match op {
-        Op::End | Op::Own | Op::Finish => true,
-        _ => false,
-    }
-}
-
-// Snap, own, oldest and vacuum read `clock` and `sample`.
-pub fn reads_clock(op: Op) -> bool
-    ensures { λ r. ⌜ r ≡ readsClock op ⌝ }
-{
-    match op {
-        Op::Snap | Op::Own | Op::Oldest | Op::Vacuum => true,
-        _ => false,
+        Op::Begin => fields(false, true, false),
+        Op::End => fields(true, false, false),
+        Op::Snap => fields(false, false, true),
+        Op::Own => fields(true, false, true),
+        Op::Oldest => fields(false, false, true),
+        Op::Vacuum => fields(false, false, true),
+        Op::Stamp => fields(false, true, false),
+        Op::Finish => fields(true, true, false),
     }
 }
 
@@ -52,8 +55,8 @@ fn try_name(s: &[u8], at: usize, name: &[u8], op: Op, other: OpAt) -> OpAt
     other
 }
 
-// The op whose name, with its newline, stands at `at`. The last is tried first, and the first
-// decides; at most one fits.
+// The op whose name, with its newline, stands at `at`. All eight are compared; no two can stand at
+// one place.
 fn name_at(s: &[u8], at: usize) -> OpAt
     ensures { λ r. ⌜ r ≡ nameAt (now (s .entry)) at ⌝ }
 {

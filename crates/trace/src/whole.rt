@@ -5,7 +5,7 @@ ghost use mathlib.Core.Path.{_≡_};
 ghost use Rattle.trace.specs.Trace.{firstRecord, reading};
 
 // The most bytes that a trace may have.
-const LONGEST: usize = 65536;
+pub const LONGEST: usize = 65536;
 
 // The place of the first record, past the header.
 pub fn first_record() -> usize

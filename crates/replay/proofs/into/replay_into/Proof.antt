@@ -1,5 +1,5 @@
 use mathlib.Core.Path.{sym, _∙_}
-use Rattle.trace.proofs.Grammar.{begun}
+use Rattle.trace.proofs.Grammar.{opened}
 use Rattle.replay.proofs.Whole.{into-broken, into-whole, into-cut}
 use borrow.Author.Needs.{needs}
 use Rattle.replay.proofs.into.replay_into.Statement.{statement}
@@ -37,7 +37,7 @@ returns c =
     let a = c .before .before .before .before .before .before .before .before .before .before .before .before .before .before .before .before .before .args in
     let e = sym (c .before .before .before .before .before .before .before .before .before .before .before .before .before .before .read-trace .ensures) ∙ c .before .before .before .before .before .before .before .before .before .before .before .before .reading2 .given .1 in
     let first = c .before .before .before .before .before .before .before .before .before .first-record .ensures in
-    let ran = c .before .before .before .before .before .before .before .run-part .ensures (rw first (begun _ _ e .boundary)) in
+    let ran = c .before .before .before .before .before .before .before .run-part .ensures (rw first (opened _ _ e .boundary)) in
     let p = rw (first, c .before .before .before .before .before .before .before .before .before .before .fresh .ensures) at ran in
     into-whole _ (a .s .now) (a .out .now) _ e p (c .before .before .before .before .if1 .taken) (c .before .before .before .before .before .before .before .run-part .kept .1 .1 .1 .0) (c .before .before .put-records .ensures)
 
@@ -57,7 +57,7 @@ returns-3 c =
     let a = c .before .before .before .before .before .before .before .before .before .before .before .before .before .args in
     let e = sym (c .before .before .before .before .before .before .before .before .before .before .read-trace .ensures) ∙ c .before .before .before .before .before .before .before .before .reading2 .given .1 in
     let first = c .before .before .before .before .before .first-record .ensures in
-    let ran = c .before .before .before .run-part .ensures (rw first (begun _ _ e .boundary)) in
+    let ran = c .before .before .before .run-part .ensures (rw first (opened _ _ e .boundary)) in
     let p = rw (first, c .before .before .before .before .before .before .fresh .ensures) at ran in
     into-cut _ (a .s .now) (a .out .now) _ e p (c .if1 .left)
 

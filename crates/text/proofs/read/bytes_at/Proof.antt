@@ -46,7 +46,9 @@ returns-3 : tie.Need-returns-3 Inv-loop μ-loop
 returns-3 c =
     let p = c .before .before .before in
     let a = p .before .before .before .before .args in
-    sym (p .before .loop .inv .2 ∙ starts-other (now (a .key)) (now (a .s)) _ (a .at + p .before .loop .j) (p .loop-test .taken) (omega arith) (c .if3 .taken))
+    let l = p .before .loop in
+    let differs = starts-other (now (a .key)) (now (a .s)) _ (a .at + l .j) (p .loop-test .taken) (omega arith) (c .if3 .taken) in
+    sym (l .inv .2 ∙ differs)
 
 add-j : tie.Need-add-j Inv-loop μ-loop
 add-j c = omega arith
@@ -58,7 +60,9 @@ loop-again : tie.Need-loop-again Inv-loop μ-loop
 loop-again c =
     let p = c .before .before .before in
     let a = p .before .before .before .before .args in
-    (omega arith, omega arith, p .before .loop .inv .2 ∙ starts-same (now (a .key)) (now (a .s)) _ (a .at + p .before .loop .j) (p .loop-test .taken) (omega arith) (c .if3 .left) ∙ simp add-assoc)
+    let l = p .before .loop in
+    let same = starts-same (now (a .key)) (now (a .s)) (l .j) (a .at + l .j) (p .loop-test .taken) (omega arith) (c .if3 .left) in
+    (omega arith, omega arith, l .inv .2 ∙ same ∙ simp add-assoc)
 
 returns-4 : tie.Need-returns-4 Inv-loop μ-loop
 returns-4 c = sym (c .before .loop .inv .2 ∙ starts-end _ _ _ (c .loop-test .left))

@@ -26,7 +26,13 @@ returns-4 c =
 returns-5 : tie.Need-returns-5
 returns-5 c =
     let a = c .before .before .before .before .before .args in
-    simp (le-leb _ _ (c .before .before .before .before .if1 .left), le-leb _ _ (c .before .before .before .if2 .left), lt-ltb 0 (a .n) (omega arith), le-ltb (a .n * 10 + (a .b - 48)) (2 ^ 64) (omega arith))
+    let p = c .before .before .before in
+    simp (
+      le-leb _ _ (p .before .if1 .left),
+      le-leb _ _ (p .if2 .left),
+      lt-ltb 0 (a .n) (omega arith),
+      le-ltb (a .n * 10 + (a .b - 48)) (2 ^ 64) (omega arith),
+    )
 
 returns-6 : tie.Need-returns-6
 returns-6 c =

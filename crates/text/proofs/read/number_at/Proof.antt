@@ -27,17 +27,22 @@ returns-2 : tie.Need-returns-2 Inv-loop μ-loop
 returns-2 c = rw (start-step _ _ (c .before .before .if1 .left)) (simp (lt-leb _ _ (c .if2 .taken)))
 
 returns-3 : tie.Need-returns-3 Inv-loop μ-loop
-returns-3 c = rw (start-step _ _ (c .before .before .before .if1 .left)) (simp (le-leb _ _ (c .before .if2 .left), lt-leb _ _ (c .if3 .taken)))
+returns-3 c =
+    rw (start-step _ _ (c .before .before .before .if1 .left))
+    (simp (le-leb _ _ (c .before .if2 .left), lt-leb _ _ (c .if3 .taken)))
 
-wide-requires : tie.Need-wide-requires Inv-loop μ-loop
-wide-requires c κs = tt
+cast-n : tie.Need-cast-n Inv-loop μ-loop
+cast-n c = omega arith
 
 add-i : tie.Need-add-i Inv-loop μ-loop
 add-i c = omega arith
 
 loop-holds : tie.Need-loop-holds Inv-loop μ-loop
-loop-holds c =
-    (omega arith, rw (start-step _ _ (c .before .before .before .before .if1 .left)) (simp (le-leb _ _ (c .before .before .if2 .left), le-leb _ _ (c .before .if3 .left), c .wide .ensures)))
+loop-holds c = (
+  omega arith,
+  rw (start-step _ _ (c .before .before .before .if1 .left))
+      (simp (le-leb _ _ (c .before .if2 .left), le-leb _ _ (c .if3 .left))),
+)
 
 shared-slice-read-b : tie.Need-shared-slice-read-b Inv-loop μ-loop
 shared-slice-read-b c = omega arith
@@ -46,7 +51,9 @@ add-t15 : tie.Need-add-t15 Inv-loop μ-loop
 add-t15 c = omega arith
 
 returns-4 : tie.Need-returns-4 Inv-loop μ-loop
-returns-4 c = sym (c .before .before .before .loop .inv .1 ∙ tail-ends _ _ _ (c .before .before .loop-test .taken) (c .if4 .taken))
+returns-4 c =
+    let p = c .before .before in
+    sym (p .before .loop .inv .1 ∙ tail-ends _ _ _ (p .loop-test .taken) (c .if4 .taken))
 
 goes-on-requires : tie.Need-goes-on-requires Inv-loop μ-loop
 goes-on-requires c κs = tt
@@ -54,28 +61,36 @@ goes-on-requires c κs = tt
 returns-5 : tie.Need-returns-5 Inv-loop μ-loop
 returns-5 c =
     let p = c .before .before .before .before in
-    sym (p .before .loop .inv .1 ∙ tail-goes _ _ _ false (p .loop-test .taken) (c .before .before .if4 .left) (sym (c .before .goes-on .ensures) ∙ not-true _ (c .if5 .taken)))
+    let stop = sym (c .before .goes-on .ensures) ∙ not-true _ (c .if5 .taken) in
+    sym (p .before .loop .inv .1 ∙ tail-goes _ _ _ false (p .loop-test .taken) (c .before .before .if4 .left) stop)
 
 mul-n : tie.Need-mul-n Inv-loop μ-loop
 mul-n c =
     let p = c .before .before .before .before .before in
-    let w = went (p .loop .n) (getD (now (p .before .before .before .before .before .before .before .args .s)) (p .loop .i) 0) (sym (c .before .goes-on .ensures) ∙ not-false _ (c .if5 .left)) in
+    let b = getD (now (p .before .before .before .before .before .before .args .s)) (p .loop .i) 0 in
+    let w = went (p .loop .n) b (sym (c .before .goes-on .ensures) ∙ not-false _ (c .if5 .left)) in
     omega (arith, w .fits)
 
-sub-wide : tie.Need-sub-wide Inv-loop μ-loop
-sub-wide c =
+sub-n : tie.Need-sub-n Inv-loop μ-loop
+sub-n c =
     let p = c .before .before .before .before .before in
-    let w = went (p .loop .n) (getD (now (p .before .before .before .before .before .before .before .args .s)) (p .loop .i) 0) (sym (c .before .goes-on .ensures) ∙ not-false _ (c .if5 .left)) in
+    let b = getD (now (p .before .before .before .before .before .before .args .s)) (p .loop .i) 0 in
+    let w = went (p .loop .n) b (sym (c .before .goes-on .ensures) ∙ not-false _ (c .if5 .left)) in
     omega (arith, w .low)
 
-wide-requires-2 : tie.Need-wide-requires-2 Inv-loop μ-loop
-wide-requires-2 c κs = tt
+cast-n-2 : tie.Need-cast-n-2 Inv-loop μ-loop
+cast-n-2 c =
+    let p = c .before .before .before .before .before in
+    let b = getD (now (p .before .before .before .before .before .before .args .s)) (p .loop .i) 0 in
+    let w = went (p .loop .n) b (sym (c .before .goes-on .ensures) ∙ not-false _ (c .if5 .left)) in
+    omega (arith, w .high)
 
 add-n : tie.Need-add-n Inv-loop μ-loop
 add-n c =
-    let p = c .before .before .before .before .before .before in
-    let w = went (p .loop .n) (getD (now (p .before .before .before .before .before .before .before .args .s)) (p .loop .i) 0) (sym (c .before .before .goes-on .ensures) ∙ not-false _ (c .before .if5 .left)) in
-    omega (arith, w .fits, c .wide2 .ensures)
+    let p = c .before .before .before .before .before in
+    let b = getD (now (p .before .before .before .before .before .before .args .s)) (p .loop .i) 0 in
+    let w = went (p .loop .n) b (sym (c .before .goes-on .ensures) ∙ not-false _ (c .if5 .left)) in
+    omega (arith, w .fits)
 
 add-i-2 : tie.Need-add-i-2 Inv-loop μ-loop
 add-i-2 c = omega arith
@@ -85,8 +100,9 @@ loop-less c = omega arith
 
 loop-again : tie.Need-loop-again Inv-loop μ-loop
 loop-again c =
-    let p = c .before .before .before .before .before in
-    (omega arith, p .before .loop .inv .1 ∙ tail-goes _ _ _ true (p .loop-test .taken) (c .before .before .before .if4 .left) (sym (c .before .before .goes-on .ensures) ∙ not-false _ (c .before .if5 .left)) ∙ simp (c .wide2 .ensures))
+    let p = c .before .before .before .before in
+    let on = sym (c .before .goes-on .ensures) ∙ not-false _ (c .if5 .left) in
+    (omega arith, p .before .loop .inv .1 ∙ tail-goes _ _ _ true (p .loop-test .taken) (c .before .before .if4 .left) on)
 
 returns-6 : tie.Need-returns-6 Inv-loop μ-loop
 returns-6 c = sym (c .before .loop .inv .1 ∙ tail-none _ _ _ (c .loop-test .left))
@@ -101,7 +117,7 @@ number-at-spec =
     shared-slice-read-first
     returns-2
     returns-3
-    wide-requires
+    cast-n
     add-i
     loop-holds
     shared-slice-read-b
@@ -110,8 +126,8 @@ number-at-spec =
     goes-on-requires
     returns-5
     mul-n
-    sub-wide
-    wide-requires-2
+    sub-n
+    cast-n-2
     add-n
     add-i-2
     loop-less

@@ -35,7 +35,8 @@ loop-less c = omega arith
 loop-again : tie.Need-loop-again Inv-loop μ-loop
 loop-again c =
     let p = c .before in
-    (omega arith, omega arith, omega (arith, length-from (p .loop .digits) (p .before .args .n) (omega arith)), rw (add-one, pow-suc) (ap (λ (x : ℕ). x * 10) (p .loop .inv .3)))
+    let more = length-from (p .loop .digits) (p .before .args .n) (omega arith) in
+    (omega arith, omega arith, omega arith, rw (add-one, pow-suc) (ap (λ (x : ℕ). x * 10) (p .loop .inv .3)))
 
 returns : tie.Need-returns Inv-loop μ-loop
 returns c =

@@ -38,7 +38,9 @@ loop-again : tie.Need-loop-again Inv-loop μ-loop
 loop-again c =
     let p = c .before .before in
     let a = p .before .args in
-    (omega arith, rw (p .loop .inv .1) (splice-take (now (a .buf)) (a .at) (now (a .t)) (p .loop .i) (p .before .pre) (c .before .loop-test .taken)), simp length-set (p .loop .inv .2))
+    let l = p .loop in
+    let one-more = splice-take (now (a .buf)) (a .at) (now (a .t)) (l .i) (p .before .pre) (c .before .loop-test .taken) in
+    (omega arith, rw (l .inv .1) one-more, simp length-set (l .inv .2))
 
 same-length : tie.Need-same-length Inv-loop μ-loop
 same-length c = c .before .loop .inv .2

@@ -18,7 +18,9 @@ sub-i : tie.Need-sub-i Inv-loop μ-loop
 sub-i c = omega (arith, length-some (c .args .n), c .pre .0)
 
 loop-holds : tie.Need-loop-holds Inv-loop μ-loop
-loop-holds c = (omega (arith, length-some (c .args .n), c .pre .0), refl, back-none _ _ _ _ (omega (arith, length-some (c .args .n), c .pre .0)))
+loop-holds c =
+    let some = length-some (c .args .n) in
+    (omega (arith, c .pre .0), refl, back-none _ _ _ _ (omega (arith, c .pre .0)))
 
 cast-buf : tie.Need-cast-buf Inv-loop μ-loop
 cast-buf c = omega arith
@@ -42,7 +44,8 @@ loop-again c =
     let p = c .before in
     let l = p .loop in
     let one : 1 ≤ l .i = omega (arith, l .inv .2 .place, length-more (l .left) (c .loop-test .taken), length-some (l .left / 10)) in
-    (omega arith, simp length-set (l .inv .1), back-more _ _ _ _ _ (l .i) (l .i - 1) (c .loop-test .taken) (omega arith) (l .inv .0) (l .inv .2))
+    let back = back-more _ _ _ _ _ (l .i) (l .i - 1) (c .loop-test .taken) (omega arith) (l .inv .0) (l .inv .2) in
+    (omega arith, simp length-set (l .inv .1), back)
 
 cast-buf-2 : tie.Need-cast-buf-2 Inv-loop μ-loop
 cast-buf-2 c = omega arith

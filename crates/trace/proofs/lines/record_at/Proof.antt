@@ -21,14 +21,8 @@ returns : tie.Need-returns
 unfolding recordAt
 returns c = rw (sym (c .before .before .op-at .ensures) ∙ c .enum-told .given .1)
 
-reads-owner-requires : tie.Need-reads-owner-requires
-reads-owner-requires c κs = search needs
-
-reads-stamp-requires : tie.Need-reads-stamp-requires
-reads-stamp-requires c κs = search needs
-
-reads-clock-requires : tie.Need-reads-clock-requires
-reads-clock-requires c κs = search needs
+reads-of-requires : tie.Need-reads-of-requires
+reads-of-requires c κs = search needs
 
 slice-aggregate-field-if : tie.Need-slice-aggregate-field-if
 slice-aggregate-field-if c = search needs
@@ -47,10 +41,8 @@ unfolding recordAt rules linesAt
 returns-2 c =
     let reads = c .before .before .before .before in
     rw (
-      sym (reads .before .before .before .before .before .before .op-at .ensures) ∙ reads .before .before .before .before .op .given .1,
-      ← reads .before .before .reads-owner .ensures,
-      ← reads .before .reads-stamp .ensures,
-      ← reads .reads-clock .ensures,
+      sym (reads .before .before .before .before .op-at .ensures) ∙ reads .before .before .op .given .1,
+      ← reads .reads-of .ensures,
       sym (c .before .before .field-if .ensures) ∙ c .enum-told2 .given .1,
     )
 
@@ -72,10 +64,8 @@ returns-3 c =
     let slot-read = c .before .before .before .before .before in
     let reads = slot-read .before .before .before .before in
     rw (
-      sym (reads .before .before .before .before .before .before .op-at .ensures) ∙ reads .before .before .before .before .op .given .1,
-      ← reads .before .before .reads-owner .ensures,
-      ← reads .before .reads-stamp .ensures,
-      ← reads .reads-clock .ensures,
+      sym (reads .before .before .before .before .op-at .ensures) ∙ reads .before .before .op .given .1,
+      ← reads .reads-of .ensures,
       sym (slot-read .before .before .field-if .ensures) ∙ slot-read .slot .given .1,
       sym (c .before .before .field-if2 .ensures) ∙ c .enum-told3 .given .1,
     )
@@ -99,10 +89,8 @@ returns-4 c =
     let slot-read = id-read .before .before .before .before .before in
     let reads = slot-read .before .before .before .before in
     rw (
-      sym (reads .before .before .before .before .before .before .op-at .ensures) ∙ reads .before .before .before .before .op .given .1,
-      ← reads .before .before .reads-owner .ensures,
-      ← reads .before .reads-stamp .ensures,
-      ← reads .reads-clock .ensures,
+      sym (reads .before .before .before .before .op-at .ensures) ∙ reads .before .before .op .given .1,
+      ← reads .reads-of .ensures,
       sym (slot-read .before .before .field-if .ensures) ∙ slot-read .slot .given .1,
       sym (id-read .before .before .field-if2 .ensures) ∙ id-read .id .given .1,
       sym (c .before .before .field-if3 .ensures) ∙ c .enum-told4 .given .1,
@@ -128,10 +116,8 @@ returns-5 c =
     let slot-read = id-read .before .before .before .before .before in
     let reads = slot-read .before .before .before .before in
     rw (
-      sym (reads .before .before .before .before .before .before .op-at .ensures) ∙ reads .before .before .before .before .op .given .1,
-      ← reads .before .before .reads-owner .ensures,
-      ← reads .before .reads-stamp .ensures,
-      ← reads .reads-clock .ensures,
+      sym (reads .before .before .before .before .op-at .ensures) ∙ reads .before .before .op .given .1,
+      ← reads .reads-of .ensures,
       sym (slot-read .before .before .field-if .ensures) ∙ slot-read .slot .given .1,
       sym (id-read .before .before .field-if2 .ensures) ∙ id-read .id .given .1,
       sym (stamp-read .before .before .field-if3 .ensures) ∙ stamp-read .stamp .given .1,
@@ -159,10 +145,8 @@ returns-6 c =
     let slot-read = id-read .before .before .before .before .before in
     let reads = slot-read .before .before .before .before in
     rw (
-      sym (reads .before .before .before .before .before .before .op-at .ensures) ∙ reads .before .before .before .before .op .given .1,
-      ← reads .before .before .reads-owner .ensures,
-      ← reads .before .reads-stamp .ensures,
-      ← reads .reads-clock .ensures,
+      sym (reads .before .before .before .before .op-at .ensures) ∙ reads .before .before .op .given .1,
+      ← reads .reads-of .ensures,
       sym (slot-read .before .before .field-if .ensures) ∙ slot-read .slot .given .1,
       sym (id-read .before .before .field-if2 .ensures) ∙ id-read .id .given .1,
       sym (stamp-read .before .before .field-if3 .ensures) ∙ stamp-read .stamp .given .1,
@@ -170,8 +154,8 @@ returns-6 c =
       sym (c .before .before .field-if5 .ensures) ∙ c .enum-told6 .given .1,
     )
 
-cast-t39 : tie.Need-cast-t39
-cast-t39 c =
+cast-slot-no : tie.Need-cast-slot-no
+cast-slot-no c =
     let clock-read = c .before .before .before .before .before .before in
     let stamp-read = clock-read .before .before .before .before .before in
     let id-read = stamp-read .before .before .before .before .before in
@@ -188,10 +172,8 @@ returns-7 c =
     let slot-read = id-read .before .before .before .before .before in
     let reads = slot-read .before .before .before .before in
     rw (
-      sym (reads .before .before .before .before .before .before .op-at .ensures) ∙ reads .before .before .before .before .op .given .1,
-      ← reads .before .before .reads-owner .ensures,
-      ← reads .before .reads-stamp .ensures,
-      ← reads .reads-clock .ensures,
+      sym (reads .before .before .before .before .op-at .ensures) ∙ reads .before .before .op .given .1,
+      ← reads .reads-of .ensures,
       sym (slot-read .before .before .field-if .ensures) ∙ slot-read .slot .given .1,
       sym (id-read .before .before .field-if2 .ensures) ∙ id-read .id .given .1,
       sym (stamp-read .before .before .field-if3 .ensures) ∙ stamp-read .stamp .given .1,
@@ -207,9 +189,7 @@ record-at-spec =
     enum-known-op
     enum-told
     returns
-    reads-owner-requires
-    reads-stamp-requires
-    reads-clock-requires
+    reads-of-requires
     slice-aggregate-field-if
     field-if-requires
     enum-known-slot
@@ -235,5 +215,5 @@ record-at-spec =
     enum-known-sample
     enum-told-6
     returns-6
-    cast-t39
+    cast-slot-no
     returns-7)

@@ -52,7 +52,24 @@ try-name-requires-8 : tie.Need-try-name-requires-8
 try-name-requires-8 c κs = search needs
 
 returns : tie.Need-returns
-returns c = rw (c .try-name8 .ensures, c .before .before .try-name7 .ensures, c .before .before .before .before .try-name6 .ensures, c .before .before .before .before .before .before .try-name5 .ensures, c .before .before .before .before .before .before .before .before .try-name4 .ensures, c .before .before .before .before .before .before .before .before .before .before .try-name3 .ensures, c .before .before .before .before .before .before .before .before .before .before .before .before .try-name2 .ensures, c .before .before .before .before .before .before .before .before .before .before .before .before .before .before .try-name .ensures)
+returns c =
+    let end = c .before .before in
+    let snap = end .before .before in
+    let own = snap .before .before in
+    let oldest = own .before .before in
+    let vacuum = oldest .before .before in
+    let stamp = vacuum .before .before in
+    let finish = stamp .before .before in
+    rw (
+      c .try-name8 .ensures,
+      end .try-name7 .ensures,
+      snap .try-name6 .ensures,
+      own .try-name5 .ensures,
+      oldest .try-name4 .ensures,
+      vacuum .try-name3 .ensures,
+      stamp .try-name2 .ensures,
+      finish .try-name .ensures,
+    )
 
 pub name-at-spec : {M : Type 1} → statement M
 name-at-spec =

@@ -3,8 +3,9 @@ use mathlib.Core.Path.{sym, _∙_}
 use native.Mathlib.Omega.{arith}
 use borrow.Author.Needs.{needs}
 use denote.Ref.{now}
+use Rattle.text.specs.Keys.{opKey}
 use Rattle.text.proofs.Bytes.{starts-room}
-use Rattle.trace.specs.Op.{opKey, opAt}
+use Rattle.trace.specs.Op.{opAt}
 use Rattle.trace.proofs.ops.op_at.Statement.{statement}
 use Rattle.trace.proofs.ops.op_at.Tie as tie
 

@@ -14,7 +14,8 @@ bytes-at-requires c κs = search needs
 add-t8 : tie.Need-add-t8
 add-t8 c =
     let p = c .before .before .before .before in
-    omega (arith, starts-room (now (p .args .name)) (now (p .args .s)) (p .args .at) (p .pre) (sym (c .before .bytes-at .ensures) ∙ c .if1 .taken))
+    let there = sym (c .before .bytes-at .ensures) ∙ c .if1 .taken in
+    omega (arith, starts-room (now (p .args .name)) (now (p .args .s)) (p .args .at) (p .pre) there)
 
 returns : tie.Need-returns
 unfolding tryName

@@ -7,7 +7,7 @@ use borrow.Author.Tests.{lt-ltb, le-ltb, not-true, not-false}
 use lib.ListN.{length}
 use denote.Ref.{now}
 use Rattle.text.proofs.Bytes.{starts-room}
-use Rattle.trace.specs.Trace.{header, reading, traceOf, foundFrom}
+use Rattle.trace.specs.Trace.{header, longest, reading, traceOf, foundFrom}
 use Rattle.trace.specs.declared.Reading.the-variants.{Whole}
 use Rattle.trace.proofs.Records.{moves, record-open}
 use Rattle.trace.proofs.Walk.{counting, count-start, count-next, found-end, found-broken}
@@ -15,7 +15,7 @@ use Rattle.trace.proofs.whole.read_trace.Statement.{statement}
 use Rattle.trace.proofs.whole.read_trace.Tie as tie
 
 abbrev Inv-loop : tie.InvT-loop
-Inv-loop s at₀ n₀ at n = (length s ≤ 65536) × (at ≤ length s) × (n ≤ at) × (reading s ≡ counting n (foundFrom s at (1 + 6 * n)))
+Inv-loop s at₀ n₀ at n = (length s ≤ longest) × (at ≤ length s) × (n ≤ at) × (reading s ≡ counting n (foundFrom s at (1 + 6 * n)))
 
 abbrev μ-loop : tie.MeasureT-loop
 μ-loop s at₀ n₀ at n = length s - at

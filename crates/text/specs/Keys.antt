@@ -1,0 +1,52 @@
+-- The keys of document 01's lines, each with its `=`.
+use Prim.Native.Nat.{ℕ}
+use mathlib.Core.List.{List}
+use Rattle.text.specs.Bytes.{bytes}
+
+-- of a record
+abbrev pub opKey : List ℕ
+opKey = bytes "op="
+
+abbrev pub slotKey : List ℕ
+slotKey = bytes "slot="
+
+abbrev pub idKey : List ℕ
+idKey = bytes "id="
+
+abbrev pub stampKey : List ℕ
+stampKey = bytes "stamp="
+
+abbrev pub clockKey : List ℕ
+clockKey = bytes "clock="
+
+abbrev pub sampleKey : List ℕ
+sampleKey = bytes "sample="
+
+-- of an answer, where `slot` and `id` stand again
+abbrev pub answerKey : List ℕ
+answerKey = bytes "answer="
+
+abbrev pub seenKey : List ℕ
+seenKey = bytes "seen="
+
+abbrev pub xminKey : List ℕ
+xminKey = bytes "xmin="
+
+abbrev pub xmaxKey : List ℕ
+xmaxKey = bytes "xmax="
+
+abbrev pub vacuumKey : List ℕ
+vacuumKey = bytes "vacuum="
+
+abbrev pub countKey : List ℕ
+countKey = bytes "count="
+
+abbrev pub inKey : List ℕ
+inKey = bytes "in="
+
+-- of a run's end, and of refusal 9
+abbrev pub recordsKey : List ℕ
+recordsKey = bytes "records="
+
+abbrev pub atKey : List ℕ
+atKey = bytes "at="
