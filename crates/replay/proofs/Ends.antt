@@ -17,7 +17,7 @@ use Rattle.text.specs.Line.{lineText}
 use Rattle.text.specs.Write.{putAt, written}
 use Rattle.render.specs.Output.{Wrote}
 use Rattle.render.proofs.Wrote.{line-wrote, line-put-there, wrote-then}
-use Rattle.replay.specs.Replay.{recordsKey, atKey, brokenText}
+use Rattle.replay.specs.Replay.{brokenText}
 use Rattle.replay.specs.Into.{BrokenFits, EndFits}
 use Rattle.replay.specs.declared.into.Replayed.the-variants.{Written}
 use Rattle.replay.specs.declared.into.Replayed.the-variants.{NoRoom as Short}

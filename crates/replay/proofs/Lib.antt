@@ -1,4 +1,5 @@
 pub mod Running
 pub mod Ends
+pub mod Unique
 pub mod Whole
 pub mod Parts

@@ -19,7 +19,7 @@ use Rattle.trace.specs.Trace.{Breaks, traceOf, reading, recordsFrom, firstRecor
 use Rattle.trace.proofs.Grammar.{opened}
 use Rattle.trace.proofs.Refusal.{trace-breaks}
 use Rattle.trace.proofs.Loop.{none-left, end-only}
-use Rattle.replay.specs.Replay.{recordsKey, brokenText}
+use Rattle.replay.specs.Replay.{brokenText}
 use Rattle.replay.specs.Part.{Part, partOf, PartFits}
 use Rattle.replay.specs.Into.{Into, whole, cut, textIn, intoEnd, intoOf, BrokenFits, EndFits, replayed, IntoFits}
 use Rattle.replay.specs.declared.into.Replayed.{Replayed}
