@@ -1,0 +1,16 @@
+# Lists what the tree declares: awk -f tests/tree/names.awk FILE..
+# A line each: FILE NAME, for functions, structs, enums and constants of code (.rt), and for definitions, records,
+# data types, fields, constructors and theorems of the logic (.antt).
+{
+    line = $0
+    sub(/^[ \t]+/, "", line)
+    typed = 0
+    while (match(line, /^(pub|unfoldable|abbrev|const|extern|"C"|fn|struct|enum|record|data) +/)) {
+        if (line ~ /^(const|fn|struct|enum|record|data) /) typed = 1
+        line = substr(line, RLENGTH + 1)
+    }
+    if (!match(line, /^[^ (:<,{;=]+/)) next
+    name = substr(line, 1, RLENGTH)
+    rest = substr(line, RLENGTH + 1)
+    if (FILENAME ~ /\.rt$/ ? typed : typed || rest ~ /^ *:([ \t]|$)/) print FILENAME, name
+}
