@@ -1,13 +1,13 @@
 # Lists what the tree declares: awk -f tests/tree/names.awk FILE..
-# A line each: FILE NAME, for functions, structs, enums and constants of code (.rt), what a `pub use` hands on, and for
-# definitions, records, data types, fields, constructors and theorems of the logic (.antt).
+# A line each: FILE NAME, for functions, structs, enums and constants of code (.rt), and for definitions, records, data
+# types, fields, constructors and theorems of the logic (.antt); and FILE NAME again for what a `pub use` hands on.
 FILENAME ~ /\.rt$/ && /^pub use / {
     line = $0
     sub(/^pub use /, "", line)
     sub(/;.*/, "", line)
     n = split(line, part, /::|[{}, ]+/)
     first = line ~ /[{]/ ? 2 : n
-    for (i = first; i <= n; i++) if (part[i] != "" && part[i] != "*") print FILENAME, part[i]
+    for (i = first; i <= n; i++) if (part[i] != "" && part[i] != "*") print FILENAME, part[i], "again"
     next
 }
 {
