@@ -1,6 +1,6 @@
 //! The rounds of each job over plain Rust, with the checksums that crates/bench makes over the proved calls.
 
-use crate::plain::{SLOTS, Table};
+use crate::plain::{SLOTS, Table, is_settled, snapshot_in_array};
 
 /// All slots begin in order, then those end that the layout leaves empty.
 fn half_full(layout: u64) -> Table {
@@ -26,10 +26,11 @@ pub extern "C" fn begin_end(layout: u64, rounds: u64) -> u64 {
     let mut table = half_full(layout);
     let mut sum = 0u64;
     for _ in 0..rounds {
-        let Ok((slot, txid)) = table.begin(table.clock) else {
+        let txid = table.clock();
+        let Ok(slot) = table.begin(txid) else {
             continue;
         };
-        if table.end(slot, txid).is_ok() {
+        if table.end(slot as u16, txid).is_ok() {
             sum = sum.wrapping_add(slot as u64).wrapping_add(txid);
         }
     }
@@ -41,16 +42,16 @@ pub extern "C" fn snapshot(layout: u64, rounds: u64) -> u64 {
     let mut table = half_full(layout);
     let mut sum = 0u64;
     for round in 1..=rounds {
-        let clock = table.clock.saturating_add(1);
+        let clock = table.clock().saturating_add(1);
         let Ok(s) = table.snapshot(clock, clock) else {
             continue;
         };
-        let place = s.ids.get(round as usize % SLOTS).copied().unwrap_or(0);
+        let place = s.in_flight.get(round as usize % SLOTS);
         sum = sum
             .wrapping_add(s.xmin)
             .wrapping_add(s.xmax)
-            .wrapping_add(s.ids.len() as u64)
-            .wrapping_add(place);
+            .wrapping_add(s.in_flight.len() as u64)
+            .wrapping_add(place.copied().unwrap_or(0));
     }
     sum
 }
@@ -60,8 +61,8 @@ pub extern "C" fn fixed_snapshot(layout: u64, rounds: u64) -> u64 {
     let mut table = half_full(layout);
     let mut sum = 0u64;
     for round in 1..=rounds {
-        let clock = table.clock.saturating_add(1);
-        let Ok(s) = table.fixed_snapshot(clock, clock) else {
+        let clock = table.clock().saturating_add(1);
+        let Ok(s) = snapshot_in_array(&mut table, clock, clock) else {
             continue;
         };
         let place = s.ids[round as usize % SLOTS];
@@ -79,8 +80,8 @@ pub extern "C" fn oldest(layout: u64, rounds: u64) -> u64 {
     let mut table = half_full(layout);
     let mut sum = 0u64;
     for _ in 0..rounds {
-        let clock = table.clock.saturating_add(1);
-        let Ok(xmin) = table.oldest(clock, clock) else {
+        let clock = table.clock().saturating_add(1);
+        let Ok(xmin) = table.oldest_snapshot_xmin(clock, clock) else {
             continue;
         };
         sum = sum.wrapping_add(xmin);
@@ -91,11 +92,11 @@ pub extern "C" fn oldest(layout: u64, rounds: u64) -> u64 {
 #[inline(never)]
 pub extern "C" fn settled(layout: u64, rounds: u64) -> u64 {
     let mut table = half_full(layout);
-    let clock = table.clock;
+    let clock = table.clock();
     let s = table.snapshot(clock, clock).unwrap();
     let mut sum = 0u64;
     for round in 1..=rounds {
-        match s.is_settled(round % SLOTS as u64 + 1) {
+        match is_settled(&s, round % SLOTS as u64 + 1) {
             Ok(true) => sum = sum.wrapping_add(round),
             Ok(false) => sum = sum.wrapping_add(1),
             Err(_) => {}

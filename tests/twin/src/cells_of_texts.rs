@@ -1,6 +1,7 @@
 //! Coverage of the text: where and how a trace breaks its grammar, and the lengths.
 
 use crate::coverage::Coverage;
+use crate::damage_fields::UNREAD_NUMBERS;
 use crate::trace::{self, LIMIT, Op};
 
 const KEYS: [&str; 6] = ["op", "slot", "id", "stamp", "clock", "sample"];
@@ -115,7 +116,7 @@ fn count_field(op_line: &[u8], key: &str, line: &[u8], coverage: &mut Coverage) 
         line == too_large.as_bytes(),
         &format!("text: one too large {key}"),
     );
-    let good_numbers = ["1", "7", "255", "65535"].map(|number| format!("{key}={number}\n"));
+    let good_numbers = UNREAD_NUMBERS.map(|number| format!("{key}={number}\n"));
     let good = good_numbers.iter().any(|good| good.as_bytes() == line);
     for op in Op::ALL {
         let named = op_line == format!("op={}\n", op.name()).as_bytes();

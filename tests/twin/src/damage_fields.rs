@@ -2,6 +2,7 @@
 
 use crate::damage_lines::at_a_line;
 use crate::random::Random;
+use crate::table::SLOTS;
 use crate::text::{HEADER_LINE, lines};
 use crate::trace::Op;
 
@@ -136,6 +137,9 @@ pub fn far_too_large(text: &mut Vec<u8>, random: &mut Random) {
     });
 }
 
+/// Good numbers, among them the last slot and the last slot number.
+pub const UNREAD_NUMBERS: [usize; 4] = [1, 7, SLOTS - 1, 65_535];
+
 /// The text with a good number in a field that its op doesn't read.
 pub fn unread_field(text: Vec<u8>, random: &mut Random) -> Vec<u8> {
     let mut list = lines(&text);
@@ -149,9 +153,9 @@ pub fn unread_field(text: Vec<u8>, random: &mut Random) -> Vec<u8> {
     }
     if !unread.is_empty() {
         let line = &mut list[random.pick(&unread)];
-        let numbers: [&[u8]; 4] = [b"1\n", b"7\n", b"255\n", b"65535\n"];
         line.truncate(line.len() - 2);
-        line.extend(random.pick(&numbers));
+        let number = random.pick(&UNREAD_NUMBERS);
+        line.extend(format!("{number}\n").bytes());
     }
     list.concat()
 }

@@ -8,11 +8,6 @@ use crate::sized;
 use crate::table::SLOTS;
 use crate::trace::Op;
 
-pub struct Trace {
-    pub profile: &'static str,
-    pub text: Vec<u8>,
-}
-
 /// What is done to the table before the mixed records.
 #[derive(Clone, Copy)]
 enum Start {
@@ -26,7 +21,6 @@ enum Start {
 }
 
 struct Profile {
-    name: &'static str,
     start: Start,
     stride: Stride,
     /// Ops are drawn from this list; one named twice comes twice as often.
@@ -61,24 +55,16 @@ const OBSERVING: &[Op] = &[
 ];
 
 const PROFILES: &[Profile] = &[
-    profile("mixed", Start::Fresh, Stride::Short, &Op::ALL, 12, 120),
-    profile("wide", Start::Some, Stride::Wide, &Op::ALL, 12, 60),
-    profile("last", Start::Some, Stride::Last, &Op::ALL, 12, 60),
-    profile("refused", Start::Some, Stride::Short, &Op::ALL, 2, 60),
-    profile("observing", Start::Some, Stride::Short, OBSERVING, 30, 120),
-    profile("full", Start::Full(2), Stride::Short, REGISTERING, 12, 60),
-    profile(
-        "used up",
-        Start::FullAndUsedUp(3),
-        Stride::Last,
-        REGISTERING,
-        3,
-        30,
-    ),
+    profile(Start::Fresh, Stride::Short, &Op::ALL, 12, 120),
+    profile(Start::Some, Stride::Wide, &Op::ALL, 12, 60),
+    profile(Start::Some, Stride::Last, &Op::ALL, 12, 60),
+    profile(Start::Some, Stride::Short, &Op::ALL, 2, 60),
+    profile(Start::Some, Stride::Short, OBSERVING, 30, 120),
+    profile(Start::Full(2), Stride::Short, REGISTERING, 12, 60),
+    profile(Start::FullAndUsedUp(3), Stride::Last, REGISTERING, 3, 30),
 ];
 
 const fn profile(
-    name: &'static str,
     start: Start,
     stride: Stride,
     ops: &'static [Op],
@@ -86,7 +72,6 @@ const fn profile(
     most_records: u64,
 ) -> Profile {
     Profile {
-        name,
         start,
         stride,
         ops,
@@ -96,24 +81,23 @@ const fn profile(
 }
 
 /// The trace of a seed.
-pub fn generate(seed: u64) -> Trace {
+pub fn generate(seed: u64) -> Vec<u8> {
     let mut random = Random::new(seed);
-    let (profile, text) = match random.below(20) {
+    match random.below(20) {
         0..=9 => {
             let profile = &PROFILES[random.place(PROFILES.len())];
-            (profile.name, history(profile, random).text())
+            history(profile, random).text()
         }
         10..=15 => {
             let text = small_history(&mut random).text();
-            ("damaged", damage::damaged(text, &mut random))
+            damage::damaged(text, &mut random)
         }
         16..=18 => {
             let text = small_history(&mut random).text();
-            ("unread", damage_fields::unread_field(text, &mut random))
+            damage_fields::unread_field(text, &mut random)
         }
-        _ => ("long", sized::long_text(&mut random)),
-    };
-    Trace { profile, text }
+        _ => sized::long_text(&mut random),
+    }
 }
 
 fn history(profile: &Profile, random: Random) -> History {

@@ -5,7 +5,7 @@ use twin::generate::generate;
 use twin::second::{Fault, output};
 
 fn differs(fault: Fault, seed: u64) -> bool {
-    let text = generate(seed).text;
+    let text = generate(seed);
     output(&text, fault).as_bytes() != expected(&text)
 }
 

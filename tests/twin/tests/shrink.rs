@@ -18,8 +18,8 @@ fn shows(text: &[u8]) -> bool {
 
 #[test]
 fn a_long_trace_becomes_two_records() {
-    let seed = (1..).find(|seed| shows(&generate(*seed).text)).unwrap();
-    let text = generate(seed).text;
+    let seed = (1..).find(|seed| shows(&generate(*seed))).unwrap();
+    let text = generate(seed);
     let small = shrink(&text, 10_000, shows);
     assert!(shows(&small));
     assert_eq!(read(&small).unwrap().len(), 2);

@@ -12,7 +12,7 @@ fn main() -> ExitCode {
     };
     let mut coverage = Coverage::new();
     for seed in from..from.saturating_add(count) {
-        coverage.add(&twin::generate::generate(seed).text);
+        coverage.add(&twin::generate::generate(seed));
     }
     print!("{coverage}");
     if coverage.is_complete() {

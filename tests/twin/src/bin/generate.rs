@@ -14,7 +14,7 @@ fn main() -> ExitCode {
         return ExitCode::from(2);
     };
     let trace = twin::generate::generate(seed);
-    match io::stdout().lock().write_all(&trace.text) {
+    match io::stdout().lock().write_all(&trace) {
         Ok(()) => ExitCode::SUCCESS,
         Err(_) => ExitCode::FAILURE,
     }

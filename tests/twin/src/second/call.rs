@@ -115,7 +115,7 @@ impl Second {
 
     fn accept(&mut self, op: Op, numbers: &[u128; 5]) -> Printed {
         let [slot, id, number, clock, sample] = *numbers;
-        if op.reads_clock() {
+        if matches!(op, Op::Snap | Op::Own | Op::Oldest | Op::Vacuum) {
             self.observe(clock, sample);
         }
         match op {

@@ -1,5 +1,6 @@
-# Lists the functions of one crate: awk -f functions.awk crates/NAME/src/*.rt ..
-# A line each: CRATE::MODULE::NAME, public or inner, requires, ensures, conditions (ensures with an arrow).
+# Lists the functions of one crate: awk -f tests/tree/functions.awk crates/NAME/src/*.rt ..
+# A line each: CRATE::MODULE::NAME, public or inner, requires, ensures, conditions (ensures with an arrow),
+# FILE, the line of `fn`, the first line of the body, the last line.
 # Public is what another crate can call: declared pub in a module that is open all the way from
 # lib.rt, or re-exported from such a module by pub use, or a pub method, or exported to C.
 function module_of(path, m) {
@@ -36,11 +37,18 @@ FNR == 1 {
     if (FILENAME ~ /src\/lib\.rt$/) library = 1
     methods = 0
     head = 0
+    open_body = 0
 }
 { line = $0; sub(/\/\/.*/, "", line) }
 line ~ /^impl/ { methods = 1 }
 line ~ /^}/ { methods = 0 }
-line ~ /^pub mod / { name = line; sub(/^pub mod /, "", name); sub(/[ ;{].*/, "", name); opened[under(module, name)] = module; has_parent[under(module, name)] = 1 }
+line ~ /^pub mod / {
+    name = line
+    sub(/^pub mod /, "", name)
+    sub(/[ ;{].*/, "", name)
+    opened[under(module, name)] = module
+    has_parent[under(module, name)] = 1
+}
 line ~ /^pub use / { uses[++use_count] = line; sub(/^pub use /, "", uses[use_count]); use_in[use_count] = module }
 line ~ /^[ \t]*(pub(\([a-z]*\))? +)?(const +)?(extern +"C" +)?fn +[a-z_]/ {
     name = line
@@ -53,10 +61,20 @@ line ~ /^[ \t]*(pub(\([a-z]*\))? +)?(const +)?(extern +"C" +)?fn +[a-z_]/ {
     method[f] = methods
     to_c[f] = (line ~ /extern +"C"/)
     head = 1
+    match(line, /^[ \t]*/)
+    indent = substr(line, 1, RLENGTH)
+    file[f] = FILENAME
+    first[f] = FNR
 }
 head && line ~ /^[ \t]*requires/ { requires[f]++ }
 head && line ~ /^[ \t]*ensures/ { ensures[f]++; if (line ~ /→/) arrows[f]++ }
-head && line !~ /^[ \t]*(requires|ensures)/ && (line ~ /^[ \t]*\{/ || line ~ /\{[ \t]*\}?$/) { head = 0 }
+open_body && line == indent "}" { last[f] = FNR; open_body = 0 }
+head && line !~ /^[ \t]*(requires|ensures)/ && (line ~ /^[ \t]*\{/ || line ~ /\{[ \t]*\}?$/) {
+    head = 0
+    body[f] = FNR
+    if (line ~ /\}[ \t]*$/) last[f] = FNR
+    else open_body = 1
+}
 END {
     # a module is open where every module above it opens the next
     is_open[""] = library
@@ -69,6 +87,8 @@ END {
     for (i = 1; i <= f; i++) {
         public = open_fn[i] && (is_open[home[i]] || method[i] || (called[i] in shown) || (home[i] in wide)) && library
         if (to_c[i]) public = 1
-        printf "%s::%s %s %d %d %d\n", crate, called[i], public ? "public" : "inner", requires[i], ensures[i], arrows[i]
+        kind = public ? "public" : "inner"
+        printf "%s::%s %s %d %d %d", crate, called[i], kind, requires[i], ensures[i], arrows[i]
+        printf " %s %d %d %d\n", file[i], first[i], body[i], last[i]
     }
 }
