@@ -1,10 +1,9 @@
 // A round begins a transaction and ends it again.
 use crate::fill::half_full;
-use crate::fill::put;
-use registration::Begun;
 use changes::Counters;
-use registration::Ended;
 use kinds::Stamp;
+use registration::Begun;
+use registration::Ended;
 use std::num::wrapping_add_u64;
 
 // What a round adds to the checksum.
@@ -60,8 +59,8 @@ pub fn lent(layout: u64, rounds: u64) -> u64 {
         let begun = first.answer;
         let change = first.change;
         let now = change.counters;
-        put(&mut t.txids, change.at, change.txid);
-        put(&mut t.snapshot_xmins, change.at, change.snapshot_xmin);
+        changes::store_at(&mut t.txids, change.at, change.txid);
+        changes::store_at(&mut t.snapshot_xmins, change.at, change.snapshot_xmin);
         t.clock = now.clock;
         let Begun::Accepted { slot, txid } = begun else {
             continue;
@@ -69,8 +68,8 @@ pub fn lent(layout: u64, rounds: u64) -> u64 {
         let second = registration::decide_end(&t.txids, now, slot, txid);
         let ended = second.answer;
         let back = second.change;
-        put(&mut t.txids, back.at, back.txid);
-        put(&mut t.snapshot_xmins, back.at, back.snapshot_xmin);
+        changes::store_at(&mut t.txids, back.at, back.txid);
+        changes::store_at(&mut t.snapshot_xmins, back.at, back.snapshot_xmin);
         sum = marked(sum, begun, ended);
     }
     sum

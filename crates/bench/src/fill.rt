@@ -1,4 +1,4 @@
-// Half-full tables in two layouts, and what the jobs share.
+// Half-full tables in two layouts.
 use kinds::SLOTS;
 use rules::Table;
 
@@ -25,11 +25,4 @@ pub fn half_full(layout: u64) -> Table {
     }
     t.clock = kinds::next_held(i as u64);
     t
-}
-
-// One column's part of a change; a number that no slot has changes nothing.
-pub fn put(column: &mut [u64; SLOTS], at: usize, x: u64) {
-    if at < SLOTS {
-        column[at] = x;
-    }
 }

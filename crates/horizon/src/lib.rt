@@ -2,13 +2,13 @@
 mod line;
 mod oldest;
 
-pub use oldest::Oldest;
-pub use oldest::OldestAnswer;
-pub use oldest::OldestDecision;
-pub use oldest::decide_oldest;
-pub use oldest::oldest_snapshot_xmin;
 pub use line::VacuumAnswer;
 pub use line::VacuumDecision;
 pub use line::Vacuumed;
 pub use line::decide_vacuum;
 pub use line::vacuum;
+pub use oldest::Oldest;
+pub use oldest::OldestAnswer;
+pub use oldest::OldestDecision;
+pub use oldest::decide_oldest;
+pub use oldest::oldest_snapshot_xmin;

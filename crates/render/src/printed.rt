@@ -1,11 +1,11 @@
 // The numbers that an answer prints, for each case of each answer.
-use registration::Begun;
-use registration::Ended;
 use horizon::Oldest;
-use publication::Stamped;
-use snapshots::Taken;
 use horizon::Vacuumed;
 use kinds::Refusal;
+use publication::Stamped;
+use registration::Begun;
+use registration::Ended;
+use snapshots::Taken;
 ghost use mathlib.Core.Path.{_≡_};
 ghost use Rattle.kinds.specs.Refusals.{told};
 ghost use Rattle.rules.specs.Answers.{answerTold};

@@ -14,14 +14,7 @@ ghost use Rattle.snapshots.specs.Answers.{TakenFits};
 ghost use Rattle.snapshots.specs.Decisions.{ownVerdict, ownDecision};
 
 // Refusals 2, 4, 3, 7, 8, in this order.
-fn own_test(
-    txids: &[u64],
-    former: u64,
-    slot: SlotNo,
-    id: Txid,
-    clock: u64,
-    sample: u64,
-) -> Verdict
+fn own_test(txids: &[u64], former: u64, slot: SlotNo, id: Txid, clock: u64, sample: u64) -> Verdict
     ensures { λ r. do ⌜ r ≡ ownVerdict (← ⟦kinds::SLOTS⟧ .entry) (now (txids .entry)) former slot id clock sample ⌝ }
 {
     let owner = verdicts::owner_test(txids, slot, id);

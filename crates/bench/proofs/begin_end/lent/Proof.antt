@@ -22,11 +22,11 @@ add-i c = search needs
 decide-begin-requires : tie.Need-decide-begin-requires Inv-loop μ-loop
 decide-begin-requires c κs = search needs
 
-put-requires : tie.Need-put-requires Inv-loop μ-loop
-put-requires c κs = search needs
+store-at-requires : tie.Need-store-at-requires Inv-loop μ-loop
+store-at-requires c κs = search needs
 
-put-requires-2 : tie.Need-put-requires-2 Inv-loop μ-loop
-put-requires-2 c κs = search needs
+store-at-requires-2 : tie.Need-store-at-requires-2 Inv-loop μ-loop
+store-at-requires-2 c κs = search needs
 
 enum-known-begun : tie.Need-enum-known-begun Inv-loop μ-loop
 enum-known-begun c = search needs
@@ -43,11 +43,11 @@ loop-again c = search needs
 decide-end-requires : tie.Need-decide-end-requires Inv-loop μ-loop
 decide-end-requires c κs = search needs
 
-put-requires-3 : tie.Need-put-requires-3 Inv-loop μ-loop
-put-requires-3 c κs = search needs
+store-at-requires-3 : tie.Need-store-at-requires-3 Inv-loop μ-loop
+store-at-requires-3 c κs = search needs
 
-put-requires-4 : tie.Need-put-requires-4 Inv-loop μ-loop
-put-requires-4 c κs = search needs
+store-at-requires-4 : tie.Need-store-at-requires-4 Inv-loop μ-loop
+store-at-requires-4 c κs = search needs
 
 marked-requires : tie.Need-marked-requires Inv-loop μ-loop
 marked-requires c κs = search needs
@@ -71,15 +71,15 @@ lent-spec =
     loop-holds
     add-i
     decide-begin-requires
-    put-requires
-    put-requires-2
+    store-at-requires
+    store-at-requires-2
     enum-known-begun
     enum-told
     loop-less
     loop-again
     decide-end-requires
-    put-requires-3
-    put-requires-4
+    store-at-requires-3
+    store-at-requires-4
     marked-requires
     loop-less-2
     loop-again-2

@@ -22,10 +22,10 @@ returns c =
     let few = le-of-eq (simp length-map at (c .before .before .before .before .before .before .before .before .good .0 .1 .1 .0 .1 .0 .1)) in
     let lent : Lent (a .t1) (a .t1 .txids) _ = record { column = refl; counters = sym (c .before .before .before .before .before .before .before .counters-of .ensures) } in
     let d = c .before .before .before .decide-own .ensures in
-    let l = own-rules _ (a .t1) few (a .slot) (a .id) (a .clock) (a .sample) lent  d in
+    let l = own-rules _ (a .t1) few (a .slot) (a .id) (a .clock) (a .sample) lent d in
     record {
       outcome = record { table = c .apply .ensures ∙ l .table; says = l .says };
-      snapshot = own-shows _ (a .t1) few (a .slot) (a .id) (a .clock) (a .sample) lent  d;
+      snapshot = own-shows _ (a .t1) few (a .slot) (a .id) (a .clock) (a .sample) lent d;
     }
 
 pub create-transaction-snapshot-spec : {M : Type 1} → statement M

@@ -19,7 +19,7 @@ returns c =
     λ t l few.
     let a = c .before .before .before .before .before .before .before .args in
     let d = c .before .before .before .before .decide-own .ensures in
-    let rule = own-rules _ t few (a .slot) (a .id) (a .clock) (a .sample) l  d in
+    let rule = own-rules _ t few (a .slot) (a .id) (a .clock) (a .sample) l d in
     listing-ran _ t _ rule (own-lists _ (a .txids .now) (a .was) (a .clock) (a .sample) (a .slot) (a .id) d) (c .before .before .put-listing .ensures)
 
 pub run-own-spec : {M : Type 1} → statement M
