@@ -5,30 +5,14 @@ use mathlib.Core.Bool.{Bool, cond, _&&_}
 use mathlib.Core.List.{List, [], _∷_, _++_}
 use lib.Dec.{leb}
 use lib.ListN.{length}
-use Rattle.kinds.specs.Refusals.{told}
-use Rattle.rules.specs.Answers.{Answer, answerTold}
-use Rattle.snapshots.specs.declared.taken.Taken.{Taken}
-use Rattle.snapshots.specs.declared.taken.Taken.the-variants.{Accepted, Refused}
+use Rattle.rules.specs.Answers.{Answer}
 use Rattle.text.specs.declared.Put.{Put}
 use Rattle.text.specs.declared.Put.the-variants.{Past, NoRoom}
 use Rattle.text.specs.Keys.{answerKey, slotKey, idKey, seenKey, xminKey, xmaxKey, vacuumKey, countKey, inKey}
 use Rattle.text.specs.Line.{lineText}
 use Rattle.text.specs.Write.{spliced}
-use Rattle.render.specs.declared.printed.Printed.{Printed}
-
--- the first four, with no xmin and no xmax
-abbrev pub numbers : ℕ → ℕ → ℕ → ℕ → Printed
-numbers number slot id seen = record { number = number; slot = slot; id = id; seen = seen; xmin = 0; xmax = 0 }
-
--- the numbers of an answer that stand in its own lines
-abbrev pub printedOf : Answer → Printed
-printedOf a =
-    record { number = a .number; slot = a .slot; id = a .id; seen = a .seen; xmin = a .xmin; xmax = a .xmax }
-
--- of a snapshot call's answer, beside its snapshot's xmin and xmax
-abbrev pub printedTaken : Taken → ℕ → ℕ → Printed
-printedTaken Accepted xmin xmax = record { number = 0; slot = 0; id = 0; seen = 0; xmin = xmin; xmax = xmax }
-printedTaken (Refused r) xmin xmax = printedOf (answerTold (told r))
+use Rattle.printed.specs.declared.Printed.{Printed}
+use Rattle.printed.specs.Printed.{printedOf}
 
 unfoldable pub eightLines : Printed → ℕ → ℕ → List ℕ
 eightLines p line count =

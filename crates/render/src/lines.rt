@@ -1,6 +1,6 @@
 // The text of an answer, written at a place of a lent buffer.
-use crate::printed::Printed;
 use kinds::SLOTS;
+use printed::Printed;
 use text::Put;
 ghost use mathlib.Core.Path.{_≡_};
 ghost use mathlib.Core.List.{_++_};

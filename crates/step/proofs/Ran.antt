@@ -15,8 +15,9 @@ use Rattle.snapshots.specs.declared.taken.Taken.the-variants.{Accepted, Refused
 use Rattle.snapshots.specs.declared.taken.SnapshotDecision.{SnapshotDecision}
 use Rattle.snapshots.specs.Answers.{paperTaken}
 use Rattle.snapshots.proofs.Lists.{Lists}
-use Rattle.render.specs.declared.printed.Printed.{Printed}
-use Rattle.render.specs.Output.{printedOf, printedTaken, eightLines, inLines, answerText, putText, leftText}
+use Rattle.printed.specs.declared.Printed.{Printed}
+use Rattle.printed.specs.Printed.{printedOf, printedTaken}
+use Rattle.render.specs.Output.{eightLines, inLines, answerText, putText, leftText}
 use Rattle.step.specs.declared.Outcome.{Outcome}
 use Rattle.step.specs.declared.plain.Plain.{Plain}
 use Rattle.step.specs.Named.{outputOf}

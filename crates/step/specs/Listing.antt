@@ -4,7 +4,8 @@ use mathlib.Core.Path.{_≡_}
 use mathlib.Core.List.{List, _++_}
 use lib.ListN.{take}
 use Rattle.snapshots.specs.declared.taken.SnapshotDecision.{SnapshotDecision}
-use Rattle.render.specs.Output.{printedTaken, eightLines, inLines, putText, leftText}
+use Rattle.printed.specs.Printed.{printedTaken}
+use Rattle.render.specs.Output.{eightLines, inLines, putText, leftText}
 use Rattle.step.specs.declared.Outcome.{Outcome}
 
 abbrev pub listingText : SnapshotDecision → List ℕ

@@ -7,7 +7,8 @@ use Rattle.rules.specs.Calls.{Call, after, answer}
 use Rattle.changes.specs.declared.Counters.{Counters}
 use Rattle.changes.specs.Changes.{countersOf, applied}
 use Rattle.changes.specs.Lent.{Lent}
-use Rattle.render.specs.Output.{printedOf, eightLines, putText, leftText}
+use Rattle.printed.specs.Printed.{printedOf}
+use Rattle.render.specs.Output.{eightLines, putText, leftText}
 use Rattle.step.specs.declared.Outcome.{Outcome}
 use Rattle.step.specs.declared.plain.Plain.{Plain}
 

@@ -15,7 +15,7 @@ pub fn put_listing(decided: SnapshotDecision, buf: &mut [u8], at: usize) -> Outc
     let change = decided.change;
     let answer = decided.answer;
     let snapshot = decided.snapshot;
-    let printed = render::of_taken(answer, snapshot.xmin, snapshot.xmax);
+    let printed = printed::of_taken(answer, snapshot.xmin, snapshot.xmax);
     let line = change.counters.line;
     let count = snapshot.count;
     let put = render::put_answer(buf, at, printed, line, &snapshot.ids, count);

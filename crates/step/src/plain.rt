@@ -5,7 +5,7 @@ use changes::Counters;
 use kinds::SlotNo;
 use kinds::Stamp;
 use kinds::Txid;
-use render::Printed;
+use printed::Printed;
 ghost use Rattle.rules.specs.Calls.{begin, end, oldest, vacuum, stamp, finish};
 ghost use Rattle.step.specs.Plain.{PlainBy, PlainByBoth, PlainByCounters, PutFits};
 
@@ -21,7 +21,7 @@ pub fn plain_begin(txids: &[u64], was: Counters, number: Stamp) -> Plain
     let decided = registration::decide_begin(txids, was, number);
     let change = decided.change;
     let answer = decided.answer;
-    let printed = render::of_begun(answer);
+    let printed = printed::of_begun(answer);
     Plain { printed, change }
 }
 
@@ -31,7 +31,7 @@ pub fn plain_end(txids: &[u64], was: Counters, slot: SlotNo, id: Txid) -> Plain
     let decided = registration::decide_end(txids, was, slot, id);
     let change = decided.change;
     let answer = decided.answer;
-    let printed = render::of_ended(answer);
+    let printed = printed::of_ended(answer);
     Plain { printed, change }
 }
 
@@ -47,7 +47,7 @@ pub fn plain_oldest<'a>(
     let decided = horizon::decide_oldest(txids, xmins, was, clock, sample);
     let change = decided.change;
     let answer = decided.answer;
-    let printed = render::of_oldest(answer);
+    let printed = printed::of_oldest(answer);
     Plain { printed, change }
 }
 
@@ -63,7 +63,7 @@ pub fn plain_vacuum<'a>(
     let decided = horizon::decide_vacuum(txids, xmins, was, clock, sample);
     let change = decided.change;
     let answer = decided.answer;
-    let printed = render::of_vacuumed(answer);
+    let printed = printed::of_vacuumed(answer);
     Plain { printed, change }
 }
 
@@ -73,7 +73,7 @@ pub fn plain_stamp(was: Counters, number: Stamp) -> Plain
     let decided = publication::decide_stamp(was, number);
     let change = decided.change;
     let answer = decided.answer;
-    let printed = render::of_stamped(answer);
+    let printed = printed::of_stamped(answer);
     Plain { printed, change }
 }
 
@@ -83,7 +83,7 @@ pub fn plain_finish(txids: &[u64], was: Counters, slot: SlotNo, id: Txid, number
     let decided = publication::decide_finish(txids, was, slot, id, number);
     let change = decided.change;
     let answer = decided.answer;
-    let printed = render::of_stamped(answer);
+    let printed = printed::of_stamped(answer);
     Plain { printed, change }
 }
 
