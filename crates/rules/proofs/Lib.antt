@@ -17,7 +17,7 @@ pub mod Last
 pub mod Retention
 pub mod Promise
 pub mod Reserved
-pub mod WellFormed
+pub mod Taken
 pub mod Counts
 pub mod Gone
 pub mod Examples

@@ -10,14 +10,13 @@ use Rattle.settled.specs.Settled.{listed}
 use Rattle.rules.specs.declared.Table.{Table}
 use Rattle.rules.specs.Tables.{freshTable}
 use Rattle.rules.specs.Calls.{Call, refusal, after}
-use Rattle.rules.specs.Facts.{WellFormedHistory}
 use Rattle.rules.specs.History.{reached}
 use Rattle.rules.specs.Reservations.{reservesBy, reservations}
 use Rattle.rules.proofs.Places.{zeros-hold}
 use Rattle.rules.proofs.Tallies.{listed-none, listed-cases}
 use Rattle.rules.proofs.Steps.{run-snoc, good-reached}
-use Rattle.rules.proofs.Reserved.{reservations-snoc}
-use Rattle.rules.proofs.WellFormed.{reached-well-formed}
+use Rattle.rules.proofs.Reserved.{InOrder, reserved-in-order, order-place, order-places, reservations-snoc}
+use Rattle.rules.proofs.Taken.{taken-reserved}
 use Rattle.upstream.specs.States.{State, slot, at, pairs, push, pushes, stateOf, stateAfter}
 use Rattle.upstream.specs.Relations.{Contains, WellFormed, Sound}
 use Rattle.upstream.proofs.Pairs.{pairs-at}
@@ -64,17 +63,18 @@ from-fresh n cs =
       table = sound-from-fresh n cs .table;
       history =
           record {
-            ordered = w .ordered;
-            positive = λ i b. w .in-range i b .0;
-            below = λ i b. w .in-range i b .1;
+            ordered = λ i j l h. order-places _ (reservations n cs) _ i j order l h;
+            positive = λ i h. order-place _ (reservations n cs) _ i order h .1;
+            below = λ i h. order-place _ (reservations n cs) _ i order h .2;
             registered = registered;
           };
     }
   where
-    w : WellFormedHistory (reached n cs) (reservations n cs)
-    w = reached-well-formed n cs
+    order : InOrder (freshTable n .clock) (reservations n cs) (reached n cs .clock)
+    order = reserved-in-order n (freshTable n) cs
 
-    registered : (i : ℕ) → at (slotsOf (reached n cs)) i .txid ≢ 0 → Contains (reservations n cs) (at (slotsOf (reached n cs)) i .txid)
+    registered :
+        (i : ℕ) → at (slotsOf (reached n cs)) i .txid ≢ 0 → Contains (reservations n cs) (at (slotsOf (reached n cs)) i .txid)
     registered i z =
         let e = txid-at n (reached n cs) i (sound-from-fresh n cs .shape) in
-        rw e (listed-contains _ (reservations n cs) (w .contains i (λ q. z (e ∙ q))))
+        rw e (listed-contains _ (reservations n cs) (taken-reserved n cs i (λ q. z (e ∙ q))))
