@@ -10,7 +10,7 @@ use Rattle.rules.specs.Accepted.{Acceptable}
 use Rattle.rules.specs.History.{run, reached}
 use Rattle.rules.proofs.Places.{Stored, new-here, as-before, stored, zeros-hold}
 use Rattle.rules.proofs.Tests.{accepted-acceptable}
-use Rattle.rules.proofs.Steps.{after-cases}
+use Rattle.rules.proofs.Calls.{after-cases}
 
 abbrev pub BelowTop : Table → Type 0
 BelowTop t = (i : ℕ) → txidAt t i < top

@@ -15,11 +15,12 @@ use Rattle.rules.specs.Accepted.{Owns, Reserves, Acceptable}
 use Rattle.rules.specs.Facts.{Good}
 use Rattle.rules.specs.History.{run, reached}
 use Rattle.rules.specs.Counts.{isBegin, isEnd, isFinish, counts, acceptedFrom, begins, ends, finishes, takenSlots}
-use Rattle.rules.proofs.Tallies.{taken-empty, taken-one, active-set, active-zeros, lowest-empty}
+use Rattle.rules.proofs.Tally.{taken-empty, taken-one, active-set, active-zeros, lowest-empty}
 use Rattle.rules.proofs.Tests.{accepted-acceptable}
-use Rattle.rules.proofs.Refused.{refused-txids, by-verdict}
+use Rattle.rules.proofs.Refused.{refused-txids}
+use Rattle.rules.proofs.Calls.{by-verdict}
 use Rattle.rules.proofs.Moves.{good-fresh}
-use Rattle.rules.proofs.Steps.{good-after}
+use Rattle.rules.proofs.Facts.{good-after}
 
 one-less :
     (n : ℕ) (t : Table) (slot : SlotNo) (id : Txid) → Good n t → Owns n t slot id →

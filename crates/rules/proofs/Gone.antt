@@ -16,8 +16,8 @@ use Rattle.rules.specs.Facts.{Good}
 use Rattle.rules.specs.History.{Accepts}
 use Rattle.rules.proofs.Places.{Stored, new-here, as-before, stored}
 use Rattle.rules.proofs.Tests.{accepted-acceptable}
-use Rattle.rules.proofs.Steps.{after-accepted}
-use Rattle.rules.proofs.Checked.{passes-good}
+use Rattle.rules.proofs.Calls.{after-accepted}
+use Rattle.rules.proofs.Check.{passes-good}
 
 emptied-gone :
     (n : ℕ) (t : Table) (slot : SlotNo) (id : Txid) → Good n t → Owns n t slot id → (i : ℕ) →

@@ -21,9 +21,10 @@ use Rattle.rules.specs.Calls.{Call, begin, end, snap, own, oldest, vacuu
 use Rattle.rules.specs.Accepted.{Owns, Acceptable}
 use Rattle.rules.specs.History.{Registered}
 use Rattle.rules.proofs.Places.{Stored, new-here, as-before, stored, inside-of-ne}
-use Rattle.rules.proofs.Tallies.{lowest-empty}
+use Rattle.rules.proofs.Tally.{lowest-empty}
 use Rattle.rules.proofs.Tests.{accepted-acceptable}
-use Rattle.rules.proofs.Refused.{refused-txids, by-verdict}
+use Rattle.rules.proofs.Refused.{refused-txids}
+use Rattle.rules.proofs.Calls.{by-verdict}
 
 -- the call is an end or a finish of (slot, id)
 abbrev pub is-end-of : SlotNo → Txid → Call → Bool

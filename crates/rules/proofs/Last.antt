@@ -13,7 +13,7 @@ use Rattle.rules.specs.declared.Table.{Table}
 use Rattle.rules.specs.Calls.{Call, own, refusal, after, shown}
 use Rattle.rules.specs.History.{run, Accepts, Registered, notedBy, lastFrom, Quiet, IsLast}
 use Rattle.rules.proofs.Noted.{is-own-of, own-is-own, Noted, now-taken, now-forgotten, not-moved, noted}
-use Rattle.rules.proofs.Steps.{run-append}
+use Rattle.rules.proofs.History.{run-append}
 
 pub last-append :
     (n : ℕ) (slot : SlotNo) (id : Txid) (t : Table) (before later : List Call) (last : Option Snapshot) →

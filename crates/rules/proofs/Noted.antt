@@ -22,8 +22,9 @@ use Rattle.rules.specs.Tables.{txidAt}
 use Rattle.rules.specs.Calls.{Call, begin, end, snap, own, oldest, vacuum, stamp, finish, refusal, after, afterAccepted, shown}
 use Rattle.rules.specs.History.{notedBy}
 use Rattle.rules.proofs.Places.{Stored, new-here, as-before, stored}
-use Rattle.rules.proofs.Tallies.{lowest-empty}
-use Rattle.rules.proofs.Refused.{refused-txids, by-verdict}
+use Rattle.rules.proofs.Tally.{lowest-empty}
+use Rattle.rules.proofs.Refused.{refused-txids}
+use Rattle.rules.proofs.Calls.{by-verdict}
 
 -- the call is a transaction snapshot of (slot, id)
 abbrev pub is-own-of : SlotNo → Txid → Call → Bool

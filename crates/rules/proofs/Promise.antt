@@ -23,7 +23,9 @@ use Rattle.rules.specs.History.{run, reached, Accepts, Registered, lastF
 use Rattle.rules.specs.Promise.{SettledBelow, lineAfter, Covered, of-transaction, Promise, vacuumAnswer, VacuumPromise}
 use Rattle.rules.proofs.Tests.{accepted-acceptable}
 use Rattle.rules.proofs.Moves.{is-taken}
-use Rattle.rules.proofs.Steps.{after-accepted, good-reached, run-append, run-snoc}
+use Rattle.rules.proofs.Calls.{after-accepted}
+use Rattle.rules.proofs.Facts.{good-reached}
+use Rattle.rules.proofs.History.{run-append, run-snoc}
 use Rattle.rules.proofs.Rising.{line-after, line-never-falls}
 use Rattle.rules.proofs.Last.{last-append, last-own, walk-words, words-walk, words-registered}
 use Rattle.rules.proofs.Retention.{last-keeps}

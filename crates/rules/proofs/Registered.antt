@@ -23,7 +23,9 @@ use Rattle.rules.specs.History.{run, reached, Accepts, Registered, NotEn
 use Rattle.rules.proofs.Places.{zeros-hold}
 use Rattle.rules.proofs.Tests.{accepted-acceptable}
 use Rattle.rules.proofs.Holders.{is-end-of, same-of, Was, before-it, begun-by-it, was, stays-after}
-use Rattle.rules.proofs.Steps.{after-accepted, good-reached, run-append}
+use Rattle.rules.proofs.Calls.{after-accepted}
+use Rattle.rules.proofs.Facts.{good-reached}
+use Rattle.rules.proofs.History.{run-append}
 
 not-ended-nil : (n : ℕ) (t : Table) (slot : SlotNo) (id : Txid) → NotEnded n t slot id []
 not-ended-nil n t slot id =

@@ -26,11 +26,12 @@ use Rattle.rules.specs.Accepted.{Owns, Acceptable}
 use Rattle.rules.specs.Facts.{Good}
 use Rattle.rules.specs.History.{run, reached, Accepts, notedAccepted, notedBy, lastFrom, lastOwn}
 use Rattle.rules.proofs.Places.{StoredBoth, both-new, both-before, stored-both}
-use Rattle.rules.proofs.Tallies.{minimum-member, taken-active, active-length}
+use Rattle.rules.proofs.Tally.{minimum-member, taken-active, active-length}
 use Rattle.rules.proofs.Tests.{accepted-acceptable}
-use Rattle.rules.proofs.Refused.{Refused, stays, spends, by-verdict}
+use Rattle.rules.proofs.Refused.{Refused, stays, spends}
+use Rattle.rules.proofs.Calls.{by-verdict}
 use Rattle.rules.proofs.Moves.{is-taken, good-fresh}
-use Rattle.rules.proofs.Steps.{oldest-taken, good-after}
+use Rattle.rules.proofs.Facts.{oldest-taken, good-after}
 use Rattle.rules.proofs.BelowTop.{BelowTop, below-fresh, below-after}
 use Rattle.rules.proofs.Snapshots.{Settles, settled-in-own}
 

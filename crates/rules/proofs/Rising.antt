@@ -8,7 +8,8 @@ use Rattle.rules.specs.Calls.{Call, begin, end, snap, own, oldest, vacuu
 use Rattle.rules.specs.Accepted.{Acceptable}
 use Rattle.rules.specs.History.{run, reached}
 use Rattle.rules.proofs.Tests.{accepted-acceptable}
-use Rattle.rules.proofs.Steps.{after-cases, run-append}
+use Rattle.rules.proofs.Calls.{after-cases}
+use Rattle.rules.proofs.History.{run-append}
 
 -- the line
 line-accepted : (t : Table) (c : Call) → t .line ≤ afterAccepted t c .line

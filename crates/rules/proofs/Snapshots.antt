@@ -14,7 +14,7 @@ use Rattle.settled.specs.declared.Snapshot.{Snapshot}
 use Rattle.settled.specs.Settled.{listed, settledIn}
 use Rattle.rules.specs.Tally.{active, xmaxOf, snapshotOf}
 use Rattle.rules.proofs.Bools.{and-true}
-use Rattle.rules.proofs.Tallies.{listed-none, maximum-member, taken-active, active-taken, used-places}
+use Rattle.rules.proofs.Tally.{listed-none, maximum-member, taken-active, active-taken, used-places}
 
 -- the settled test's definition, of a whole snapshot
 abbrev pub Settles : Snapshot → ℕ → Type 0

@@ -14,9 +14,9 @@ use Rattle.rules.specs.Calls.{Call, begin}
 use Rattle.rules.specs.History.{reached, Accepts, IsRegistered}
 use Rattle.rules.specs.Reservations.{reservationsFrom, reservations}
 use Rattle.rules.proofs.Bools.{true-or-right}
-use Rattle.rules.proofs.Tallies.{listed-head}
+use Rattle.rules.proofs.Tally.{listed-head}
 use Rattle.rules.proofs.Registered.{begin-answers, registered-in-words}
-use Rattle.rules.proofs.Reserved.{reservations-append}
+use Rattle.rules.proofs.Reservations.{reservations-append}
 
 -- what an accepted begin of the history reserved is among its reservations
 begin-listed :

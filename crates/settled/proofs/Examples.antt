@@ -3,7 +3,7 @@ use Prim.Native.Nat.{ℕ}
 use mathlib.Core.Path.{_≡_, refl}
 use mathlib.Core.Bool.{Bool, true, false}
 use mathlib.Core.List.{List, [], _∷_}
-use Rattle.kinds.specs.Refusals.{Told, told, bare, accepted}
+use Rattle.kinds.specs.Refusals.{told, bare, accepted}
 use Rattle.settled.specs.Settled.{listed, SettledAnswer, settledTest}
 
 -- asked of these ids one after the other, at 256 slots

@@ -13,9 +13,10 @@ use Rattle.rules.specs.Calls.{Call, refusal, after}
 use Rattle.rules.specs.History.{reached}
 use Rattle.rules.specs.Reservations.{reservesBy, reservations}
 use Rattle.rules.proofs.Places.{zeros-hold}
-use Rattle.rules.proofs.Tallies.{listed-none, listed-cases}
-use Rattle.rules.proofs.Steps.{run-snoc, good-reached}
-use Rattle.rules.proofs.Reserved.{InOrder, reserved-in-order, order-place, order-places, reservations-snoc}
+use Rattle.rules.proofs.Tally.{listed-none, listed-cases}
+use Rattle.rules.proofs.History.{run-snoc}
+use Rattle.rules.proofs.Facts.{good-reached}
+use Rattle.rules.proofs.Reservations.{InOrder, reserved-in-order, order-place, order-places, reservations-snoc}
 use Rattle.rules.proofs.Taken.{taken-reserved}
 use Rattle.upstream.specs.States.{State, slot, at, pairs, push, pushes, stateOf, stateAfter}
 use Rattle.upstream.specs.Relations.{Contains, WellFormed, Sound}

@@ -9,7 +9,7 @@ use Rattle.rules.specs.declared.Table.{Table}
 use Rattle.rules.specs.Tables.{txidAt, xminAt}
 use Rattle.rules.specs.Check.{tablePasses}
 use Rattle.rules.specs.Facts.{SlotGood, empty, taken, Good}
-use Rattle.rules.proofs.Checked.{passes-good}
+use Rattle.rules.proofs.Check.{passes-good}
 use Rattle.upstream.specs.States.{Slot, slot, at}
 use Rattle.upstream.specs.Relations.{Sound}
 use Rattle.upstream.proofs.Pairs.{pairs-length, pairs-at}

@@ -19,9 +19,10 @@ use Rattle.rules.specs.Calls.{Call, begin, end, snap, own, oldest, vacuu
 use Rattle.rules.specs.Accepted.{Acceptable}
 use Rattle.rules.specs.History.{run, reached, Accepts}
 use Rattle.rules.specs.Reservations.{reservesAccepted, reservesBy, reservationsFrom, reservations}
-use Rattle.rules.proofs.Tallies.{listed-none, listed-cases, listed-head}
+use Rattle.rules.proofs.Tally.{listed-none, listed-cases, listed-head}
 use Rattle.rules.proofs.Tests.{accepted-acceptable}
-use Rattle.rules.proofs.Refused.{Refused, stays, spends, by-verdict}
+use Rattle.rules.proofs.Refused.{Refused, stays, spends}
+use Rattle.rules.proofs.Calls.{by-verdict}
 
 -- what one call reserves: nothing, or one number from the clock on, which the clock then passes by one
 pub data Step (clock : ℕ) (ids : List ℕ) (clock′ : ℕ) : Type 0 where

@@ -17,9 +17,9 @@ use Rattle.rules.specs.Check.{slotPasses, slotsPass, differ, numbersPass
 use Rattle.rules.specs.Facts.{SlotGood, empty, taken, Good}
 use Rattle.rules.specs.History.{reached}
 use Rattle.rules.proofs.Bools.{and-true, true-and}
-use Rattle.rules.proofs.Tallies.{listed-head, listed-tail, listed-none, listed-cases}
+use Rattle.rules.proofs.Tally.{listed-head, listed-tail, listed-none, listed-cases}
 use Rattle.rules.proofs.Moves.{good-fresh}
-use Rattle.rules.proofs.Steps.{good-after, good-reached}
+use Rattle.rules.proofs.Facts.{good-after, good-reached}
 
 -- one slot
 slot-to : (clock line txid xmin : ℕ) → slotPasses clock line txid xmin ≡ true → SlotGood clock line txid xmin
