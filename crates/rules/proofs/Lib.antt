@@ -1,5 +1,4 @@
 pub mod Answers
-pub mod Bools
 pub mod Places
 pub mod Tally
 pub mod Tests

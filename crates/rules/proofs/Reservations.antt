@@ -12,6 +12,7 @@ use Rattle.kinds.specs.declared.SlotNo.{SlotNo}
 use Rattle.kinds.specs.declared.Txid.{Txid}
 use Rattle.kinds.specs.declared.refusal.Refusal.{Refusal}
 use Rattle.settled.specs.Settled.{listed}
+use Rattle.settled.proofs.Listed.{listed-none, listed-head, listed-cases}
 use Rattle.kinds.specs.Refusals.{consumed}
 use Rattle.rules.specs.declared.Table.{Table}
 use Rattle.rules.specs.Tables.{freshTable}
@@ -19,7 +20,6 @@ use Rattle.rules.specs.Calls.{Call, begin, end, snap, own, oldest, vacuu
 use Rattle.rules.specs.Accepted.{Acceptable}
 use Rattle.rules.specs.History.{run, reached, Accepts}
 use Rattle.rules.specs.Reservations.{reservesAccepted, reservesBy, reservationsFrom, reservations}
-use Rattle.rules.proofs.Tally.{listed-none, listed-cases, listed-head}
 use Rattle.rules.proofs.Tests.{accepted-acceptable}
 use Rattle.rules.proofs.Refused.{Refused, stays, spends}
 use Rattle.rules.proofs.Calls.{by-verdict}

@@ -4,17 +4,16 @@ use mathlib.Core.Path.{_≡_, refl, sym, _∙_, ap}
 use mathlib.Core.Logic.{_≢_}
 use mathlib.Core.Bool.{true}
 use mathlib.Core.List.{List, _∷_, _++_}
+use mathlib.Mathlib.Data.Bool.Basic.{or-inr}
 use Rattle.kinds.specs.declared.Stamp.{Stamp}
 use Rattle.kinds.specs.declared.SlotNo.{SlotNo}
 use Rattle.kinds.specs.declared.Txid.{Txid}
 use Rattle.settled.specs.Settled.{listed}
-use Rattle.settled.proofs.Listed.{listed-append}
+use Rattle.settled.proofs.Listed.{listed-head, listed-append}
 use Rattle.rules.specs.Tables.{freshTable, txidAt}
 use Rattle.rules.specs.Calls.{Call, begin}
 use Rattle.rules.specs.History.{reached, Accepts, IsRegistered}
 use Rattle.rules.specs.Reservations.{reservationsFrom, reservations}
-use Rattle.rules.proofs.Bools.{true-or-right}
-use Rattle.rules.proofs.Tally.{listed-head}
 use Rattle.rules.proofs.Registered.{begin-answers, registered-in-words}
 use Rattle.rules.proofs.Reservations.{reservations-append}
 
@@ -29,7 +28,7 @@ begin-listed n before later number a =
       a,
       listed-append (number .0) (reservations n before) _,
     )
-    (true-or-right (listed (number .0) (reservations n before)) _ (listed-head (number .0) _))
+    (or-inr (listed (number .0) (reservations n before)) _ (listed-head (number .0) _))
 
 pub taken-reserved :
     (n : ℕ) (cs : List Call) (i : ℕ) → txidAt (reached n cs) i ≢ 0 →

@@ -1,4 +1,4 @@
--- The tallies over any columns: who is listed, which bounds hold, which slot is the lowest empty one, how many are taken.
+-- The tallies over any columns: which bounds hold, who is active, which slot is the lowest empty one, how many are taken.
 use Prim.Native.Nat.{ℕ, zero, suc, _+_, _-_, _≤_, _<_, min, max}
 use mathlib.Core.Path.{_≡_, refl, sym, _∙_}
 use mathlib.Core.Logic.{_≢_, _⊎_, inl, inr}
@@ -12,28 +12,8 @@ use lib.ListN.{length, getD, set, take, replicate}
 use lib.Seq.{take-append-seam}
 use borrow.Author.Tests.{eqb-true, eqb-false, eq-eqb, ne-eqb}
 use Rattle.settled.specs.Settled.{listed}
+use Rattle.settled.proofs.Listed.{listed-none, listed-head, listed-tail, listed-cases}
 use Rattle.rules.specs.Tally.{unless, active, retained, lowestEmpty, minimum, maximum, places}
-use Rattle.rules.proofs.Bools.{or-true, true-or-left, true-or-right}
-
-pub listed-head : (x : ℕ) (ys : List ℕ) → listed x (x ∷ ys) ≡ true
-unfolding listed
-listed-head x ys = true-or-left (eqb x x) (listed x ys) (eq-eqb x x refl)
-
-pub listed-tail : (x y : ℕ) (ys : List ℕ) → listed x ys ≡ true → listed x (y ∷ ys) ≡ true
-unfolding listed
-listed-tail x y ys e = true-or-right (eqb y x) (listed x ys) e
-
-pub listed-none : (x : ℕ) → listed x [] ≡ true → ⊥
-unfolding listed
-listed-none x e = false≢true e
-
-pub listed-cases : (x y : ℕ) (ys : List ℕ) → listed x (y ∷ ys) ≡ true → (y ≡ x) ⊎ (listed x ys ≡ true)
-unfolding listed
-listed-cases x y ys e = go (or-true (eqb y x) (listed x ys) e)
-  where
-    go : (eqb y x ≡ true) ⊎ (listed x ys ≡ true) → (y ≡ x) ⊎ (listed x ys ≡ true)
-    go (inl p) = inl (eqb-true y x p)
-    go (inr p) = inr p
 
 -- the smallest is at most the number and each member, and at least what they all are
 pub minimum-start : (a : ℕ) (xs : List ℕ) → minimum a xs ≤ a

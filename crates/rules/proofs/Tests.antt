@@ -3,6 +3,7 @@ use Prim.Native.Nat.{ℕ, _<_}
 use mathlib.Core.Path.{_≡_}
 use mathlib.Core.Logic.{_≢_, _↔_}
 use mathlib.Core.Bool.{_||_}
+use mathlib.Mathlib.Data.Bool.Basic.{or-eq-false-eq-eq-false-and-eq-false as neither}
 use native.Mathlib.Omega.{arith}
 use lib.Dec.{ltb, leb, eqb}
 use borrow.Author.Tests.{ltb-false, leb-false, eqb-true, eqb-false, le-ltb, lt-leb, eq-eqb, ne-eqb}
@@ -20,7 +21,6 @@ use Rattle.rules.specs.Tests.{slotTest, holderTest, ownerTest, reservati
 use Rattle.rules.specs.Calls.{Call, begin, end, snap, own, oldest, vacuum, stamp, finish, refusal}
 use Rattle.rules.specs.Accepted.{Owns, Reserves, Observes, Acceptable}
 use Rattle.rules.specs.History.{Accepts}
-use Rattle.rules.proofs.Bools.{or-false}
 
 pub owns : (n : ℕ) (t : Table) (slot : SlotNo) (id : Txid) → ownerTest n (t .txids) slot id ≡ Pass → Owns n t slot id
 owns n t slot id e =
@@ -36,8 +36,8 @@ pub reserves : (clock : ℕ) (number : Stamp) → reservationTest clock number �
 reserves clock number e =
     let (a, e₁) = not-refused (leb top clock) _ _ e in
     let (b, e₂) = not-refused (eqb (number .0) 0 || (ltb (number .0) clock || leb top (number .0))) _ Pass e₁ in
-    let (b₀, b′) = or-false (eqb (number .0) 0) _ b in
-    let (b₁, b₂) = or-false (ltb (number .0) clock) (leb top (number .0)) b′ in
+    let (b₀, b′) = neither (eqb (number .0) 0) _ .0 b in
+    let (b₁, b₂) = neither (ltb (number .0) clock) (leb top (number .0)) .0 b′ in
     let nz : number .0 ≢ 0 = eqb-false (number .0) 0 b₀ in
     record {
       positive = omega arith;
@@ -49,7 +49,7 @@ pub observes : (former clock sample : ℕ) → observationTest former clock samp
 observes former clock sample e =
     let (a, e₁) = not-refused (ltb clock former) _ _ e in
     let (b, e₂) = not-refused (eqb sample 0 || ltb clock sample) _ Pass e₁ in
-    let (b₀, b₁) = or-false (eqb sample 0) (ltb clock sample) b in
+    let (b₀, b₁) = neither (eqb sample 0) (ltb clock sample) .0 b in
     let nz : sample ≢ 0 = eqb-false sample 0 b₀ in
     record { onward = ltb-false clock former a; positive = omega arith; within = ltb-false clock sample b₁ }
 

@@ -1,19 +1,18 @@
 -- Upstream's state over a list of calls from fresh: the table reached, and the numbers reserved. Its well_formed holds of every one.
-use Prim.Native.Nat.{ℕ, suc}
+use Prim.Native.Nat.{ℕ}
 use mathlib.Core.Path.{_≡_, refl, sym, ap, _∙_}
-use mathlib.Core.Logic.{_≢_, _⊎_, inl, inr}
+use mathlib.Core.Logic.{_≢_}
 use mathlib.Core.Bool.{true}
 use mathlib.Core.List.{List, [], _∷_, _++_, append-assoc, append-nil}
-use native.Mathlib.Omega.{arith}
 use lib.ListN.{replicate}
 use Rattle.settled.specs.Settled.{listed}
+use Rattle.settled.proofs.Listed.{listed-place}
 use Rattle.rules.specs.declared.Table.{Table}
 use Rattle.rules.specs.Tables.{freshTable}
 use Rattle.rules.specs.Calls.{Call, refusal, after}
 use Rattle.rules.specs.History.{reached}
 use Rattle.rules.specs.Reservations.{reservesBy, reservations}
 use Rattle.rules.proofs.Places.{zeros-hold}
-use Rattle.rules.proofs.Tally.{listed-none, listed-cases}
 use Rattle.rules.proofs.History.{run-snoc}
 use Rattle.rules.proofs.Facts.{good-reached}
 use Rattle.rules.proofs.Reservations.{InOrder, reserved-in-order, order-place, order-places, reservations-snoc}
@@ -46,14 +45,9 @@ state-steps n cs c =
 
 -- who is listed stands at some place
 listed-contains : (x : ℕ) (ids : List ℕ) → listed x ids ≡ true → Contains ids x
-listed-contains x [] e = absurd (listed-none x e)
-listed-contains x (y ∷ ids) e = go (listed-cases x y ids e) (listed-contains x ids)
-  where
-    go : (y ≡ x) ⊎ (listed x ids ≡ true) → (listed x ids ≡ true → Contains ids x) → Contains (y ∷ ids) x
-    go (inl p) rest = record { place = 0; inside = omega arith; there = p }
-    go (inr p) rest =
-        let c = rest p in
-        record { place = suc (c .place); inside = omega (arith, c .inside); there = c .there }
+listed-contains x ids e =
+    let (i, h, p) = listed-place x ids e in
+    record { place = i; inside = h; there = p }
 
 pub sound-from-fresh : (n : ℕ) (cs : List Call) → Sound n (reached n cs)
 sound-from-fresh n cs = from-good n (reached n cs) (good-reached n cs)
