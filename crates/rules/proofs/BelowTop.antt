@@ -9,7 +9,7 @@ use Rattle.rules.specs.Calls.{Call, begin, end, snap, own, oldest, vacuu
 use Rattle.rules.specs.Accepted.{Acceptable}
 use Rattle.rules.specs.History.{run, reached}
 use Rattle.rules.proofs.Places.{Stored, new-here, as-before, stored, zeros-hold}
-use Rattle.rules.proofs.Tests.{accepted-acceptable}
+use Rattle.rules.proofs.Accepted.{accepted-acceptable}
 use Rattle.rules.proofs.Calls.{after-cases}
 
 abbrev pub BelowTop : Table → Type 0

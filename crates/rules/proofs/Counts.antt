@@ -1,6 +1,6 @@
 -- Over any calls from fresh, the taken slots are the accepted begins less the accepted ends and finishes.
-use Prim.Native.Nat.{ℕ, _+_, _<_}
-use mathlib.Core.Path.{_≡_, refl, sym, _∙_, ap}
+use Prim.Native.Nat.{ℕ, _+_}
+use mathlib.Core.Path.{_≡_, refl, ap}
 use mathlib.Core.List.{List, [], _∷_}
 use native.Mathlib.Omega.{arith}
 use lib.ListN.{length, set}
@@ -11,12 +11,14 @@ use Rattle.rules.specs.declared.Table.{Table}
 use Rattle.rules.specs.Tally.{active, lowestEmpty}
 use Rattle.rules.specs.Tables.{freshTable, txidAt}
 use Rattle.rules.specs.Calls.{Call, begin, end, snap, own, oldest, vacuum, stamp, finish, refusal, afterAccepted, after}
-use Rattle.rules.specs.Accepted.{Owns, Reserves, Acceptable}
+use Rattle.rules.specs.Accepted.{Owns, Free, Reserves, Acceptable}
 use Rattle.rules.specs.Facts.{Good}
 use Rattle.rules.specs.History.{run, reached}
 use Rattle.rules.specs.Counts.{isBegin, isEnd, isFinish, counts, acceptedFrom, begins, ends, finishes, takenSlots}
 use Rattle.rules.proofs.Tally.{taken-empty, taken-one, active-set, active-zeros, lowest-empty}
-use Rattle.rules.proofs.Tests.{accepted-acceptable}
+use Rattle.rules.proofs.Tests.{free-lowest}
+use Rattle.rules.proofs.Accepted.{accepted-acceptable}
+use Rattle.rules.proofs.Transactions.{registered-taken}
 use Rattle.rules.proofs.Refused.{refused-txids}
 use Rattle.rules.proofs.Calls.{by-verdict}
 use Rattle.rules.proofs.Moves.{good-fresh}
@@ -29,16 +31,16 @@ one-less n t slot id g o =
     omega (
       arith,
       active-set (t .txids) (slot .0) 0 (rw (g .txid-column) (o .inside)),
-      taken-one (txidAt t (slot .0)) (λ z. o .named (sym (o .holds) ∙ z)),
+      taken-one (txidAt t (slot .0)) (registered-taken t slot id (o .registered)),
     )
 
 one-more :
-    (n : ℕ) (t : Table) (number : ℕ) → Good n t → Reserves (t .clock) number → lowestEmpty (t .txids) < n →
+    (n : ℕ) (t : Table) (number : ℕ) → Good n t → Reserves (t .clock) number → Free n t →
     length (active (set (t .txids) (lowestEmpty (t .txids)) number)) ≡ length (active (t .txids)) + 1
 one-more n t number g r f =
     omega (
       arith,
-      active-set (t .txids) (lowestEmpty (t .txids)) number (rw (g .txid-column) f),
+      active-set (t .txids) (lowestEmpty (t .txids)) number (rw (g .txid-column) (free-lowest n t f)),
       taken-empty (txidAt t (lowestEmpty (t .txids))) (lowest-empty (t .txids)),
       taken-one number (λ z. omega arith),
     )

@@ -17,7 +17,8 @@ use Rattle.rules.specs.Tally.{active, retained, lowestEmpty, minimum, ma
 use Rattle.rules.specs.Tables.{freshTable}
 use Rattle.rules.specs.Calls.{Call, begin, end, snap, own, vacuum, stamp, finish, refusal, afterAccepted, spent, afterRefused, after, answerAccepted, answer, shownAccepted, shown}
 use Rattle.rules.specs.Check.{slotsPass, differ, passes, tablePasses}
-use Rattle.rules.specs.History.{run, reached, Accepts, Registered, lastFrom, lastOwn}
+use Rattle.rules.specs.Accepted.{Registered}
+use Rattle.rules.specs.History.{run, reached, Accepts, lastFrom, lastOwn}
 use Rattle.rules.specs.Reservations.{reservationsFrom, reservations}
 use Rattle.rules.specs.Counts.{acceptedFrom, begins, ends, finishes, takenSlots}
 use Rattle.rules.specs.Promise.{SettledBelow, lineAfter, Covered, of-transaction, vacuumAnswer}
@@ -84,7 +85,7 @@ replaced-not-covered h = true≢false (sym (h 1 (omega arith) (rw (replaced-snap
 
 pub second-registered : Registered (reached 2 untilSecond) (slot 1) (txid 2)
 unfolding freshTable run active retained lowestEmpty minimum maximum refusal afterAccepted after
-second-registered = record { named = λ e. omega arith; holds = refl }
+second-registered = record { not-zero = λ e. omega arith; holds = refl }
 
 pub second-covered : Covered 2 untilSecond secondSnapshot
 second-covered = of-transaction (slot 1) (txid 2) second-registered (replaced-snapshot .1)

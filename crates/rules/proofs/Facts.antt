@@ -14,7 +14,8 @@ use Rattle.rules.specs.Accepted.{Owns, Acceptable}
 use Rattle.rules.specs.Facts.{empty, taken, Good}
 use Rattle.rules.specs.History.{run, reached}
 use Rattle.rules.proofs.Tally.{minimum-start, minimum-member, minimum-bound, taken-active, active-taken, taken-retained}
-use Rattle.rules.proofs.Tests.{accepted-acceptable}
+use Rattle.rules.proofs.Accepted.{accepted-acceptable}
+use Rattle.rules.proofs.Transactions.{registered-taken}
 use Rattle.rules.proofs.Calls.{after-cases}
 use Rattle.rules.proofs.Moves.{is-taken, good-clock, good-observed, good-slot, good-xmin, good-line, new-number, good-fresh}
 
@@ -30,7 +31,7 @@ own-high :
     xminOf sample (active (t .txids)) ≤ txidAt t (slot .0)
 own-high n t slot id sample o =
     minimum-member sample (active (t .txids)) (txidAt t (slot .0))
-    (taken-active (t .txids) (slot .0) (λ z. o .named (sym (o .holds) ∙ z)))
+    (taken-active (t .txids) (slot .0) (registered-taken t slot id (o .registered)))
 
 -- the oldest xmin is at most the sample, and at most the snapshot_xmin of each taken slot
 pub oldest-sample : (t : Table) (sample : ℕ) → oldestOf (t .txids) (t .«snapshot_xmins») sample ≤ sample
@@ -51,7 +52,7 @@ good-accepted n t (begin number) g (r, f) =
 good-accepted n t (end slot id) g o = good-slot n t g (slot .0) _ _ (empty refl refl) (λ h. absurd (h refl))
 good-accepted n t (snap clock sample) g o = good-observed n t g clock sample o
 good-accepted n t (own slot id clock sample) g (o, v) =
-    let k = is-taken (g .each (slot .0)) (λ z. o .named (sym (o .holds) ∙ z)) in
+    let k = is-taken (g .each (slot .0)) (registered-taken t slot id (o .registered)) in
     good-xmin n (observed clock sample t) (good-observed n t g clock sample v) (slot .0) _
     (taken (omega (arith, own-low (t .txids) sample (v .positive))) (omega (arith, own-high n t slot id sample o))
     (omega arith) (k .over))

@@ -15,7 +15,7 @@ use Rattle.rules.specs.Check.{tablePasses}
 use Rattle.rules.specs.Facts.{Good}
 use Rattle.rules.specs.History.{Accepts}
 use Rattle.rules.proofs.Places.{Stored, new-here, as-before, stored}
-use Rattle.rules.proofs.Tests.{accepted-acceptable}
+use Rattle.rules.proofs.Accepted.{accepted-acceptable}
 use Rattle.rules.proofs.Calls.{after-accepted}
 use Rattle.rules.proofs.Check.{passes-good}
 
@@ -25,10 +25,10 @@ emptied-gone :
 emptied-gone n t slot id g o i e = go (stored (t .txids) (slot .0) 0 i)
   where
     go : Stored (t .txids) (slot .0) 0 i → ⊥
-    go (new-here p l q) = o .named (sym e ∙ q)
+    go (new-here p l q) = o .registered .not-zero (sym e ∙ q)
     go (as-before d q) =
         d (rw (g .txid-column) (o .inside))
-        (g .differ i (slot .0) (λ z. o .named (sym e ∙ q ∙ z)) (sym q ∙ e ∙ sym (o .holds)))
+        (g .differ i (slot .0) (λ z. o .registered .not-zero (sym e ∙ q ∙ z)) (sym q ∙ e ∙ sym (o .registered .holds)))
 
 pub end-gone :
     (n : ℕ) (t : Table) (slot : SlotNo) (id : Txid) → tablePasses n t ≡ true → Accepts n t (end slot id) → (i : ℕ) →

@@ -2,12 +2,8 @@
 use Prim.Native.Nat.{ℕ}
 use mathlib.Core.Path.{_≡_, refl, sym, _∙_, ap}
 use mathlib.Core.Logic.{_≢_}
-use mathlib.Core.Bool.{Bool, true, false, _&&_, true≢false}
-use mathlib.Core.List.{List}
-use lib.Dec.{eqb}
-use lib.ListN.{getD, set}
+use mathlib.Core.Bool.{false}
 use lib.Seq.{getD-set-other}
-use borrow.Author.Tests.{eqb-true, eqb-false, eq-eqb}
 use Rattle.kinds.specs.declared.Stamp.{Stamp}
 use Rattle.kinds.specs.declared.SlotNo.{SlotNo}
 use Rattle.kinds.specs.declared.Txid.{Txid}
@@ -16,115 +12,88 @@ use Rattle.kinds.specs.declared.refusal.Verdict.the-variants.{Pass}
 use Rattle.kinds.proofs.Verdicts.{refuse-not-pass}
 use Rattle.rules.specs.declared.Table.{Table}
 use Rattle.rules.specs.Tally.{lowestEmpty}
-use Rattle.rules.specs.Tables.{txidAt}
+use Rattle.rules.specs.Tables.{txidAt, withSlot}
 use Rattle.rules.specs.Calls.{Call, begin, end, snap, own, oldest, vacuum, stamp, finish, refusal, afterAccepted, after}
-use Rattle.rules.specs.Accepted.{Owns, Acceptable}
-use Rattle.rules.specs.History.{Registered}
+use Rattle.rules.specs.Accepted.{Registered, Acceptable}
+use Rattle.rules.specs.History.{Accepts, sameTransaction, endOf}
 use Rattle.rules.proofs.Places.{Stored, new-here, as-before, stored, inside-of-ne}
 use Rattle.rules.proofs.Tally.{lowest-empty}
-use Rattle.rules.proofs.Tests.{accepted-acceptable}
+use Rattle.rules.proofs.Accepted.{accepted-acceptable}
+use Rattle.rules.proofs.Transactions.{registered-taken, same-txids, other-slot, slots-differ}
 use Rattle.rules.proofs.Refused.{refused-txids}
 use Rattle.rules.proofs.Calls.{by-verdict}
 
--- the call is an end or a finish of (slot, id)
-abbrev pub is-end-of : SlotNo → Txid → Call → Bool
-is-end-of slot id (begin number) = false
-is-end-of slot id (end slot′ id′) = eqb (slot′ .0) (slot .0) && eqb (id′ .0) (id .0)
-is-end-of slot id (snap clock sample) = false
-is-end-of slot id (own slot′ id′ clock sample) = false
-is-end-of slot id (oldest clock sample) = false
-is-end-of slot id (vacuum clock sample) = false
-is-end-of slot id (stamp number) = false
-is-end-of slot id (finish slot′ id′ number) = eqb (slot′ .0) (slot .0) && eqb (id′ .0) (id .0)
-
-pub same-of : (slot : SlotNo) (id : Txid) → eqb (slot .0) (slot .0) && eqb (id .0) (id .0) ≡ true
-same-of slot id = rw (eq-eqb (slot .0) (slot .0) refl, eq-eqb (id .0) (id .0) refl)
-
 -- who is registered after a call was so before it, and the call did not end it; or the call is its begin
 pub data Was (t : Table) (slot : SlotNo) (id : Txid) (c : Call) (v : Verdict) : Type 0 where
-  before-it : Registered t slot id → (v ≡ Pass → is-end-of slot id c ≡ false) → Was t slot id c v
+  before-it : Registered t slot id → (v ≡ Pass → endOf slot id c ≡ false) → Was t slot id c v
   begun-by-it :
       (number : Stamp) → c ≡ begin number → v ≡ Pass → lowestEmpty (t .txids) ≡ slot .0 → number .0 ≡ id .0 →
       Was t slot id c v
 
--- a slot that still holds an id after slot i was emptied is another one
-not-emptied :
-    (t : Table) (slot slot′ : SlotNo) (id id′ : Txid) (c : Call) → id .0 ≢ 0 →
-    is-end-of slot id c ≡ eqb (slot′ .0) (slot .0) && eqb (id′ .0) (id .0) →
-    getD (set (t .txids) (slot′ .0) 0) (slot .0) 0 ≡ id .0 → Was t slot id c Pass
-not-emptied t slot slot′ id id′ c z s e = go (stored (t .txids) (slot′ .0) 0 (slot .0))
-  where
-    other : (slot′ .0 ≡ slot .0 → ⊥) → (b : Bool) → eqb (slot′ .0) (slot .0) ≡ b → is-end-of slot id c ≡ false
-    other d true p = absurd (d (eqb-true (slot′ .0) (slot .0) p))
-    other d false p = s ∙ rw p
+module _ (t : Table) (slot : SlotNo) (id : Txid) where
+  -- who is registered after slot′ was emptied was so before, in another slot
+  not-emptied :
+      (slot′ : SlotNo) (id′ : Txid) → Registered (withSlot (slot′ .0) 0 0 t) slot id →
+      Registered t slot id × (sameTransaction slot id slot′ id′ ≡ false)
+  not-emptied slot′ id′ r = go (stored (t .txids) (slot′ .0) 0 (slot .0))
+    where
+      go : Stored (t .txids) (slot′ .0) 0 (slot .0) → Registered t slot id × (sameTransaction slot id slot′ id′ ≡ false)
+      go (new-here p l q) = absurd (registered-taken _ slot id r q)
+      go (as-before d q) =
+          let was : Registered t slot id = record { not-zero = r .not-zero; holds = sym q ∙ r .holds } in
+          let inside = inside-of-ne (t .txids) (slot .0) (registered-taken t slot id was) in
+          (was, other-slot slot id slot′ id′ (λ e. d (rw (← e) inside) e))
 
-    go : Stored (t .txids) (slot′ .0) 0 (slot .0) → Was t slot id c Pass
-    go (new-here p l q) = absurd (z (sym e ∙ q))
-    go (as-before d q) =
-        let holds : txidAt t (slot .0) ≡ id .0 = sym q ∙ e in
-        let inside = inside-of-ne (t .txids) (slot .0) (λ w. z (sym holds ∙ w)) in
-        before-it (record { named = z; holds = holds })
-        (λ p. other (λ w. d (rw w inside) (sym w)) (eqb (slot′ .0) (slot .0)) refl)
+  was-accepted : (c : Call) → Registered (afterAccepted t c) slot id → Was t slot id c Pass
+  unfolding afterAccepted
+  was-accepted (begin number) r = go (stored (t .txids) (lowestEmpty (t .txids)) (number .0) (slot .0))
+    where
+      go : Stored (t .txids) (lowestEmpty (t .txids)) (number .0) (slot .0) → Was t slot id (begin number) Pass
+      go (new-here p l q) = begun-by-it number refl refl (sym p) (sym q ∙ r .holds)
+      go (as-before d q) = before-it (record { not-zero = r .not-zero; holds = sym q ∙ r .holds }) (λ p. refl)
+  was-accepted (end slot′ id′) r =
+      let (h, e) = not-emptied slot′ id′ r in
+      before-it h (λ p. e)
+  was-accepted (snap clock sample) r = before-it (same-txids _ t slot id refl r) (λ p. refl)
+  was-accepted (own slot′ id′ clock sample) r = before-it (same-txids _ t slot id refl r) (λ p. refl)
+  was-accepted (oldest clock sample) r = before-it (same-txids _ t slot id refl r) (λ p. refl)
+  was-accepted (vacuum clock sample) r = before-it (same-txids _ t slot id refl r) (λ p. refl)
+  was-accepted (stamp number) r = before-it (same-txids _ t slot id refl r) (λ p. refl)
+  was-accepted (finish slot′ id′ number) r =
+      let (h, e) = not-emptied slot′ id′ (same-txids _ (withSlot (slot′ .0) 0 0 t) slot id refl r) in
+      before-it h (λ p. e)
 
-was-accepted : (t : Table) (slot : SlotNo) (id : Txid) (c : Call) → Registered (afterAccepted t c) slot id → Was t slot id c Pass
-unfolding afterAccepted
-was-accepted t slot id (begin number) r = go (stored (t .txids) (lowestEmpty (t .txids)) (number .0) (slot .0))
-  where
-    go : Stored (t .txids) (lowestEmpty (t .txids)) (number .0) (slot .0) → Was t slot id (begin number) Pass
-    go (new-here p l q) = begun-by-it number refl refl (sym p) (sym q ∙ r .holds)
-    go (as-before d q) = before-it (record { named = r .named; holds = sym q ∙ r .holds }) (λ p. refl)
-was-accepted t slot id (end slot′ id′) r = not-emptied t slot slot′ id id′ (end slot′ id′) (r .named) refl (r .holds)
-was-accepted t slot id (snap clock sample) r = before-it (record { named = r .named; holds = r .holds }) (λ p. refl)
-was-accepted t slot id (own slot′ id′ clock sample) r = before-it (record { named = r .named; holds = r .holds }) (λ p. refl)
-was-accepted t slot id (oldest clock sample) r = before-it (record { named = r .named; holds = r .holds }) (λ p. refl)
-was-accepted t slot id (vacuum clock sample) r = before-it (record { named = r .named; holds = r .holds }) (λ p. refl)
-was-accepted t slot id (stamp number) r = before-it (record { named = r .named; holds = r .holds }) (λ p. refl)
-was-accepted t slot id (finish slot′ id′ number) r =
-    not-emptied t slot slot′ id id′ (finish slot′ id′ number) (r .named) refl (r .holds)
-
-pub was : (n : ℕ) (t : Table) (slot : SlotNo) (id : Txid) (c : Call) → Registered (after n t c) slot id → Was t slot id c (refusal n t c)
+pub was :
+    (n : ℕ) (t : Table) (slot : SlotNo) (id : Txid) (c : Call) → Registered (after n t c) slot id →
+    Was t slot id c (refusal n t c)
 was n t slot id c =
     by-verdict n t c (λ v u. Registered u slot id → Was t slot id c v) (λ e. was-accepted t slot id c)
-    (λ r f h. before-it
-    (record { named = h .named; holds = sym (ap (λ (l : List ℕ). getD l (slot .0) 0) (refused-txids n t c r f)) ∙ h .holds })
-    (λ p. absurd (refuse-not-pass r p)))
+    (λ r f h. before-it (same-txids _ t slot id (sym (refused-txids n t c r f)) h) (λ p. absurd (refuse-not-pass r p)))
 
 -- who is registered before a call that does not end it is so after it
-unmoved-slot :
-    (t : Table) (slot slot′ : SlotNo) (id id′ : Txid) (n : ℕ) → Registered t slot id → Owns n t slot′ id′ →
-    eqb (slot′ .0) (slot .0) && eqb (id′ .0) (id .0) ≡ false → getD (set (t .txids) (slot′ .0) 0) (slot .0) 0 ≡ id .0
-unmoved-slot t slot slot′ id id′ n r o e = go (eqb (slot′ .0) (slot .0)) refl
-  where
-    go : (b : Bool) → eqb (slot′ .0) (slot .0) ≡ b → getD (set (t .txids) (slot′ .0) 0) (slot .0) 0 ≡ id .0
-    go true p =
-        let q : id′ .0 ≡ id .0 = sym (o .holds) ∙ ap (λ (i : ℕ). txidAt t i) (eqb-true (slot′ .0) (slot .0) p) ∙ r .holds in
-        absurd (true≢false (sym (rw (p, eq-eqb (id′ .0) (id .0) q)) ∙ e))
-    go false p = getD-set-other (t .txids) (slot′ .0) (slot .0) 0 0 (λ q. eqb-false (slot′ .0) (slot .0) p (sym q)) ∙ r .holds
+module _ (n : ℕ) (t : Table) (slot : SlotNo) (id : Txid) (r : Registered t slot id) where
+  still : (i txid xmin : ℕ) → slot .0 ≢ i → Registered (withSlot i txid xmin t) slot id
+  still i txid xmin d =
+      record { not-zero = r .not-zero; holds = getD-set-other (t .txids) i (slot .0) txid 0 d ∙ r .holds }
 
-stays-accepted :
-    (n : ℕ) (t : Table) (slot : SlotNo) (id : Txid) (c : Call) → Registered t slot id → Acceptable n t c →
-    is-end-of slot id c ≡ false → txidAt (afterAccepted t c) (slot .0) ≡ id .0
-unfolding afterAccepted
-stays-accepted n t slot id (begin number) r p e =
-    getD-set-other (t .txids) (lowestEmpty (t .txids)) (slot .0) (number .0) 0
-    (λ q. r .named (sym (r .holds) ∙ ap (λ (i : ℕ). txidAt t i) q ∙ lowest-empty (t .txids)))
-    ∙ r .holds
-stays-accepted n t slot id (end slot′ id′) r o e = unmoved-slot t slot slot′ id id′ n r o e
-stays-accepted n t slot id (snap clock sample) r p e = r .holds
-stays-accepted n t slot id (own slot′ id′ clock sample) r p e = r .holds
-stays-accepted n t slot id (oldest clock sample) r p e = r .holds
-stays-accepted n t slot id (vacuum clock sample) r p e = r .holds
-stays-accepted n t slot id (stamp number) r p e = r .holds
-stays-accepted n t slot id (finish slot′ id′ number) r (o, v) e = unmoved-slot t slot slot′ id id′ n r o e
+  stays-accepted : (c : Call) → Acceptable n t c → endOf slot id c ≡ false → Registered (afterAccepted t c) slot id
+  unfolding afterAccepted
+  stays-accepted (begin number) p e =
+      same-txids _ _ slot id refl (still (lowestEmpty (t .txids)) (number .0) (number .0) other)
+    where
+      other : slot .0 ≢ lowestEmpty (t .txids)
+      other q = registered-taken t slot id r (ap (λ (i : ℕ). txidAt t i) q ∙ lowest-empty (t .txids))
+  stays-accepted (end slot′ id′) o e = still (slot′ .0) 0 0 (slots-differ slot id slot′ id′ t r (o .registered) e)
+  stays-accepted (snap clock sample) p e = same-txids t _ slot id refl r
+  stays-accepted (own slot′ id′ clock sample) p e = same-txids t _ slot id refl r
+  stays-accepted (oldest clock sample) p e = same-txids t _ slot id refl r
+  stays-accepted (vacuum clock sample) p e = same-txids t _ slot id refl r
+  stays-accepted (stamp number) p e = same-txids t _ slot id refl r
+  stays-accepted (finish slot′ id′ number) (o, v) e =
+      same-txids _ _ slot id refl (still (slot′ .0) 0 0 (slots-differ slot id slot′ id′ t r (o .registered) e))
 
-pub stays-after :
-    (n : ℕ) (t : Table) (slot : SlotNo) (id : Txid) (c : Call) → Registered t slot id →
-    (refusal n t c ≡ Pass → is-end-of slot id c ≡ false) → Registered (after n t c) slot id
-stays-after n t slot id c r f =
-    record {
-      named = r .named;
-      holds =
-          by-verdict n t c (λ v u. (v ≡ Pass → is-end-of slot id c ≡ false) → txidAt u (slot .0) ≡ id .0)
-          (λ e h. stays-accepted n t slot id c r (accepted-acceptable n t c e) (h refl))
-          (λ x g h. ap (λ (l : List ℕ). getD l (slot .0) 0) (refused-txids n t c x g) ∙ r .holds) f;
-    }
+  pub stays-after : (c : Call) → (Accepts n t c → endOf slot id c ≡ false) → Registered (after n t c) slot id
+  stays-after c f =
+      by-verdict n t c (λ v u. (v ≡ Pass → endOf slot id c ≡ false) → Registered u slot id)
+      (λ e h. stays-accepted c (accepted-acceptable n t c e) (h refl))
+      (λ x g h. same-txids t _ slot id (refused-txids n t c x g) r) f

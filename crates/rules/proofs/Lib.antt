@@ -2,6 +2,7 @@ pub mod Answers
 pub mod Places
 pub mod Tally
 pub mod Tests
+pub mod Accepted
 pub mod Refused
 pub mod Calls
 pub mod Moves
@@ -11,6 +12,8 @@ pub mod Rising
 pub mod BelowTop
 pub mod Check
 pub mod Snapshots
+pub mod Transactions
+pub mod Never
 pub mod Holders
 pub mod Registered
 pub mod Noted

@@ -18,10 +18,11 @@ use Rattle.settled.specs.Settled.{settledTest}
 use Rattle.rules.specs.declared.Table.{Table}
 use Rattle.rules.specs.Tables.{freshTable}
 use Rattle.rules.specs.Calls.{Call, own, vacuum, afterAccepted, after, answerAccepted, answerBy, answer, shown}
-use Rattle.rules.specs.Accepted.{Owns}
-use Rattle.rules.specs.History.{run, reached, Accepts, Registered, lastFrom, lastOwn, IsLast}
+use Rattle.rules.specs.Accepted.{Registered, Owns}
+use Rattle.rules.specs.History.{run, reached, Accepts, lastFrom, lastOwn, IsLast}
 use Rattle.rules.specs.Promise.{SettledBelow, lineAfter, Covered, of-transaction, Promise, vacuumAnswer, VacuumPromise}
-use Rattle.rules.proofs.Tests.{accepted-acceptable}
+use Rattle.rules.proofs.Accepted.{accepted-acceptable}
+use Rattle.rules.proofs.Transactions.{registered-taken}
 use Rattle.rules.proofs.Moves.{is-taken}
 use Rattle.rules.proofs.Calls.{after-accepted}
 use Rattle.rules.proofs.Facts.{good-reached}
@@ -44,7 +45,7 @@ covered-in-words n cs s = (to, from)
         of-transaction slot id (words-registered n (freshTable n) slot id cs s w) (words-walk n (freshTable n) slot id cs s w)
 
 pub covered-settled : (n : ℕ) (cs : List Call) (s : Snapshot) → Covered n cs s → SettledBelow (lineAfter n cs) s
-covered-settled n cs s (of-transaction slot id r e) x h l = last-keeps n cs slot id s e .settles (r .holds) x l
+covered-settled n cs s (of-transaction slot id r e) x h l = last-keeps n cs slot id s e .settles r x l
 
 pub covered-count : (n : ℕ) (cs : List Call) (s : Snapshot) → Covered n cs s → s .count ≤ n
 covered-count n cs s (of-transaction slot id r e) = last-keeps n cs slot id s e .few
@@ -56,7 +57,8 @@ pub own-covered :
     Covered n (cs ++ own slot id clock sample ∷ []) (shown n (reached n cs) (own slot id clock sample))
 unfolding run lastFrom afterAccepted
 own-covered n cs slot id clock sample e =
-    of-transaction slot id (record { named = o .named; holds = rw (run-append, after-accepted, e) (o .holds) })
+    of-transaction slot id
+    (record { not-zero = o .registered .not-zero; holds = rw (run-append, after-accepted, e) (o .registered .holds) })
     (last-append n slot id (freshTable n) cs (own slot id clock sample ∷ []) none
     ∙ last-own n slot id (reached n cs) clock sample (lastOwn n slot id cs) e)
   where
@@ -86,7 +88,7 @@ pub registered-from-line :
     (n : ℕ) (before after : List Call) (slot : SlotNo) (id : Txid) → Registered (reached n (before ++ after)) slot id →
     lineAfter n before ≤ id .0
 registered-from-line n before after slot id r =
-    let k = is-taken (good-reached n (before ++ after) .each (slot .0)) (λ z. r .named (sym (r .holds) ∙ z)) in
+    let k = is-taken (good-reached n (before ++ after) .each (slot .0)) (registered-taken _ slot id r) in
     omega (arith, line-never-falls n before after, r .holds)
 
 -- the settled test itself answers yes

@@ -20,7 +20,7 @@ use Rattle.rules.specs.Calls.{Call, begin, end, snap, own, oldest, vacuu
 use Rattle.rules.specs.Accepted.{Acceptable}
 use Rattle.rules.specs.History.{run, reached, Accepts}
 use Rattle.rules.specs.Reservations.{reservesAccepted, reservesBy, reservationsFrom, reservations}
-use Rattle.rules.proofs.Tests.{accepted-acceptable}
+use Rattle.rules.proofs.Accepted.{accepted-acceptable}
 use Rattle.rules.proofs.Refused.{Refused, stays, spends}
 use Rattle.rules.proofs.Calls.{by-verdict}
 

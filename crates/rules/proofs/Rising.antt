@@ -7,7 +7,7 @@ use Rattle.rules.specs.declared.Table.{Table}
 use Rattle.rules.specs.Calls.{Call, begin, end, snap, own, oldest, vacuum, stamp, finish, afterAccepted, after}
 use Rattle.rules.specs.Accepted.{Acceptable}
 use Rattle.rules.specs.History.{run, reached}
-use Rattle.rules.proofs.Tests.{accepted-acceptable}
+use Rattle.rules.proofs.Accepted.{accepted-acceptable}
 use Rattle.rules.proofs.Calls.{after-cases}
 use Rattle.rules.proofs.History.{run-append}
 

@@ -33,7 +33,7 @@ begin-listed n before later number a =
 pub taken-reserved :
     (n : ℕ) (cs : List Call) (i : ℕ) → txidAt (reached n cs) i ≢ 0 →
     listed (txidAt (reached n cs) i) (reservations n cs) ≡ true
-taken-reserved n cs i h = go (registered-in-words n cs slot id .0 (record { named = h; holds = refl }))
+taken-reserved n cs i h = go (registered-in-words n cs slot id .0 (record { not-zero = h; holds = refl }))
   where
     slot : SlotNo
     slot = record { 0 = i }

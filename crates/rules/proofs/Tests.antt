@@ -1,9 +1,10 @@
--- What each test asks for, and so when a call is accepted.
+-- What each test asks for.
 use Prim.Native.Nat.{ℕ, _<_}
 use mathlib.Core.Path.{_≡_}
-use mathlib.Core.Logic.{_≢_, _↔_}
+use mathlib.Core.Logic.{_≢_}
 use mathlib.Core.Bool.{_||_}
 use mathlib.Mathlib.Data.Bool.Basic.{or-eq-false-eq-eq-false-and-eq-false as neither}
+use native.Mathlib.Decide.{decLt}
 use native.Mathlib.Omega.{arith}
 use lib.Dec.{ltb, leb, eqb}
 use borrow.Author.Tests.{ltb-false, leb-false, eqb-true, eqb-false, le-ltb, lt-leb, eq-eqb, ne-eqb}
@@ -18,9 +19,8 @@ use Rattle.rules.specs.declared.Table.{Table}
 use Rattle.rules.specs.Tally.{lowestEmpty}
 use Rattle.rules.specs.Tables.{txidAt}
 use Rattle.rules.specs.Tests.{slotTest, holderTest, ownerTest, reservationTest, fullTest, observationTest}
-use Rattle.rules.specs.Calls.{Call, begin, end, snap, own, oldest, vacuum, stamp, finish, refusal}
-use Rattle.rules.specs.Accepted.{Owns, Reserves, Observes, Acceptable}
-use Rattle.rules.specs.History.{Accepts}
+use Rattle.rules.specs.Accepted.{Owns, Free, Reserves, Observes}
+use Rattle.rules.proofs.Tally.{lowest-empty, below-lowest}
 
 pub owns : (n : ℕ) (t : Table) (slot : SlotNo) (id : Txid) → ownerTest n (t .txids) slot id ≡ Pass → Owns n t slot id
 owns n t slot id e =
@@ -28,8 +28,11 @@ owns n t slot id e =
     let (b, c) = then-pass (zeroTest id) (holderTest (t .txids) slot id) e₁ in
     record {
       inside = leb-false n (slot .0) (not-refused (leb n (slot .0)) _ Pass a .0);
-      named = eqb-false (id .0) 0 (not-refused (eqb (id .0) 0) _ Pass b .0);
-      holds = eqb-true (txidAt t (slot .0)) (id .0) (passed-by (eqb (txidAt t (slot .0)) (id .0)) _ c);
+      registered =
+          record {
+            not-zero = eqb-false (id .0) 0 (not-refused (eqb (id .0) 0) _ Pass b .0);
+            holds = eqb-true (txidAt t (slot .0)) (id .0) (passed-by (eqb (txidAt t (slot .0)) (id .0)) _ c);
+          };
     }
 
 pub reserves : (clock : ℕ) (number : Stamp) → reservationTest clock number ≡ Pass → Reserves clock (number .0)
@@ -53,37 +56,32 @@ observes former clock sample e =
     let nz : sample ≢ 0 = eqb-false sample 0 b₀ in
     record { onward = ltb-false clock former a; positive = omega arith; within = ltb-false clock sample b₁ }
 
-pub room : (n : ℕ) (t : Table) (number : Stamp) → fullTest n (t .txids) number ≡ Pass → lowestEmpty (t .txids) < n
-room n t number e =
-    leb-false n (lowestEmpty (t .txids)) (not-refused (leb n (lowestEmpty (t .txids))) _ Pass e .0)
+-- some slot is empty exactly where the lowest empty one is inside
+pub free-lowest : (n : ℕ) (t : Table) → Free n t → lowestEmpty (t .txids) < n
+free-lowest n t f = go (decLt (lowestEmpty (t .txids)) n)
+  where
+    go : Dec (lowestEmpty (t .txids) < n) → lowestEmpty (t .txids) < n
+    go (yes h) = h
+    go (no h) = absurd (below-lowest (t .txids) (f .slot) (omega arith) (f .empty))
 
-pub accepted-acceptable : (n : ℕ) (t : Table) (c : Call) → Accepts n t c → Acceptable n t c
-unfolding refusal
-accepted-acceptable n t (begin number) e =
-    let (a, b) = then-pass (reservationTest (t .clock) number) (fullTest n (t .txids) number) e in
-    (reserves (t .clock) number a, room n t number b)
-accepted-acceptable n t (end slot id) e = owns n t slot id e
-accepted-acceptable n t (snap clock sample) e = observes (t .clock) clock sample e
-accepted-acceptable n t (own slot id clock sample) e =
-    let (a, b) = then-pass (ownerTest n (t .txids) slot id) (observationTest (t .clock) clock sample) e in
-    (owns n t slot id a, observes (t .clock) clock sample b)
-accepted-acceptable n t (oldest clock sample) e = observes (t .clock) clock sample e
-accepted-acceptable n t (vacuum clock sample) e = observes (t .clock) clock sample e
-accepted-acceptable n t (stamp number) e = reserves (t .clock) number e
-accepted-acceptable n t (finish slot id number) e =
-    let (a, b) = then-pass (ownerTest n (t .txids) slot id) (reservationTest (t .clock) number) e in
-    (owns n t slot id a, reserves (t .clock) number b)
+pub free : (n : ℕ) (t : Table) (number : Stamp) → fullTest n (t .txids) number ≡ Pass → Free n t
+free n t number e =
+    record {
+      slot = lowestEmpty (t .txids);
+      inside = leb-false n (lowestEmpty (t .txids)) (not-refused (leb n (lowestEmpty (t .txids))) _ Pass e .0);
+      empty = lowest-empty (t .txids);
+    }
 
 -- and the other way round: each test passes on what it asks for
-owner-passes : (n : ℕ) (t : Table) (slot : SlotNo) (id : Txid) → Owns n t slot id → ownerTest n (t .txids) slot id ≡ Pass
+pub owner-passes : (n : ℕ) (t : Table) (slot : SlotNo) (id : Txid) → Owns n t slot id → ownerTest n (t .txids) slot id ≡ Pass
 owner-passes n t slot id o =
     rw (
       lt-leb n (slot .0) (o .inside),
-      ne-eqb (id .0) 0 (o .named),
-      eq-eqb (txidAt t (slot .0)) (id .0) (o .holds),
+      ne-eqb (id .0) 0 (o .registered .not-zero),
+      eq-eqb (txidAt t (slot .0)) (id .0) (o .registered .holds),
     )
 
-reservation-passes : (clock : ℕ) (number : Stamp) → Reserves clock (number .0) → reservationTest clock number ≡ Pass
+pub reservation-passes : (clock : ℕ) (number : Stamp) → Reserves clock (number .0) → reservationTest clock number ≡ Pass
 reservation-passes clock number r =
     rw (
       lt-leb top clock (omega arith),
@@ -92,7 +90,7 @@ reservation-passes clock number r =
       lt-leb top (number .0) (r .below-top),
     )
 
-observation-passes : (former clock sample : ℕ) → Observes former clock sample → observationTest former clock sample ≡ Pass
+pub observation-passes : (former clock sample : ℕ) → Observes former clock sample → observationTest former clock sample ≡ Pass
 observation-passes former clock sample o =
     rw (
       le-ltb clock former (o .onward),
@@ -100,19 +98,5 @@ observation-passes former clock sample o =
       le-ltb clock sample (o .within),
     )
 
-pub acceptable-accepted : (n : ℕ) (t : Table) (c : Call) → Acceptable n t c → Accepts n t c
-unfolding refusal
-acceptable-accepted n t (begin number) (r, f) =
-    rw (reservation-passes (t .clock) number r, lt-leb n (lowestEmpty (t .txids)) f)
-acceptable-accepted n t (end slot id) o = owner-passes n t slot id o
-acceptable-accepted n t (snap clock sample) o = observation-passes (t .clock) clock sample o
-acceptable-accepted n t (own slot id clock sample) (o, v) =
-    rw (owner-passes n t slot id o) (observation-passes (t .clock) clock sample v)
-acceptable-accepted n t (oldest clock sample) o = observation-passes (t .clock) clock sample o
-acceptable-accepted n t (vacuum clock sample) o = observation-passes (t .clock) clock sample o
-acceptable-accepted n t (stamp number) r = reservation-passes (t .clock) number r
-acceptable-accepted n t (finish slot id number) (o, r) =
-    rw (owner-passes n t slot id o) (reservation-passes (t .clock) number r)
-
-pub accepted-exactly : (n : ℕ) (t : Table) (c : Call) → Accepts n t c ↔ Acceptable n t c
-accepted-exactly n t c = (accepted-acceptable n t c, acceptable-accepted n t c)
+pub free-passes : (n : ℕ) (t : Table) (number : Stamp) → Free n t → fullTest n (t .txids) number ≡ Pass
+free-passes n t number f = rw (lt-leb n (lowestEmpty (t .txids)) (free-lowest n t f))

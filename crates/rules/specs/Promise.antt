@@ -9,7 +9,8 @@ use Rattle.kinds.specs.declared.Txid.{Txid}
 use Rattle.settled.specs.declared.Snapshot.{Snapshot}
 use Rattle.settled.specs.Settled.{settledIn}
 use Rattle.rules.specs.Calls.{Call, own, vacuum, answer, shown}
-use Rattle.rules.specs.History.{reached, Accepts, Registered, lastOwn}
+use Rattle.rules.specs.Accepted.{Registered}
+use Rattle.rules.specs.History.{reached, Accepts, lastOwn}
 
 -- each id from 1 up to but not including the line is below xmax and not listed in flight: the settled test's own definition
 abbrev pub SettledBelow : ℕ → Snapshot → Type 0

@@ -19,7 +19,7 @@ use Rattle.rules.specs.Tally.{lowestEmpty}
 use Rattle.rules.specs.Tests.{ownerTest, reservationTest, fullTest, observationTest}
 use Rattle.rules.specs.Accepted.{Reserves, Observes}
 use Rattle.rules.specs.Calls.{begin, end, snap, own, oldest, stamp, finish, refusal}
-use Rattle.rules.proofs.Tests.{acceptable-accepted}
+use Rattle.rules.proofs.Accepted.{acceptable-accepted}
 use Rattle.upstream.specs.States.{Foreseen}
 use Rattle.upstream.proofs.Runs.{mismatch}
 
