@@ -5,9 +5,7 @@ use mathlib.Core.Bool.{true, true≢false}
 use mathlib.Core.List.{List, [], _∷_, _++_}
 use mathlib.Core.Option.{some}
 use native.Mathlib.Omega.{arith}
-use Rattle.kinds.specs.declared.Stamp.{Stamp}
-use Rattle.kinds.specs.declared.SlotNo.{SlotNo}
-use Rattle.kinds.specs.declared.Txid.{Txid}
+use Rattle.kinds.specs.Kinds.{number, slot, txid}
 use Rattle.kinds.specs.declared.refusal.Refusal.the-variants.{NoFreeSlot, BadReservation}
 use Rattle.kinds.specs.declared.refusal.Verdict.the-variants.{Refuse}
 use Rattle.settled.specs.declared.Snapshot.{Snapshot}
@@ -23,15 +21,6 @@ use Rattle.rules.specs.Reservations.{reservationsFrom, reservations}
 use Rattle.rules.specs.Counts.{acceptedFrom, begins, ends, finishes, takenSlots}
 use Rattle.rules.specs.Promise.{SettledBelow, lineAfter, Covered, of-transaction, vacuumAnswer}
 use Rattle.rules.proofs.Promise.{covered-settled, own-covered}
-
-abbrev number : ℕ → Stamp
-number k = record { 0 = k }
-
-abbrev slot : ℕ → SlotNo
-slot k = record { 0 = k }
-
-abbrev txid : ℕ → Txid
-txid k = record { 0 = k }
 
 -- a snapshot at two slots
 abbrev snapshot : ℕ → ℕ → List ℕ → ℕ → Snapshot

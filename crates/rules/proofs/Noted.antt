@@ -68,12 +68,12 @@ module _ (n : ℕ) (t : Table) (slot : SlotNo) (id : Txid) where
       u .line ≡ t .line → Left n t slot id u
   left-emptied u i a b c =
       record {
-        was = λ r. before r (stored (t .txids) i 0 (slot .0));
+        was = λ r. before r (stored 0 (t .txids) i 0 (slot .0));
         same-xmin = λ g r. xmin r (stored-both (t .txids) (t .«snapshot_xmins») i 0 0 (slot .0) (g .txid-column ∙ sym (g .xmin-column)));
         line-below = λ g r. omega arith;
       }
     where
-      before : Registered u slot id → Stored (t .txids) i 0 (slot .0) → Registered t slot id
+      before : Registered u slot id → Stored 0 (t .txids) i 0 (slot .0) → Registered t slot id
       before r (new-here p l q) = absurd (registered-taken u slot id r (rw a q))
       before r (as-before d q) = record { not-zero = r .not-zero; holds = sym q ∙ rw a at (r .holds) }
 

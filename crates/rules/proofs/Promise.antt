@@ -11,6 +11,7 @@ use lib.Seq.{append-snoc}
 use borrow.Author.Tests.{le-ltb, ne-eqb}
 use Rattle.kinds.specs.declared.SlotNo.{SlotNo}
 use Rattle.kinds.specs.declared.Txid.{Txid}
+use Rattle.kinds.specs.Kinds.{txid}
 use Rattle.kinds.specs.Refusals.{accepted}
 use Rattle.kinds.specs.declared.refusal.Verdict.{Verdict}
 use Rattle.settled.specs.declared.Snapshot.{Snapshot}
@@ -94,7 +95,7 @@ registered-from-line n before after slot id r =
 -- the settled test itself answers yes
 pub covered-test-yes :
     (n : ℕ) (cs : List Call) (s : Snapshot) (x : ℕ) → Covered n cs s → 1 ≤ x → x < lineAfter n cs →
-    settledTest n (s .xmax) (s .ids) (s .count) (record { 0 = x }) ≡ record { tells = accepted; settled = true }
+    settledTest n (s .xmax) (s .ids) (s .count) (txid x) ≡ record { tells = accepted; settled = true }
 unfolding settledTest
 covered-test-yes n cs s x c h l =
     rw (le-ltb n (s .count) (covered-count n cs s c), ne-eqb x 0 (λ z. omega arith), covered-settled n cs s c x h l)

@@ -14,6 +14,7 @@ use Rattle.kinds.specs.declared.SlotNo.{SlotNo}
 use Rattle.kinds.specs.declared.Txid.{Txid}
 use Rattle.kinds.specs.declared.refusal.Refusal.{Refusal}
 use Rattle.kinds.specs.declared.refusal.Refusal.the-variants.{NoFreeSlot}
+use Rattle.kinds.specs.Kinds.{txid}
 use Rattle.kinds.specs.Refusals.{told}
 use Rattle.kinds.specs.declared.refusal.Verdict.the-variants.{Pass, Refuse}
 use Rattle.rules.specs.declared.Table.{Table}
@@ -40,7 +41,7 @@ use Rattle.upstream.proofs.Publish.{above}
 use Rattle.upstream.proofs.Fresh.{fresh-at, from-fresh}
 
 abbrev none-free : ℕ → Answer
-none-free id = answerTold (told (NoFreeSlot (record { 0 = id })))
+none-free id = answerTold (told (NoFreeSlot (txid id)))
 
 -- checked_slot: a slot outside is answered by any error x
 pub wrong-kind : (n : ℕ) (slot : SlotNo) (x : Refusal) → CheckedSlot n slot (cond (leb n (slot .0)) (Refuse x) Pass)

@@ -11,7 +11,7 @@ use Rattle.kinds.specs.declared.Stamp.{Stamp}
 use Rattle.kinds.specs.declared.SlotNo.{SlotNo}
 use Rattle.kinds.specs.declared.Txid.{Txid}
 use Rattle.kinds.specs.declared.refusal.Refusal.the-variants.{NoFreeSlot, InvalidSlot, SlotOwnershipMismatch, ZeroTxid, ClockExhausted, BadReservation, BadClock, BadSample}
-use Rattle.kinds.specs.Kinds.{top, txidOf}
+use Rattle.kinds.specs.Kinds.{top, txid, txidOf}
 use Rattle.kinds.specs.declared.refusal.Verdict.{Verdict}
 use Rattle.kinds.specs.declared.refusal.Verdict.the-variants.{Pass, Refuse}
 use Rattle.kinds.specs.Verdicts.{then}
@@ -74,7 +74,7 @@ then-last Pass = refl
 then-last (Refuse r) = refl
 
 abbrev pub mismatch : List ℕ → SlotNo → Txid → Verdict
-mismatch txids slot id = Refuse (SlotOwnershipMismatch slot id (record { 0 = getD txids (slot .0) 0 }))
+mismatch txids slot id = Refuse (SlotOwnershipMismatch slot id (txid (getD txids (slot .0) 0)))
 
 -- a registration: its slot is outside, or holds another txid or none, or is its own; and P, what a second test then tells
 pub data Owning (n : ℕ) (txids : List ℕ) (slot : SlotNo) (id : Txid) (P : Type 0) : Verdict → Type 0 where

@@ -1,11 +1,8 @@
 -- States that meet the hypotheses of the proofs beside this file, so that none of them speaks of nothing.
-use Prim.Native.Nat.{ℕ}
 use mathlib.Core.Path.{_≡_, refl}
 use mathlib.Core.Bool.{true}
 use mathlib.Core.List.{List, [], _∷_}
-use Rattle.kinds.specs.declared.Stamp.{Stamp}
-use Rattle.kinds.specs.declared.SlotNo.{SlotNo}
-use Rattle.kinds.specs.declared.Txid.{Txid}
+use Rattle.kinds.specs.Kinds.{number, slot, txid}
 use Rattle.kinds.specs.declared.refusal.Refusal.the-variants.{NoFreeSlot}
 use Rattle.kinds.specs.declared.refusal.Verdict.the-variants.{Pass, Refuse}
 use Rattle.rules.specs.declared.Table.{Table}
@@ -16,15 +13,6 @@ use Rattle.rules.specs.History.{run, reached}
 use Rattle.rules.specs.Reservations.{reservationsFrom, reservations}
 use Rattle.rules.specs.Check.{slotsPass, differ, passes, tablePasses}
 use Rattle.settled.specs.Settled.{listed}
-
-abbrev number : ℕ → Stamp
-number k = record { 0 = k }
-
-abbrev place : ℕ → SlotNo
-place k = record { 0 = k }
-
-abbrev txid : ℕ → Txid
-txid k = record { 0 = k }
 
 -- two slots, taken by 4 and by 7
 abbrev two-begins : List Call
@@ -48,18 +36,18 @@ pub full-begin : refusal 2 both-taken (begin (number 9)) ≡ Refuse (NoFreeSlot 
 unfolding run refusal after freshTable afterAccepted lowestEmpty
 full-begin = refl
 
-pub stale-own : refusal 2 both-taken (own (place 1) (txid 7) 9 3) ≡ Pass
+pub stale-own : refusal 2 both-taken (own (slot 1) (txid 7) 9 3) ≡ Pass
 unfolding run refusal after freshTable afterAccepted lowestEmpty
 stale-own = refl
 
-pub stale-xmax : shown 2 both-taken (own (place 1) (txid 7) 9 3) ≡ record { xmin = 3; xmax = 8; ids = 4 ∷ 7 ∷ []; count = 2 }
+pub stale-xmax : shown 2 both-taken (own (slot 1) (txid 7) 9 3) ≡ record { xmin = 3; xmax = 8; ids = 4 ∷ 7 ∷ []; count = 2 }
 unfolding run refusal after freshTable afterAccepted lowestEmpty shownAccepted shown snapshotOf active minimum maximum
 stale-xmax = refl
 
-pub own-end : refusal 2 both-taken (end (place 0) (txid 4)) ≡ Pass
+pub own-end : refusal 2 both-taken (end (slot 0) (txid 4)) ≡ Pass
 unfolding run refusal after freshTable afterAccepted lowestEmpty
 own-end = refl
 
-pub own-finish : refusal 2 both-taken (finish (place 0) (txid 4) (number 9)) ≡ Pass
+pub own-finish : refusal 2 both-taken (finish (slot 0) (txid 4) (number 9)) ≡ Pass
 unfolding run refusal after freshTable afterAccepted lowestEmpty
 own-finish = refl

@@ -9,6 +9,7 @@ use Rattle.kinds.specs.declared.SlotNo.{SlotNo}
 use Rattle.kinds.specs.declared.Txid.{Txid}
 use Rattle.kinds.specs.declared.refusal.Refusal.{Refusal}
 use Rattle.kinds.specs.declared.refusal.Refusal.the-variants.{InvalidSlot, SlotOwnershipMismatch}
+use Rattle.kinds.specs.Kinds.{txid}
 use Rattle.kinds.specs.Refusals.{told}
 use Rattle.kinds.specs.declared.refusal.Verdict.{Verdict}
 use Rattle.kinds.specs.declared.refusal.Verdict.the-variants.{Pass, Refuse}
@@ -62,7 +63,7 @@ abbrev pub endResult : ℕ → State → SlotNo → Txid → Answer
 endResult n old given id =
     cond (leb n (given .0)) (answerTold (told (InvalidSlot given)))
     (cond (eqb (at (old .slots) (given .0) .txid) (id .0)) done
-    (answerTold (told (SlotOwnershipMismatch given id (record { 0 = at (old .slots) (given .0) .txid })))))
+    (answerTold (told (SlotOwnershipMismatch given id (txid (at (old .slots) (given .0) .txid))))))
 
 pub record EndTransaction (n : ℕ) (old new : State) (given : SlotNo) (id : Txid) (result : Answer) : Type 0 where
   pub l-end-e1 : HistoryOf old → WellFormed n new
