@@ -17,6 +17,7 @@ use Rattle.kinds.specs.declared.refusal.Refusal.the-variants.{NoFreeSlot}
 use Rattle.kinds.specs.Kinds.{txid}
 use Rattle.kinds.specs.Refusals.{told}
 use Rattle.kinds.specs.declared.refusal.Verdict.the-variants.{Pass, Refuse}
+use Rattle.kinds.proofs.Verdicts.{refuse-not-pass}
 use Rattle.rules.specs.declared.Table.{Table}
 use Rattle.rules.specs.Tally.{oldestOf, snapshotOf}
 use Rattle.rules.specs.Tables.{freshTable, withSlot, withClock, withLine, observed}
@@ -34,7 +35,6 @@ use Rattle.upstream.proofs.Pairs.{pairs-set}
 use Rattle.upstream.proofs.Runs.{seen}
 use Rattle.upstream.proofs.Kept.{length-push, history-push}
 use Rattle.upstream.proofs.Moves.{slotsOf, with-history, txid-at, well-observed, well-entered}
-use Rattle.upstream.proofs.Checked.{not-refused, not-passed}
 use Rattle.upstream.proofs.Snapshots.{locked-run}
 use Rattle.upstream.proofs.Oldest.{oldest-run}
 use Rattle.upstream.proofs.Publish.{above}
@@ -48,8 +48,8 @@ pub wrong-kind : (n : ℕ) (slot : SlotNo) (x : Refusal) → CheckedSlot n slot 
 wrong-kind n slot x = go (leb n (slot .0)) refl
   where
     go : (b : Bool) → leb n (slot .0) ≡ b → CheckedSlot n slot (cond b (Refuse x) Pass)
-    go true e = record { l-checked-slot-e1 = λ p. not-passed _ p; l-checked-slot-e2 = λ r p. leb-true n (slot .0) e }
-    go false e = record { l-checked-slot-e1 = λ p. leb-false n (slot .0) e; l-checked-slot-e2 = λ r p. not-refused r p }
+    go true e = record { l-checked-slot-e1 = λ p. absurd (refuse-not-pass _ p); l-checked-slot-e2 = λ r p. leb-true n (slot .0) e }
+    go false e = record { l-checked-slot-e1 = λ p. leb-false n (slot .0) e; l-checked-slot-e2 = λ r p. absurd (refuse-not-pass r (sym p)) }
 
 module _ (n : ℕ) (t : Table) (history : List ℕ) (y : Sound n t) where
   -- begin: any empty slot i, the highest too, and the sample set to 1

@@ -69,7 +69,8 @@ beginning n txids clock k f = go (reservationTest clock k) (reserving clock k) f
     go Pass r f = on Pass (r tt)
     go (Refuse x) r f = on (Refuse x) (r f)
 
-then-last : (v : Verdict) → then v Pass ≡ v
+-- a last test that passes adds nothing
+pub then-last : (v : Verdict) → then v Pass ≡ v
 then-last Pass = refl
 then-last (Refuse r) = refl
 

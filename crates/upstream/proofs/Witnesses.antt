@@ -8,7 +8,7 @@ use Rattle.kinds.specs.declared.refusal.Verdict.the-variants.{Pass, Refuse}
 use Rattle.rules.specs.declared.Table.{Table}
 use Rattle.rules.specs.Tally.{active, lowestEmpty, minimum, maximum, snapshotOf}
 use Rattle.rules.specs.Tables.{freshTable}
-use Rattle.rules.specs.Calls.{Call, begin, end, own, finish, refusal, afterAccepted, after, shownAccepted, shown}
+use Rattle.rules.specs.Calls.{Call, begin, end, snap, own, oldest, stamp, finish, refusal, afterAccepted, after, shownAccepted, shown}
 use Rattle.rules.specs.History.{run, reached}
 use Rattle.rules.specs.Reservations.{reservationsFrom, reservations}
 use Rattle.rules.specs.Check.{slotsPass, differ, passes, tablePasses}
@@ -22,19 +22,28 @@ abbrev both-taken : Table
 both-taken = reached 2 two-begins
 
 -- with the numbers 4, 7
-pub taken-reserved : reservations 2 two-begins ≡ 4 ∷ 7 ∷ []
+pub both-reserved : reservations 2 two-begins ≡ 4 ∷ 7 ∷ []
 unfolding reservationsFrom refusal after freshTable afterAccepted lowestEmpty
-taken-reserved = refl
+both-reserved = refl
 
 -- the check says yes of it
-pub taken-passes : tablePasses 2 both-taken ≡ true
+pub both-pass : tablePasses 2 both-taken ≡ true
 unfolding run refusal after freshTable afterAccepted lowestEmpty passes slotsPass differ listed
-taken-passes = refl
+both-pass = refl
 
--- no call of it that upstream foresees is refused by 4 to 8: a full table, owned snapshots with a sample below both ids, an end, a finish
+-- no call that upstream foresees is refused there by 4 to 8: a full table; an end, a finish and an own snapshot of who is
+-- registered; a plain snapshot, the oldest and a stamp. The sample is below both ids
 pub full-begin : refusal 2 both-taken (begin (number 9)) ≡ Refuse (NoFreeSlot (txid 9))
 unfolding run refusal after freshTable afterAccepted lowestEmpty
 full-begin = refl
+
+pub owner-end : refusal 2 both-taken (end (slot 0) (txid 4)) ≡ Pass
+unfolding run refusal after freshTable afterAccepted lowestEmpty
+owner-end = refl
+
+pub owner-finish : refusal 2 both-taken (finish (slot 0) (txid 4) (number 9)) ≡ Pass
+unfolding run refusal after freshTable afterAccepted lowestEmpty
+owner-finish = refl
 
 pub stale-own : refusal 2 both-taken (own (slot 1) (txid 7) 9 3) ≡ Pass
 unfolding run refusal after freshTable afterAccepted lowestEmpty
@@ -44,10 +53,14 @@ pub stale-xmax : shown 2 both-taken (own (slot 1) (txid 7) 9 3) ≡ record { xmi
 unfolding run refusal after freshTable afterAccepted lowestEmpty shownAccepted shown snapshotOf active minimum maximum
 stale-xmax = refl
 
-pub own-end : refusal 2 both-taken (end (slot 0) (txid 4)) ≡ Pass
+pub stale-snap : refusal 2 both-taken (snap 9 3) ≡ Pass
 unfolding run refusal after freshTable afterAccepted lowestEmpty
-own-end = refl
+stale-snap = refl
 
-pub own-finish : refusal 2 both-taken (finish (slot 0) (txid 4) (number 9)) ≡ Pass
+pub stale-oldest : refusal 2 both-taken (oldest 9 3) ≡ Pass
 unfolding run refusal after freshTable afterAccepted lowestEmpty
-own-finish = refl
+stale-oldest = refl
+
+pub next-stamp : refusal 2 both-taken (stamp (number 9)) ≡ Pass
+unfolding run refusal after freshTable afterAccepted lowestEmpty
+next-stamp = refl

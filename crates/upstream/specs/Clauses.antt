@@ -1,4 +1,5 @@
--- The ensures of upstream's nine functions, by the ids of docs/CONTRACTS.md. `number` 0 is Ok, 1 to 3 are upstream's errors. The flag is left out. Where a clause needs the history, the field asks for it.
+-- The ensures of upstream's nine functions, by the ids of docs/CONTRACTS.md.
+-- `number` 0 is Ok, 1 to 3 are upstream's errors. The flag is left out. Where a clause needs the history, the field asks for it.
 use Prim.Native.Nat.{ℕ, _+_, _<_, _≤_}
 use mathlib.Core.Path.{_≡_}
 use mathlib.Core.Logic.{_≢_}
@@ -19,7 +20,7 @@ use Rattle.upstream.specs.States.{State, slot, at, push}
 use Rattle.upstream.specs.Tallies.{«minimum_retention»}
 use Rattle.upstream.specs.Relations.{Contains, HistoryOf, WellFormed, Coherent, Observation, Reservation}
 
--- L:153-155
+-- L:153-155, but for the value of an accepted slot, which a verdict does not carry: crate verdicts' `CheckedFits` has it
 pub record CheckedSlot (n : ℕ) (given : SlotNo) (result : Verdict) : Type 0 where
   pub l-checked-slot-e1 : result ≡ Pass → given .0 < n
   pub l-checked-slot-e2 : (r : Refusal) → result ≡ Refuse r → n ≤ given .0

@@ -69,7 +69,7 @@ abbrev pub Foreseen : Verdict → Type 0
 Foreseen Pass = Unit
 Foreseen (Refuse (NoFreeSlot txid)) = Unit
 Foreseen (Refuse (InvalidSlot slot)) = Unit
-Foreseen (Refuse (SlotOwnershipMismatch slot expected seen)) = Unit
+Foreseen (Refuse (SlotOwnershipMismatch slot expected observed)) = Unit
 Foreseen (Refuse ZeroTxid) = ⊥
 Foreseen (Refuse ClockExhausted) = ⊥
 Foreseen (Refuse BadReservation) = ⊥
