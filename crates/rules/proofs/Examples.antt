@@ -10,7 +10,7 @@ use Rattle.kinds.specs.declared.refusal.Refusal.the-variants.{NoFreeSlot, BadRe
 use Rattle.kinds.specs.declared.refusal.Verdict.the-variants.{Refuse}
 use Rattle.settled.specs.declared.Snapshot.{Snapshot}
 use Rattle.settled.specs.Settled.{listed, settledIn}
-use Rattle.kinds.specs.Refusals.{consumed}
+use Rattle.kinds.specs.Refusals.{told, consumed}
 use Rattle.rules.specs.Tally.{active, retained, lowestEmpty, minimum, maximum, snapshotOf}
 use Rattle.rules.specs.Tables.{freshTable}
 use Rattle.rules.specs.Calls.{Call, begin, end, snap, own, vacuum, stamp, finish, refusal, afterAccepted, spent, afterRefused, after, answerAccepted, answer, shownAccepted, shown}
@@ -18,7 +18,8 @@ use Rattle.rules.specs.Check.{slotsPass, differ, passes, tablePasses}
 use Rattle.rules.specs.Accepted.{Registered}
 use Rattle.rules.specs.History.{run, reached, Accepts, lastFrom, lastOwn}
 use Rattle.rules.specs.Reservations.{reservationsFrom, reservations}
-use Rattle.rules.specs.Counts.{acceptedFrom, begins, ends, finishes, takenSlots}
+use Rattle.rules.specs.Counts.{acceptedFrom, begins, endsAndFinishes, takenSlots}
+use Rattle.rules.specs.Rows.{seenFrom, RowsHold, rows, AllRowsHold}
 use Rattle.rules.specs.Promise.{SettledBelow, lineAfter, Covered, of-transaction, vacuumAnswer}
 use Rattle.rules.proofs.Promise.{covered-settled, own-covered}
 
@@ -135,11 +136,10 @@ pub gone :
     Accepts 2 (reached 2 full) (end (slot 0) (txid 1))
     × Accepts 2 (reached 2 full) (finish (slot 0) (txid 1) (number 3))
     × (begins 2 untilGone ≡ 3)
-    × (ends 2 untilGone ≡ 1)
-    × (finishes 2 untilGone ≡ 1)
+    × (endsAndFinishes 2 untilGone ≡ 2)
     × (takenSlots (reached 2 untilGone) ≡ 1)
 unfolding freshTable run active lowestEmpty refusal afterAccepted after acceptedFrom
-gone = (refl, refl, refl, refl, refl, refl)
+gone = (refl, refl, refl, refl, refl)
 
 -- A vacuum that answers a line above 1, and one that a stale sample cannot lower
 
@@ -149,3 +149,9 @@ pub vacuums :
     × (vacuumAnswer 2 untilSecond 3 1 ≡ 2)
 unfolding freshTable run active retained lowestEmpty minimum maximum refusal afterAccepted after answerAccepted answer
 vacuums = (refl, refl, refl)
+
+-- The twelve rows of document 01 at four slots, so that a wrong row is refused here
+
+pub rows-at-four : AllRowsHold 4
+unfolding told consumed active retained lowestEmpty minimum maximum snapshotOf freshTable refusal afterAccepted spent afterRefused after answerAccepted answer seenFrom RowsHold rows
+rows-at-four any = (refl, (refl, (refl, (refl, (refl, (refl, (refl, (refl, (refl, (refl, (refl, (refl, tt))))))))))))

@@ -22,7 +22,7 @@ use Rattle.rules.specs.Tally.{lowestEmpty}
 use Rattle.rules.specs.Tests.{slotTest, holderTest, ownerTest, reservationTest, fullTest, observationTest}
 use Rattle.rules.specs.Calls.{Call, begin, end, snap, own, oldest, vacuum, stamp, finish, refusal, spent, afterRefused}
 use Rattle.rules.specs.Accepted.{Reserves}
-use Rattle.rules.specs.Counts.{isBegin}
+use Rattle.rules.specs.Counts.{opens}
 use Rattle.rules.proofs.Tests.{reserves}
 
 -- a refused call consumes nothing; or it is a begin on a full table, which consumes its number
@@ -103,13 +103,13 @@ refused n t (finish slot id number) r e =
 
 -- every refusal but a begin's leaves the table
 pub refused-kept :
-    (n : ℕ) (t : Table) (c : Call) (r : Refusal) → isBegin c ≡ false → refusal n t c ≡ Refuse r → afterRefused t r ≡ t
+    (n : ℕ) (t : Table) (c : Call) (r : Refusal) → opens c ≡ false → refusal n t c ≡ Refuse r → afterRefused t r ≡ t
 unfolding spent afterRefused
 refused-kept n t c r b e = go (refused n t c r e)
   where
     go : Refused n t c r → afterRefused t r ≡ t
     go (stays h) = rw h
-    go (spends number q _ _ _) = absurd (false≢true (sym b ∙ ap isBegin q))
+    go (spends number q _ _ _) = absurd (false≢true (sym b ∙ ap opens q))
 
 -- no refusal moves a slot
 pub refused-txids : (n : ℕ) (t : Table) (c : Call) (r : Refusal) → Refused n t c r → afterRefused t r .txids ≡ t .txids
