@@ -5,7 +5,6 @@ use mathlib.Core.List.{List, [], _∷_, _++_}
 use lib.Dec.{leb}
 use lib.ListN.{length}
 use Rattle.kinds.specs.declared.refusal.Refusal.the-variants.{BadTrace}
-use Rattle.kinds.specs.Kinds.{number, slot, txid}
 use Rattle.kinds.specs.Refusals.{told}
 use Rattle.rules.specs.declared.Table.{Table}
 use Rattle.rules.specs.Calls.{Call, begin, end, snap, own, oldest, vacuum, stamp, finish, after, answer}
@@ -19,14 +18,14 @@ use Rattle.render.specs.Output.{answerKey, answerText, fits}
 
 -- the call that a record names, with the fields that its op reads
 abbrev pub callBy : Op → Record → Call
-callBy Begin r = begin (number (r .stamp))
-callBy End r = end (slot (r .slot)) (txid (r .id))
+callBy Begin r = begin (record { 0 = r .stamp })
+callBy End r = end (record { 0 = r .slot }) (record { 0 = r .id })
 callBy Snap r = snap (r .clock) (r .sample)
-callBy Own r = own (slot (r .slot)) (txid (r .id)) (r .clock) (r .sample)
+callBy Own r = own (record { 0 = r .slot }) (record { 0 = r .id }) (r .clock) (r .sample)
 callBy Oldest r = oldest (r .clock) (r .sample)
 callBy Vacuum r = vacuum (r .clock) (r .sample)
-callBy Stamp r = stamp (number (r .stamp))
-callBy Finish r = finish (slot (r .slot)) (txid (r .id)) (number (r .stamp))
+callBy Stamp r = stamp (record { 0 = r .stamp })
+callBy Finish r = finish (record { 0 = r .slot }) (record { 0 = r .id }) (record { 0 = r .stamp })
 
 unfoldable pub callOf : Record → Call
 callOf r = callBy (r .op) r
