@@ -1,4 +1,4 @@
--- Demand 3: the promise holds, for every number of slots.
+-- The promise holds, for every number of slots.
 use Prim.Native.Nat.{ℕ, _≤_, _<_}
 use mathlib.Core.Path.{_≡_, sym, _∙_, ap}
 use mathlib.Core.Logic.{_↔_}

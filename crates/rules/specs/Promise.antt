@@ -1,4 +1,4 @@
--- Demand 3 of the request: the promise to vacuum.
+-- The promise to vacuum: docs/PROMISE.md has it in words.
 use Prim.Native.Nat.{ℕ, _≤_, _<_}
 use mathlib.Core.Path.{_≡_}
 use mathlib.Core.List.{List, [], _∷_, _++_}
@@ -16,7 +16,7 @@ use Rattle.rules.specs.History.{reached, Accepts, lastOwn}
 abbrev pub SettledBelow : ℕ → Snapshot → Type 0
 SettledBelow line s = (x : ℕ) → 1 ≤ x → x < line → settledIn (s .xmax) (s .ids) (s .count) x ≡ true
 
--- the line that a history has reached: what the last vacuum answered, and what every record prints
+-- the line that a history has reached: what the last accepted vacuum answered, 1 before any; what every record prints
 abbrev pub lineAfter : ℕ → List Call → ℕ
 lineAfter n cs = reached n cs .line
 
