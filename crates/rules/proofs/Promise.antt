@@ -129,7 +129,8 @@ vacuum-promise n =
       is-line = vacuum-is-line n;
       never-falls = λ before after clock sample clock′ sample′ e e′.
           le-trans (vacuum-from-then n before after clock sample e)
-          (rw (vacuum-line n _ clock′ sample′ e′) (line-after n (reached n (before ++ vacuum clock sample ∷ after)) (vacuum clock′ sample′)));
+          (rw (vacuum-line n _ clock′ sample′ e′)
+          (line-after n (reached n (before ++ vacuum clock sample ∷ after)) (vacuum clock′ sample′)));
       held = λ cs clock sample e s c. rw (vacuum-is-line n cs clock sample e) (covered-settled n (cs ++ vacuum clock sample ∷ []) s c);
       later = λ before after clock sample e slot id clock′ sample′ a x h l.
           own-settled n (before ++ vacuum clock sample ∷ after) slot id clock′ sample′ a x h

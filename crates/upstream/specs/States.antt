@@ -1,4 +1,5 @@
--- Upstream's state, and how a table with the numbers reserved so far is one. Names are upstream's (L:18-40); the flag `lifecycle_held` is left out.
+-- Upstream's state, and how a table with the numbers reserved so far is one.
+-- Names are upstream's (L:18-40); the flag `lifecycle_held` is left out.
 use Prim.Native.Nat.{ℕ}
 use mathlib.Core.List.{List, [], _∷_, _++_}
 use mathlib.Core.Path.{_≡_}
