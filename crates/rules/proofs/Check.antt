@@ -18,7 +18,7 @@ use Rattle.rules.specs.Check.{slotPasses, slotsPass, differ, numbersPass
 use Rattle.rules.specs.Facts.{SlotGood, empty, taken, Good}
 use Rattle.rules.specs.History.{reached}
 use Rattle.rules.proofs.Places.{inside-of-ne}
-use Rattle.rules.proofs.Moves.{good-fresh}
+use Rattle.rules.proofs.Moves.{equally-long, good-fresh}
 use Rattle.rules.proofs.Facts.{good-after, good-reached}
 
 -- one slot
@@ -140,7 +140,7 @@ good-passes n t g =
       le-leb (t .«sampled_clock») (t .clock) (g .sample-to-clock),
       le-leb 1 (t .line) (g .line-from-1),
       le-leb (t .line) (t .clock) (g .line-to-clock),
-      slots-from (t .clock) (t .line) (t .txids) (t .«snapshot_xmins») (g .txid-column ∙ sym (g .xmin-column)) (g .each),
+      slots-from (t .clock) (t .line) (t .txids) (t .«snapshot_xmins») (equally-long n t g) (g .each),
       differ-from (t .txids) (g .differ),
     )
 

@@ -1,6 +1,6 @@
 -- Each call, accepted or refused, on any arguments, keeps the facts of the table check.
 use Prim.Native.Nat.{ℕ, _≤_}
-use mathlib.Core.Path.{refl, sym, _∙_}
+use mathlib.Core.Path.{refl}
 use mathlib.Core.Logic.{_≢_}
 use mathlib.Core.List.{List, [], _∷_}
 use native.Mathlib.Omega.{arith}
@@ -17,7 +17,7 @@ use Rattle.rules.proofs.Tally.{minimum-start, minimum-member, minimum-b
 use Rattle.rules.proofs.Accepted.{accepted-acceptable}
 use Rattle.rules.proofs.Transactions.{registered-taken}
 use Rattle.rules.proofs.Calls.{after-cases}
-use Rattle.rules.proofs.Moves.{is-taken, good-clock, good-observed, good-slot, good-xmin, good-line, new-number, good-fresh}
+use Rattle.rules.proofs.Moves.{equally-long, is-taken, good-clock, good-observed, good-slot, good-xmin, good-line, new-number, good-fresh}
 
 -- an own xmin is from 1 to the owner's txid
 own-low : (txids : List ℕ) (sample : ℕ) → 1 ≤ sample → 1 ≤ xminOf sample (active txids)
@@ -42,7 +42,7 @@ pub oldest-taken :
     oldestOf (t .txids) (t .«snapshot_xmins») sample ≤ xminAt t i
 oldest-taken n t sample i g h =
     minimum-member sample (retained (t .txids) (t .«snapshot_xmins»)) (xminAt t i)
-    (taken-retained (t .txids) (t .«snapshot_xmins») i (g .txid-column ∙ sym (g .xmin-column)) h)
+    (taken-retained (t .txids) (t .«snapshot_xmins») i (equally-long n t g) h)
 
 good-accepted : (n : ℕ) (t : Table) (c : Call) → Good n t → Acceptable n t c → Good n (afterAccepted t c)
 unfolding afterAccepted

@@ -3,12 +3,16 @@ use Prim.Native.Nat.{ℕ, _≤_, _<_}
 use mathlib.Core.Path.{_≡_, sym, _∙_}
 use mathlib.Core.Logic.{_≢_}
 use native.Mathlib.Omega.{arith}
-use lib.ListN.{getD, set, length-set, length-replicate}
+use lib.ListN.{length, getD, set, length-set, length-replicate}
 use Rattle.rules.specs.declared.Table.{Table}
 use Rattle.rules.specs.Tables.{freshTable, txidAt, xminAt, withSlot, withXmin, withClock, observed, withLine}
 use Rattle.rules.specs.Facts.{SlotGood, empty, taken, Good}
 use Rattle.rules.specs.Accepted.{Observes}
 use Rattle.rules.proofs.Places.{Stored, new-here, as-before, stored, StoredBoth, both-new, both-before, stored-both, zeros-hold}
+
+-- both columns have a place for each slot
+pub equally-long : (n : ℕ) (t : Table) → Good n t → length (t .txids) ≡ length (t .«snapshot_xmins»)
+equally-long n t g = g .txid-column ∙ sym (g .xmin-column)
 
 -- a taken slot's part of the facts
 pub record Taken (clock line txid xmin : ℕ) : Type 0 where
@@ -64,7 +68,7 @@ module _ (n : ℕ) (t : Table) (g : Good n t) where
         sample-to-clock = g .sample-to-clock;
         line-from-1 = g .line-from-1;
         line-to-clock = g .line-to-clock;
-        each = λ j. each′ j (stored-both (t .txids) (t .«snapshot_xmins») i txid xmin j (g .txid-column ∙ sym (g .xmin-column)));
+        each = λ j. each′ j (stored-both (t .txids) (t .«snapshot_xmins») i txid xmin j (equally-long n t g));
         differ = λ j k h e. differ′ j k h e (stored 0 (t .txids) i txid j) (stored 0 (t .txids) i txid k);
       }
     where

@@ -30,6 +30,7 @@ use Rattle.rules.proofs.Accepted.{accepted-acceptable}
 use Rattle.rules.proofs.Transactions.{registered-taken, same-txids, same-both, slots-differ}
 use Rattle.rules.proofs.Refused.{Refused, stays, spends}
 use Rattle.rules.proofs.Calls.{by-verdict}
+use Rattle.rules.proofs.Moves.{equally-long}
 use Rattle.rules.proofs.Facts.{oldest-taken}
 
 -- what a call that neither begins in the slot nor takes (slot, id)'s snapshot leaves: who is registered after it was so
@@ -69,7 +70,7 @@ module _ (n : ℕ) (t : Table) (slot : SlotNo) (id : Txid) where
   left-emptied u i a b c =
       record {
         was = λ r. before r (stored 0 (t .txids) i 0 (slot .0));
-        same-xmin = λ g r. xmin r (stored-both (t .txids) (t .«snapshot_xmins») i 0 0 (slot .0) (g .txid-column ∙ sym (g .xmin-column)));
+        same-xmin = λ g r. xmin r (stored-both (t .txids) (t .«snapshot_xmins») i 0 0 (slot .0) (equally-long n t g));
         line-below = λ g r. omega arith;
       }
     where
