@@ -15,6 +15,7 @@ use Rattle.kinds.specs.declared.refusal.Refusal.the-variants.{NoFreeSlot, Inval
 use Rattle.kinds.specs.declared.refusal.Verdict.{Verdict}
 use Rattle.kinds.specs.declared.refusal.Verdict.the-variants.{Pass, Refuse}
 use Rattle.kinds.specs.Verdicts.{then, zeroTest}
+use Rattle.kinds.proofs.Verdicts.{then-last}
 use Rattle.rules.specs.declared.Table.{Table}
 use Rattle.rules.specs.Tally.{lowestEmpty}
 use Rattle.rules.specs.Tests.{ownerTest, fullTest}
@@ -23,7 +24,7 @@ use Rattle.rules.specs.Calls.{begin, end, snap, own, oldest, stamp, finish, ref
 use Rattle.rules.proofs.Tests.{reservation-passes, observation-passes}
 use Rattle.upstream.specs.States.{State, stateOf, Foreseen}
 use Rattle.upstream.specs.Relations.{Sound, Observation, Reservation}
-use Rattle.upstream.proofs.Runs.{then-last, mismatch}
+use Rattle.upstream.proofs.Runs.{mismatch}
 
 pub positive-passes : (id : Txid) → 0 < id .0 → zeroTest id ≡ Pass
 positive-passes id h = rw (ne-eqb (id .0) 0 (λ z. omega arith))

@@ -15,6 +15,7 @@ use Rattle.kinds.specs.Kinds.{top, txid, txidOf}
 use Rattle.kinds.specs.declared.refusal.Verdict.{Verdict}
 use Rattle.kinds.specs.declared.refusal.Verdict.the-variants.{Pass, Refuse}
 use Rattle.kinds.specs.Verdicts.{then}
+use Rattle.kinds.proofs.Verdicts.{then-last}
 use Rattle.rules.specs.Tally.{lowestEmpty}
 use Rattle.rules.specs.Tests.{ownerTest, reservationTest, fullTest, observationTest}
 use Rattle.rules.specs.Accepted.{Reserves, Observes}
@@ -68,11 +69,6 @@ beginning n txids clock k f = go (reservationTest clock k) (reserving clock k) f
         Beginning n txids clock k (then v (fullTest n txids k))
     go Pass r f = on Pass (r tt)
     go (Refuse x) r f = on (Refuse x) (r f)
-
--- a last test that passes adds nothing
-pub then-last : (v : Verdict) → then v Pass ≡ v
-then-last Pass = refl
-then-last (Refuse r) = refl
 
 abbrev pub mismatch : List ℕ → SlotNo → Txid → Verdict
 mismatch txids slot id = Refuse (SlotOwnershipMismatch slot id (txid (getD txids (slot .0) 0)))
