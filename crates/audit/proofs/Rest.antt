@@ -9,19 +9,6 @@ use Rattle.kinds.proofs.Lists.{from}
 use Rattle.settled.specs.Settled.{listed}
 use Rattle.rules.specs.Check.{slotPasses, slotsPass, differ}
 
-module _ (x : ℕ) (l : List ℕ) (i : ℕ) where
-  pub stands-here : i < length l → getD l i 0 ≡ x → listed x (drop i l) ≡ true
-  unfolding listed
-  stands-here h e = rw (from l i h, eq-eqb _ _ e)
-
-  pub stands-later : i < length l → (getD l i 0 ≡ x → ⊥) → listed x (drop i l) ≡ listed x (drop (i + 1) l)
-  unfolding listed
-  stands-later h e = rw (from l i h, ne-eqb _ _ e)
-
-  pub stands-nowhere : length l ≤ i → listed x (drop i l) ≡ false
-  unfolding listed
-  stands-nowhere h = rw (drop-of-length-le l h)
-
 module _ (l : List ℕ) (i : ℕ) where
   pub differ-empty : i < length l → getD l i 0 ≡ 0 → differ (drop i l) ≡ differ (drop (i + 1) l)
   unfolding differ

@@ -25,7 +25,8 @@ pub fn check_columns<'a>(
     false
 }
 
-// Whether a table is one that calls from fresh could have left, as far as a table can tell.
+// Whether a table passes the check of document 01, call 12. Every table that calls from fresh leave does; not every table that
+// passes is one, as slots (4, 4), (9, 8): while 4 is registered, no snapshot of 9 has xmin 8.
 pub fn check_table(table: Table) -> bool
     ensures { λ r. do ⌜ r ≡ tablePasses (← ⟦kinds::SLOTS⟧ .entry) table ⌝ }
 {

@@ -17,7 +17,7 @@ use Rattle.rules.specs.declared.Table.{Table}
 use Rattle.rules.specs.Answers.{Answer, answerTold}
 use Rattle.rules.specs.Tests.{ownerTest, reservationTest}
 use Rattle.rules.specs.Calls.{Call, refusal, afterAccepted, afterRefused, after, answerAccepted, answer}
-use Rattle.rules.specs.Counts.{isBegin}
+use Rattle.rules.specs.Counts.{opens}
 use Rattle.rules.proofs.Tests.{owns, reserves}
 use Rattle.rules.proofs.Refused.{refused-kept}
 use Rattle.changes.specs.declared.Change.{Change}
@@ -38,7 +38,7 @@ module _ (n : ℕ) (t : Table) where
 
   -- every refusal but a begin's leaves it
   pub decided-refused :
-      (c : Call) (r : Refusal) → isBegin c ≡ false → refusal n t c ≡ Refuse r →
+      (c : Call) (r : Refusal) → opens c ≡ false → refusal n t c ≡ Refuse r →
       Decided n t c (countersOnly n (countersOf t)) (answerTold (told r))
   decided-refused c r b e = decided-kept c r e (refused-kept n t c r b e)
 

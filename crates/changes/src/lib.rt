@@ -1,4 +1,6 @@
 // The change that a call makes to a table, as numbers: one slot at most, and the counters. Who owns the table stores it.
+// It is decided on lent columns, which are as long as a table's. Of a shorter one the missing slots count as empty, and a begin
+// may name the first of them; what a longer one has past its last slot is listed in no snapshot.
 mod made;
 mod store;
 

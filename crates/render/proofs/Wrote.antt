@@ -2,14 +2,13 @@
 use Prim.Native.Nat.{ℕ, _+_, _-_, _*_, _≤_, _<_, _^_}
 use mathlib.Core.Path.{_≡_, refl, sym, ap, _∙_}
 use mathlib.Core.List.{List, [], _∷_, _++_, append-assoc, append-nil}
-use mathlib.Core.Bool.{true, false}
+use mathlib.Core.Bool.{true, false, and-eq-true-iff}
 use native.Mathlib.Omega.{arith}
 use native.Mathlib.Numerals.{add-one}
 use lib.Dec.{leb}
 use lib.ListN.{length, take, getD, length-append}
 use lib.Seq.{take-suc}
 use borrow.Author.Tests.{leb-true}
-use Rattle.rules.proofs.Bools.{and-true}
 use Rattle.text.specs.declared.Put.{Put}
 use Rattle.text.specs.declared.Put.the-variants.{Past, NoRoom}
 use Rattle.text.specs.Keys.{inKey}
@@ -87,7 +86,7 @@ one-more-id ids i h =
 module _ (n : ℕ) (xs : List ℕ) (at count : ℕ) where
   pub fits-room : fits n (length xs) at count ≡ true → at + (224 + 24 * count) ≤ length xs
   fits-room e =
-      let (a, b) = and-true (leb count n) (leb (need count) (length xs - at)) e in
+      let (a, b) = and-eq-true-iff (leb count n) (leb (need count) (length xs - at)) .0 e in
       let h = leb-true (need count) (length xs - at) b in
       omega arith
 

@@ -1,6 +1,6 @@
 -- Over any calls from fresh, the taken slots are the accepted begins less the accepted ends and finishes.
-use Prim.Native.Nat.{ℕ, _+_, _<_}
-use mathlib.Core.Path.{_≡_, refl, sym, _∙_, ap}
+use Prim.Native.Nat.{ℕ, _+_}
+use mathlib.Core.Path.{_≡_, refl, ap}
 use mathlib.Core.List.{List, [], _∷_}
 use native.Mathlib.Omega.{arith}
 use lib.ListN.{length, set}
@@ -11,64 +11,64 @@ use Rattle.rules.specs.declared.Table.{Table}
 use Rattle.rules.specs.Tally.{active, lowestEmpty}
 use Rattle.rules.specs.Tables.{freshTable, txidAt}
 use Rattle.rules.specs.Calls.{Call, begin, end, snap, own, oldest, vacuum, stamp, finish, refusal, afterAccepted, after}
-use Rattle.rules.specs.Accepted.{Owns, Reserves, Acceptable}
+use Rattle.rules.specs.Accepted.{Owns, Free, Reserves, Acceptable}
 use Rattle.rules.specs.Facts.{Good}
 use Rattle.rules.specs.History.{run, reached}
-use Rattle.rules.specs.Counts.{isBegin, isEnd, isFinish, counts, acceptedFrom, begins, ends, finishes, takenSlots}
-use Rattle.rules.proofs.Tallies.{taken-empty, taken-one, active-set, active-zeros, lowest-empty}
-use Rattle.rules.proofs.Tests.{accepted-acceptable}
-use Rattle.rules.proofs.Refused.{refused-txids, by-verdict}
+use Rattle.rules.specs.Counts.{opens, closes, counts, acceptedFrom, begins, endsAndFinishes, takenSlots}
+use Rattle.rules.proofs.Tally.{taken-empty, taken-one, active-set, active-zeros, lowest-empty}
+use Rattle.rules.proofs.Tests.{free-lowest}
+use Rattle.rules.proofs.Accepted.{accepted-acceptable}
+use Rattle.rules.proofs.Transactions.{registered-taken}
+use Rattle.rules.proofs.Refused.{refused-txids}
+use Rattle.rules.proofs.Calls.{by-verdict}
 use Rattle.rules.proofs.Moves.{good-fresh}
-use Rattle.rules.proofs.Steps.{good-after}
+use Rattle.rules.proofs.Facts.{good-after}
 
-one-less :
+emptied-counts :
     (n : ℕ) (t : Table) (slot : SlotNo) (id : Txid) → Good n t → Owns n t slot id →
     length (active (set (t .txids) (slot .0) 0)) + 1 ≡ length (active (t .txids))
-one-less n t slot id g o =
+emptied-counts n t slot id g o =
     omega (
       arith,
       active-set (t .txids) (slot .0) 0 (rw (g .txid-column) (o .inside)),
-      taken-one (txidAt t (slot .0)) (λ z. o .named (sym (o .holds) ∙ z)),
+      taken-one (txidAt t (slot .0)) (registered-taken t slot id (o .registered)),
     )
 
-one-more :
-    (n : ℕ) (t : Table) (number : ℕ) → Good n t → Reserves (t .clock) number → lowestEmpty (t .txids) < n →
+entered-counts :
+    (n : ℕ) (t : Table) (number : ℕ) → Good n t → Reserves (t .clock) number → Free n t →
     length (active (set (t .txids) (lowestEmpty (t .txids)) number)) ≡ length (active (t .txids)) + 1
-one-more n t number g r f =
+entered-counts n t number g r f =
     omega (
       arith,
-      active-set (t .txids) (lowestEmpty (t .txids)) number (rw (g .txid-column) f),
+      active-set (t .txids) (lowestEmpty (t .txids)) number (rw (g .txid-column) (free-lowest n t f)),
       taken-empty (txidAt t (lowestEmpty (t .txids))) (lowest-empty (t .txids)),
       taken-one number (λ z. omega arith),
     )
 
 count-accepted :
     (n : ℕ) (t : Table) (c : Call) → Good n t → Acceptable n t c →
-    takenSlots (afterAccepted t c) + (counts Pass (isEnd c) + counts Pass (isFinish c)) ≡ takenSlots t + counts Pass (isBegin c)
+    takenSlots (afterAccepted t c) + counts Pass (closes c) ≡ takenSlots t + counts Pass (opens c)
 unfolding afterAccepted
-count-accepted n t (begin number) g (r, f) = omega (arith, one-more n t (number .0) g r f)
-count-accepted n t (end slot id) g o = omega (arith, one-less n t slot id g o)
+count-accepted n t (begin number) g (r, f) = omega (arith, entered-counts n t (number .0) g r f)
+count-accepted n t (end slot id) g o = omega (arith, emptied-counts n t slot id g o)
 count-accepted n t (snap clock sample) g o = refl
 count-accepted n t (own slot id clock sample) g o = refl
 count-accepted n t (oldest clock sample) g o = refl
 count-accepted n t (vacuum clock sample) g o = refl
 count-accepted n t (stamp number) g o = refl
-count-accepted n t (finish slot id number) g (o, r) = omega (arith, one-less n t slot id g o)
+count-accepted n t (finish slot id number) g (o, r) = omega (arith, emptied-counts n t slot id g o)
 
 count-after :
     (n : ℕ) (t : Table) (c : Call) → Good n t →
-    takenSlots (after n t c) + (counts (refusal n t c) (isEnd c) + counts (refusal n t c) (isFinish c))
-    ≡ takenSlots t + counts (refusal n t c) (isBegin c)
+    takenSlots (after n t c) + counts (refusal n t c) (closes c) ≡ takenSlots t + counts (refusal n t c) (opens c)
 count-after n t c g =
-    by-verdict n t c
-    (λ v u. takenSlots u + (counts v (isEnd c) + counts v (isFinish c)) ≡ takenSlots t + counts v (isBegin c))
+    by-verdict n t c (λ v u. takenSlots u + counts v (closes c) ≡ takenSlots t + counts v (opens c))
     (λ e. count-accepted n t c g (accepted-acceptable n t c e))
     (λ r f. omega (arith, ap (λ (l : List ℕ). length (active l)) (refused-txids n t c r f)))
 
 count-run :
     (n : ℕ) (t : Table) (cs : List Call) → Good n t →
-    takenSlots (run n t cs) + (acceptedFrom isEnd n t cs + acceptedFrom isFinish n t cs)
-    ≡ takenSlots t + acceptedFrom isBegin n t cs
+    takenSlots (run n t cs) + acceptedFrom closes n t cs ≡ takenSlots t + acceptedFrom opens n t cs
 unfolding run acceptedFrom
 count-run n t [] g = refl
 count-run n t (c ∷ cs) g = omega (arith, count-after n t c g, count-run n (after n t c) cs (good-after n t c g))
@@ -77,5 +77,5 @@ fresh-none : (n : ℕ) → takenSlots (freshTable n) ≡ 0
 unfolding freshTable
 fresh-none n = ap length (active-zeros n)
 
-pub taken-counted : (n : ℕ) (cs : List Call) → takenSlots (reached n cs) + ends n cs + finishes n cs ≡ begins n cs
+pub taken-counted : (n : ℕ) (cs : List Call) → takenSlots (reached n cs) + endsAndFinishes n cs ≡ begins n cs
 taken-counted n cs = omega (arith, count-run n (freshTable n) cs (good-fresh n), fresh-none n)

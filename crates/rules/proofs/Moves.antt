@@ -3,12 +3,16 @@ use Prim.Native.Nat.{ℕ, _≤_, _<_}
 use mathlib.Core.Path.{_≡_, sym, _∙_}
 use mathlib.Core.Logic.{_≢_}
 use native.Mathlib.Omega.{arith}
-use lib.ListN.{getD, set, length-set, length-replicate}
+use lib.ListN.{length, getD, set, length-set, length-replicate}
 use Rattle.rules.specs.declared.Table.{Table}
 use Rattle.rules.specs.Tables.{freshTable, txidAt, xminAt, withSlot, withXmin, withClock, observed, withLine}
 use Rattle.rules.specs.Facts.{SlotGood, empty, taken, Good}
 use Rattle.rules.specs.Accepted.{Observes}
 use Rattle.rules.proofs.Places.{Stored, new-here, as-before, stored, StoredBoth, both-new, both-before, stored-both, zeros-hold}
+
+-- both columns have a place for each slot
+pub equally-long : (n : ℕ) (t : Table) → Good n t → length (t .txids) ≡ length (t .«snapshot_xmins»)
+equally-long n t g = g .txid-column ∙ sym (g .xmin-column)
 
 -- a taken slot's part of the facts
 pub record Taken (clock line txid xmin : ℕ) : Type 0 where
@@ -64,8 +68,8 @@ module _ (n : ℕ) (t : Table) (g : Good n t) where
         sample-to-clock = g .sample-to-clock;
         line-from-1 = g .line-from-1;
         line-to-clock = g .line-to-clock;
-        each = λ j. each′ j (stored-both (t .txids) (t .«snapshot_xmins») i txid xmin j (g .txid-column ∙ sym (g .xmin-column)));
-        differ = λ j k h e. differ′ j k h e (stored (t .txids) i txid j) (stored (t .txids) i txid k);
+        each = λ j. each′ j (stored-both (t .txids) (t .«snapshot_xmins») i txid xmin j (equally-long n t g));
+        differ = λ j k h e. differ′ j k h e (stored 0 (t .txids) i txid j) (stored 0 (t .txids) i txid k);
       }
     where
       each′ : (j : ℕ) → StoredBoth (t .txids) (t .«snapshot_xmins») i txid xmin j →
@@ -75,7 +79,7 @@ module _ (n : ℕ) (t : Table) (g : Good n t) where
 
       differ′ : (j k : ℕ) → getD (set (t .txids) i txid) j 0 ≢ 0 →
           getD (set (t .txids) i txid) j 0 ≡ getD (set (t .txids) i txid) k 0 →
-          Stored (t .txids) i txid j → Stored (t .txids) i txid k → j ≡ k
+          Stored 0 (t .txids) i txid j → Stored 0 (t .txids) i txid k → j ≡ k
       differ′ j k h e (new-here p _ _) (new-here q _ _) = p ∙ sym q
       differ′ j k h e (new-here p _ a) (as-before _ b) = absurd (new (rw a at h) k (sym (rw (a, b) at e)))
       differ′ j k h e (as-before _ a) (new-here q _ b) = absurd (new (rw b at (rw e at h)) j (rw (a, b) at e))
@@ -91,11 +95,11 @@ module _ (n : ℕ) (t : Table) (g : Good n t) where
         sample-to-clock = g .sample-to-clock;
         line-from-1 = g .line-from-1;
         line-to-clock = g .line-to-clock;
-        each = λ j. each′ j (stored (t .«snapshot_xmins») i xmin j);
+        each = λ j. each′ j (stored 0 (t .«snapshot_xmins») i xmin j);
         differ = g .differ;
       }
     where
-      each′ : (j : ℕ) → Stored (t .«snapshot_xmins») i xmin j →
+      each′ : (j : ℕ) → Stored 0 (t .«snapshot_xmins») i xmin j →
           SlotGood (t .clock) (t .line) (txidAt t j) (getD (set (t .«snapshot_xmins») i xmin) j 0)
       each′ j (new-here p _ a) = rw (a, p) ok
       each′ j (as-before _ a) = rw a (g .each j)

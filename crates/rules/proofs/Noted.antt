@@ -1,102 +1,147 @@
 -- What one call does to the last transaction snapshot of (slot, id): takes its place, forgets it, or leaves it.
-use Prim.Native.Nat.{ℕ}
-use mathlib.Core.Path.{_≡_, refl, sym, _∙_, ap}
+use Prim.Native.Nat.{ℕ, _≤_, max}
+use mathlib.Core.Path.{_≡_, refl, sym, _∙_}
 use mathlib.Core.Logic.{_≢_}
-use mathlib.Core.Bool.{Bool, true, false, _&&_}
-use mathlib.Core.List.{List}
+use mathlib.Core.Bool.{Bool, true, false}
 use mathlib.Core.Option.{Option, none, some}
+use native.Mathlib.Omega.{arith}
 use lib.Dec.{eqb}
-use lib.ListN.{getD, set}
+use lib.ListN.{set}
 use lib.Seq.{getD-set-other}
-use borrow.Author.Tests.{eqb-true, eqb-false, eq-eqb}
+use borrow.Author.Tests.{eqb-true, eqb-false}
 use Rattle.kinds.specs.declared.SlotNo.{SlotNo}
 use Rattle.kinds.specs.declared.Txid.{Txid}
-use Rattle.kinds.proofs.Unique.{same-slot, same-txid}
+use Rattle.kinds.specs.declared.refusal.Refusal.{Refusal}
 use Rattle.kinds.specs.declared.refusal.Verdict.{Verdict}
 use Rattle.kinds.specs.declared.refusal.Verdict.the-variants.{Pass}
-use Rattle.settled.specs.declared.Snapshot.{Snapshot}
+use Rattle.kinds.specs.Refusals.{consumed}
 use Rattle.kinds.proofs.Verdicts.{refuse-not-pass}
+use Rattle.settled.specs.declared.Snapshot.{Snapshot}
 use Rattle.rules.specs.declared.Table.{Table}
 use Rattle.rules.specs.Tally.{lowestEmpty}
-use Rattle.rules.specs.Tables.{txidAt}
-use Rattle.rules.specs.Calls.{Call, begin, end, snap, own, oldest, vacuum, stamp, finish, refusal, after, afterAccepted, shown}
-use Rattle.rules.specs.History.{notedBy}
-use Rattle.rules.proofs.Places.{Stored, new-here, as-before, stored}
-use Rattle.rules.proofs.Tallies.{lowest-empty}
-use Rattle.rules.proofs.Refused.{refused-txids, by-verdict}
+use Rattle.rules.specs.Tables.{txidAt, xminAt}
+use Rattle.rules.specs.Calls.{Call, begin, end, snap, own, oldest, vacuum, stamp, finish, refusal, after, afterAccepted, spent, afterRefused, shown}
+use Rattle.rules.specs.Accepted.{Registered, Acceptable}
+use Rattle.rules.specs.Facts.{Good}
+use Rattle.rules.specs.History.{sameTransaction, ownOf, notedBy}
+use Rattle.rules.proofs.Places.{Stored, new-here, as-before, stored, StoredBoth, both-new, both-before, stored-both}
+use Rattle.rules.proofs.Tally.{lowest-empty}
+use Rattle.rules.proofs.Accepted.{accepted-acceptable}
+use Rattle.rules.proofs.Transactions.{registered-taken, same-txids, same-both, slots-differ}
+use Rattle.rules.proofs.Refused.{Refused, stays, spends}
+use Rattle.rules.proofs.Calls.{by-verdict}
+use Rattle.rules.proofs.Moves.{equally-long}
+use Rattle.rules.proofs.Facts.{oldest-taken}
 
--- the call is a transaction snapshot of (slot, id)
-abbrev pub is-own-of : SlotNo → Txid → Call → Bool
-is-own-of slot id (begin number) = false
-is-own-of slot id (end slot′ id′) = false
-is-own-of slot id (snap clock sample) = false
-is-own-of slot id (own slot′ id′ clock sample) = eqb (slot′ .0) (slot .0) && eqb (id′ .0) (id .0)
-is-own-of slot id (oldest clock sample) = false
-is-own-of slot id (vacuum clock sample) = false
-is-own-of slot id (stamp number) = false
-is-own-of slot id (finish slot′ id′ number) = false
+-- what a call that neither begins in the slot nor takes (slot, id)'s snapshot leaves: who is registered after it was so
+-- before it, with the same snapshot_xmin, and the line rose to that at most
+pub record Left (n : ℕ) (t : Table) (slot : SlotNo) (id : Txid) (u : Table) : Type 0 where
+  pub was : Registered u slot id → Registered t slot id
+  pub same-xmin : Good n t → Registered u slot id → xminAt u (slot .0) ≡ xminAt t (slot .0)
+  pub line-below : Good n t → Registered u slot id → u .line ≤ max (t .line) (xminAt t (slot .0))
 
-pub own-is-own : (slot : SlotNo) (id : Txid) (clock sample : ℕ) → is-own-of slot id (own slot id clock sample) ≡ true
-own-is-own slot id clock sample = rw (eq-eqb (slot .0) (slot .0) refl, eq-eqb (id .0) (id .0) refl)
-
--- what one call does to the last snapshot of (slot, id)
 pub data Noted
     (n : ℕ) (t : Table) (slot : SlotNo) (id : Txid) (c : Call) (last : Option Snapshot) (v : Verdict) (u : Table)
     : Type 0 where
   now-taken :
-      (clock sample : ℕ) → c ≡ own slot id clock sample → v ≡ Pass →
+      (clock sample : ℕ) → c ≡ own slot id clock sample → v ≡ Pass → u ≡ afterAccepted t c →
       notedBy v n slot id t c last ≡ some (shown n t c) → Noted n t slot id c last v u
   now-forgotten : txidAt t (slot .0) ≡ 0 → notedBy v n slot id t c last ≡ none → Noted n t slot id c last v u
   not-moved :
-      notedBy v n slot id t c last ≡ last → (txidAt u (slot .0) ≡ id .0 → txidAt t (slot .0) ≡ id .0) →
-      (v ≡ Pass → is-own-of slot id c ≡ false) → Noted n t slot id c last v u
+      notedBy v n slot id t c last ≡ last → (v ≡ Pass → ownOf slot id c ≡ false) → Left n t slot id u →
+      Noted n t slot id c last v u
 
--- emptying a slot registers nobody
-emptied-from :
-    (txids : List ℕ) (i j x : ℕ) → x ≢ 0 → getD (set txids i 0) j 0 ≡ x → getD txids j 0 ≡ x
-emptied-from txids i j x h e = go (stored txids i 0 j)
-  where
-    go : Stored txids i 0 j → getD txids j 0 ≡ x
-    go (new-here p l q) = absurd (h (sym e ∙ q))
-    go (as-before d q) = sym q ∙ e
+module _ (n : ℕ) (t : Table) (slot : SlotNo) (id : Txid) where
+  -- the slot is the same, and so is the line
+  left-same :
+      (u : Table) → txidAt u (slot .0) ≡ txidAt t (slot .0) → xminAt u (slot .0) ≡ xminAt t (slot .0) → u .line ≡ t .line →
+      Left n t slot id u
+  left-same u a b c =
+      record {
+        was = λ r. record { not-zero = r .not-zero; holds = sym a ∙ r .holds };
+        same-xmin = λ g r. b;
+        line-below = λ g r. omega arith;
+      }
 
-noted-accepted :
-    (n : ℕ) (t : Table) (slot : SlotNo) (id : Txid) (c : Call) (last : Option Snapshot) → id .0 ≢ 0 →
-    Noted n t slot id c last Pass (afterAccepted t c)
-unfolding afterAccepted
-noted-accepted n t slot id (begin number) last z = go (eqb entered (slot .0)) refl
-  where
-    entered : ℕ
-    entered = lowestEmpty (t .txids)
+  -- some slot is emptied
+  left-emptied :
+      (u : Table) (i : ℕ) → u .txids ≡ set (t .txids) i 0 → u .«snapshot_xmins» ≡ set (t .«snapshot_xmins») i 0 →
+      u .line ≡ t .line → Left n t slot id u
+  left-emptied u i a b c =
+      record {
+        was = λ r. before r (stored 0 (t .txids) i 0 (slot .0));
+        same-xmin = λ g r. xmin r (stored-both (t .txids) (t .«snapshot_xmins») i 0 0 (slot .0) (equally-long n t g));
+        line-below = λ g r. omega arith;
+      }
+    where
+      before : Registered u slot id → Stored 0 (t .txids) i 0 (slot .0) → Registered t slot id
+      before r (new-here p l q) = absurd (registered-taken u slot id r (rw a q))
+      before r (as-before d q) = record { not-zero = r .not-zero; holds = sym q ∙ rw a at (r .holds) }
 
-    go : (b : Bool) → eqb entered (slot .0) ≡ b →
-        Noted n t slot id (begin number) last Pass (afterAccepted t (begin number))
-    go true e = now-forgotten (rw (← eqb-true entered (slot .0) e) (lowest-empty (t .txids))) (rw e)
-    go false e =
-        let d : slot .0 ≢ entered = λ q. eqb-false entered (slot .0) e (sym q) in
-        let same-id = getD-set-other (t .txids) entered (slot .0) (number .0) 0 d in
-        not-moved (rw e) (λ h. sym same-id ∙ h) (λ p. refl)
-noted-accepted n t slot id (end slot′ id′) last z =
-    not-moved refl (λ h. emptied-from (t .txids) (slot′ .0) (slot .0) (id .0) z h) (λ p. refl)
-noted-accepted n t slot id (snap clock sample) last z = not-moved refl (λ h. h) (λ p. refl)
-noted-accepted n t slot id (own slot′ id′ clock sample) last z = go (eqb (slot′ .0) (slot .0)) refl (eqb (id′ .0) (id .0)) refl
-  where
-    go : (b : Bool) → eqb (slot′ .0) (slot .0) ≡ b → (d : Bool) → eqb (id′ .0) (id .0) ≡ d →
-        Noted n t slot id (own slot′ id′ clock sample) last Pass (afterAccepted t (own slot′ id′ clock sample))
-    go true p true q =
-        now-taken clock sample (rw (same-slot slot′ slot (eqb-true _ _ p), same-txid id′ id (eqb-true _ _ q))) refl (rw (p, q))
-    go true p false q = not-moved (rw (p, q)) (λ h. h) (λ r. rw (p, q))
-    go false p d q = not-moved (rw p) (λ h. h) (λ r. rw p)
-noted-accepted n t slot id (oldest clock sample) last z = not-moved refl (λ h. h) (λ p. refl)
-noted-accepted n t slot id (vacuum clock sample) last z = not-moved refl (λ h. h) (λ p. refl)
-noted-accepted n t slot id (stamp number) last z = not-moved refl (λ h. h) (λ p. refl)
-noted-accepted n t slot id (finish slot′ id′ number) last z =
-    not-moved refl (λ h. emptied-from (t .txids) (slot′ .0) (slot .0) (id .0) z h) (λ p. refl)
+      xmin :
+          Registered u slot id → StoredBoth (t .txids) (t .«snapshot_xmins») i 0 0 (slot .0) →
+          xminAt u (slot .0) ≡ xminAt t (slot .0)
+      xmin r (both-new p h q w) = absurd (registered-taken u slot id r (rw a q))
+      xmin r (both-before d q w) = rw b w
 
-pub noted :
-    (n : ℕ) (t : Table) (slot : SlotNo) (id : Txid) (c : Call) (last : Option Snapshot) → id .0 ≢ 0 →
-    Noted n t slot id c last (refusal n t c) (after n t c)
-noted n t slot id c last z =
-    by-verdict n t c (Noted n t slot id c last) (λ e. noted-accepted n t slot id c last z)
-    (λ r f. not-moved refl (λ h. sym (ap (λ (l : List ℕ). getD l (slot .0) 0) (refused-txids n t c r f)) ∙ h)
-    (λ p. absurd (refuse-not-pass r p)))
+  noted-accepted :
+      (c : Call) (last : Option Snapshot) → Acceptable n t c → Noted n t slot id c last Pass (afterAccepted t c)
+  unfolding afterAccepted
+  noted-accepted (begin number) last p = go (eqb entered (slot .0)) refl
+    where
+      entered : ℕ
+      entered = lowestEmpty (t .txids)
+
+      go :
+          (b : Bool) → eqb entered (slot .0) ≡ b →
+          Noted n t slot id (begin number) last Pass (afterAccepted t (begin number))
+      go true e = now-forgotten (rw (← eqb-true entered (slot .0) e) (lowest-empty (t .txids))) (rw e)
+      go false e =
+          let d : slot .0 ≢ entered = λ q. eqb-false entered (slot .0) e (sym q) in
+          not-moved (rw e) (λ q. refl)
+          (left-same _ (getD-set-other (t .txids) entered (slot .0) (number .0) 0 d)
+          (getD-set-other (t .«snapshot_xmins») entered (slot .0) (number .0) 0 d) refl)
+  noted-accepted (end slot′ id′) last p = not-moved refl (λ q. refl) (left-emptied _ (slot′ .0) refl refl refl)
+  noted-accepted (snap clock sample) last p = not-moved refl (λ q. refl) (left-same _ refl refl refl)
+  noted-accepted (own slot′ id′ clock sample) last (o, v) = go (sameTransaction slot id slot′ id′) refl
+    where
+      u : Table
+      u = afterAccepted t (own slot′ id′ clock sample)
+
+      go : (b : Bool) → sameTransaction slot id slot′ id′ ≡ b → Noted n t slot id (own slot′ id′ clock sample) last Pass u
+      go true e =
+          let (p, q) = same-both slot id slot′ id′ e in
+          now-taken clock sample (rw (p, q)) refl refl (rw e)
+      go false e =
+          not-moved (rw e) (λ q. e)
+          (record {
+            was = same-txids u t slot id refl;
+            same-xmin = λ g r.
+                getD-set-other (t .«snapshot_xmins») (slot′ .0) (slot .0) _ 0
+                (slots-differ slot id slot′ id′ t (same-txids u t slot id refl r) (o .registered) e);
+            line-below = λ g r. omega arith;
+          })
+  noted-accepted (oldest clock sample) last p = not-moved refl (λ q. refl) (left-same _ refl refl refl)
+  noted-accepted (vacuum clock sample) last p =
+      not-moved refl (λ q. refl)
+      (record {
+        was = same-txids u t slot id refl;
+        same-xmin = λ g r. refl;
+        line-below = λ g r.
+            omega (arith, oldest-taken n t sample (slot .0) g (registered-taken t slot id (same-txids u t slot id refl r)));
+      })
+    where
+      u : Table
+      u = afterAccepted t (vacuum clock sample)
+  noted-accepted (stamp number) last p = not-moved refl (λ q. refl) (left-same _ refl refl refl)
+  noted-accepted (finish slot′ id′ number) last p = not-moved refl (λ q. refl) (left-emptied _ (slot′ .0) refl refl refl)
+
+  pub noted : (c : Call) (last : Option Snapshot) → Noted n t slot id c last (refusal n t c) (after n t c)
+  unfolding consumed spent afterRefused
+  noted c last =
+      by-verdict n t c (Noted n t slot id c last) (λ e. noted-accepted c last (accepted-acceptable n t c e))
+      (λ r f. not-moved refl (λ p. absurd (refuse-not-pass r p)) (left r f))
+    where
+      left : (r : Refusal) → Refused n t c r → Left n t slot id (afterRefused t r)
+      left r (stays p) = rw p (left-same t refl refl refl)
+      left r (spends number p q h f) = rw q (left-same _ refl refl refl)

@@ -1,4 +1,4 @@
--- Demand 3: the promise holds, for every number of slots.
+-- The promise holds, for every number of slots.
 use Prim.Native.Nat.{ℕ, _≤_, _<_}
 use mathlib.Core.Path.{_≡_, sym, _∙_, ap}
 use mathlib.Core.Logic.{_↔_}
@@ -11,6 +11,7 @@ use lib.Seq.{append-snoc}
 use borrow.Author.Tests.{le-ltb, ne-eqb}
 use Rattle.kinds.specs.declared.SlotNo.{SlotNo}
 use Rattle.kinds.specs.declared.Txid.{Txid}
+use Rattle.kinds.specs.Kinds.{txid}
 use Rattle.kinds.specs.Refusals.{accepted}
 use Rattle.kinds.specs.declared.refusal.Verdict.{Verdict}
 use Rattle.settled.specs.declared.Snapshot.{Snapshot}
@@ -18,12 +19,15 @@ use Rattle.settled.specs.Settled.{settledTest}
 use Rattle.rules.specs.declared.Table.{Table}
 use Rattle.rules.specs.Tables.{freshTable}
 use Rattle.rules.specs.Calls.{Call, own, vacuum, afterAccepted, after, answerAccepted, answerBy, answer, shown}
-use Rattle.rules.specs.Accepted.{Owns}
-use Rattle.rules.specs.History.{run, reached, Accepts, Registered, lastFrom, lastOwn, IsLast}
+use Rattle.rules.specs.Accepted.{Registered, Owns}
+use Rattle.rules.specs.History.{run, reached, Accepts, lastFrom, lastOwn, IsLast}
 use Rattle.rules.specs.Promise.{SettledBelow, lineAfter, Covered, of-transaction, Promise, vacuumAnswer, VacuumPromise}
-use Rattle.rules.proofs.Tests.{accepted-acceptable}
+use Rattle.rules.proofs.Accepted.{accepted-acceptable}
+use Rattle.rules.proofs.Transactions.{registered-taken}
 use Rattle.rules.proofs.Moves.{is-taken}
-use Rattle.rules.proofs.Steps.{after-accepted, good-reached, run-append, run-snoc}
+use Rattle.rules.proofs.Calls.{after-accepted}
+use Rattle.rules.proofs.Facts.{good-reached}
+use Rattle.rules.proofs.History.{run-append, run-snoc}
 use Rattle.rules.proofs.Rising.{line-after, line-never-falls}
 use Rattle.rules.proofs.Last.{last-append, last-own, walk-words, words-walk, words-registered}
 use Rattle.rules.proofs.Retention.{last-keeps}
@@ -42,7 +46,7 @@ covered-in-words n cs s = (to, from)
         of-transaction slot id (words-registered n (freshTable n) slot id cs s w) (words-walk n (freshTable n) slot id cs s w)
 
 pub covered-settled : (n : ℕ) (cs : List Call) (s : Snapshot) → Covered n cs s → SettledBelow (lineAfter n cs) s
-covered-settled n cs s (of-transaction slot id r e) x h l = last-keeps n cs slot id s e .settles (r .holds) x l
+covered-settled n cs s (of-transaction slot id r e) x h l = last-keeps n cs slot id s e .settles r x l
 
 pub covered-count : (n : ℕ) (cs : List Call) (s : Snapshot) → Covered n cs s → s .count ≤ n
 covered-count n cs s (of-transaction slot id r e) = last-keeps n cs slot id s e .few
@@ -54,7 +58,8 @@ pub own-covered :
     Covered n (cs ++ own slot id clock sample ∷ []) (shown n (reached n cs) (own slot id clock sample))
 unfolding run lastFrom afterAccepted
 own-covered n cs slot id clock sample e =
-    of-transaction slot id (record { named = o .named; holds = rw (run-append, after-accepted, e) (o .holds) })
+    of-transaction slot id
+    (record { not-zero = o .registered .not-zero; holds = rw (run-append, after-accepted, e) (o .registered .holds) })
     (last-append n slot id (freshTable n) cs (own slot id clock sample ∷ []) none
     ∙ last-own n slot id (reached n cs) clock sample (lastOwn n slot id cs) e)
   where
@@ -84,13 +89,13 @@ pub registered-from-line :
     (n : ℕ) (before after : List Call) (slot : SlotNo) (id : Txid) → Registered (reached n (before ++ after)) slot id →
     lineAfter n before ≤ id .0
 registered-from-line n before after slot id r =
-    let k = is-taken (good-reached n (before ++ after) .each (slot .0)) (λ z. r .named (sym (r .holds) ∙ z)) in
+    let k = is-taken (good-reached n (before ++ after) .each (slot .0)) (registered-taken _ slot id r) in
     omega (arith, line-never-falls n before after, r .holds)
 
 -- the settled test itself answers yes
 pub covered-test-yes :
     (n : ℕ) (cs : List Call) (s : Snapshot) (x : ℕ) → Covered n cs s → 1 ≤ x → x < lineAfter n cs →
-    settledTest n (s .xmax) (s .ids) (s .count) (record { 0 = x }) ≡ record { tells = accepted; settled = true }
+    settledTest n (s .xmax) (s .ids) (s .count) (txid x) ≡ record { tells = accepted; settled = true }
 unfolding settledTest
 covered-test-yes n cs s x c h l =
     rw (le-ltb n (s .count) (covered-count n cs s c), ne-eqb x 0 (λ z. omega arith), covered-settled n cs s c x h l)
@@ -124,7 +129,8 @@ vacuum-promise n =
       is-line = vacuum-is-line n;
       never-falls = λ before after clock sample clock′ sample′ e e′.
           le-trans (vacuum-from-then n before after clock sample e)
-          (rw (vacuum-line n _ clock′ sample′ e′) (line-after n (reached n (before ++ vacuum clock sample ∷ after)) (vacuum clock′ sample′)));
+          (rw (vacuum-line n _ clock′ sample′ e′)
+          (line-after n (reached n (before ++ vacuum clock sample ∷ after)) (vacuum clock′ sample′)));
       held = λ cs clock sample e s c. rw (vacuum-is-line n cs clock sample e) (covered-settled n (cs ++ vacuum clock sample ∷ []) s c);
       later = λ before after clock sample e slot id clock′ sample′ a x h l.
           own-settled n (before ++ vacuum clock sample ∷ after) slot id clock′ sample′ a x h

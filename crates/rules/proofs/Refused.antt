@@ -20,10 +20,9 @@ use Rattle.kinds.proofs.Verdicts.{refuse-not-pass, same-refusal}
 use Rattle.rules.specs.declared.Table.{Table}
 use Rattle.rules.specs.Tally.{lowestEmpty}
 use Rattle.rules.specs.Tests.{slotTest, holderTest, ownerTest, reservationTest, fullTest, observationTest}
-use Rattle.rules.specs.Calls.{Call, begin, end, snap, own, oldest, vacuum, stamp, finish, refusal, afterAccepted, spent, afterRefused, afterBy, after}
+use Rattle.rules.specs.Calls.{Call, begin, end, snap, own, oldest, vacuum, stamp, finish, refusal, spent, afterRefused}
 use Rattle.rules.specs.Accepted.{Reserves}
-use Rattle.rules.specs.History.{Accepts}
-use Rattle.rules.specs.Counts.{isBegin}
+use Rattle.rules.specs.Counts.{opens}
 use Rattle.rules.proofs.Tests.{reserves}
 
 -- a refused call consumes nothing; or it is a begin on a full table, which consumes its number
@@ -104,27 +103,16 @@ refused n t (finish slot id number) r e =
 
 -- every refusal but a begin's leaves the table
 pub refused-kept :
-    (n : ℕ) (t : Table) (c : Call) (r : Refusal) → isBegin c ≡ false → refusal n t c ≡ Refuse r → afterRefused t r ≡ t
+    (n : ℕ) (t : Table) (c : Call) (r : Refusal) → opens c ≡ false → refusal n t c ≡ Refuse r → afterRefused t r ≡ t
 unfolding spent afterRefused
 refused-kept n t c r b e = go (refused n t c r e)
   where
     go : Refused n t c r → afterRefused t r ≡ t
     go (stays h) = rw h
-    go (spends number q _ _ _) = absurd (false≢true (sym b ∙ ap isBegin q))
+    go (spends number q _ _ _) = absurd (false≢true (sym b ∙ ap opens q))
 
 -- no refusal moves a slot
 pub refused-txids : (n : ℕ) (t : Table) (c : Call) (r : Refusal) → Refused n t c r → afterRefused t r .txids ≡ t .txids
 unfolding consumed spent afterRefused
 refused-txids n t c r (stays p) = rw p
 refused-txids n t c r (spends number p q h f) = rw q
-
--- a fact of a verdict and the table after it, from the accepted call and from the refused one
-pub by-verdict :
-    (n : ℕ) (t : Table) (c : Call) (P : Verdict → Table → Type 0) → (Accepts n t c → P Pass (afterAccepted t c)) →
-    ((r : Refusal) → Refused n t c r → P (Refuse r) (afterRefused t r)) → P (refusal n t c) (after n t c)
-unfolding after
-by-verdict n t c P a b = go (refusal n t c) refl
-  where
-    go : (v : Verdict) → refusal n t c ≡ v → P v (afterBy v t c)
-    go Pass e = a e
-    go (Refuse r) e = b r (refused n t c r e)

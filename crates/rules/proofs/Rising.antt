@@ -1,16 +1,14 @@
--- Neither the line nor the clock ever falls.
+-- The line never falls.
 use Prim.Native.Nat.{ℕ, _≤_}
 use mathlib.Core.List.{List, [], _∷_, _++_}
 use native.Mathlib.Nat.{le-refl, le-trans}
 use native.Mathlib.Omega.{arith}
 use Rattle.rules.specs.declared.Table.{Table}
 use Rattle.rules.specs.Calls.{Call, begin, end, snap, own, oldest, vacuum, stamp, finish, afterAccepted, after}
-use Rattle.rules.specs.Accepted.{Acceptable}
 use Rattle.rules.specs.History.{run, reached}
-use Rattle.rules.proofs.Tests.{accepted-acceptable}
-use Rattle.rules.proofs.Steps.{after-cases, run-append}
+use Rattle.rules.proofs.Calls.{after-cases}
+use Rattle.rules.proofs.History.{run-append}
 
--- the line
 line-accepted : (t : Table) (c : Call) → t .line ≤ afterAccepted t c .line
 unfolding afterAccepted
 line-accepted t (begin number) = le-refl _
@@ -31,30 +29,5 @@ unfolding run
 line-run n t [] = le-refl _
 line-run n t (c ∷ cs) = le-trans (line-after n t c) (line-run n (after n t c) cs)
 
--- the clock
-clock-accepted : (n : ℕ) (t : Table) (c : Call) → Acceptable n t c → t .clock ≤ afterAccepted t c .clock
-unfolding afterAccepted
-clock-accepted n t (begin number) (r, f) = omega arith
-clock-accepted n t (end slot id) o = le-refl _
-clock-accepted n t (snap clock sample) o = o .onward
-clock-accepted n t (own slot id clock sample) (o, v) = v .onward
-clock-accepted n t (oldest clock sample) o = o .onward
-clock-accepted n t (vacuum clock sample) o = o .onward
-clock-accepted n t (stamp number) r = omega arith
-clock-accepted n t (finish slot id number) (o, r) = omega arith
-
-pub clock-after : (n : ℕ) (t : Table) (c : Call) → t .clock ≤ after n t c .clock
-clock-after n t c =
-    after-cases n t c (λ u. t .clock ≤ u .clock) (λ e. clock-accepted n t c (accepted-acceptable n t c e)) (le-refl _)
-    (λ clock h. omega arith)
-
-pub clock-run : (n : ℕ) (t : Table) (cs : List Call) → t .clock ≤ run n t cs .clock
-unfolding run
-clock-run n t [] = le-refl _
-clock-run n t (c ∷ cs) = le-trans (clock-after n t c) (clock-run n (after n t c) cs)
-
 pub line-never-falls : (n : ℕ) (before later : List Call) → reached n before .line ≤ reached n (before ++ later) .line
 line-never-falls n before later = rw run-append (line-run n (reached n before) later)
-
-pub clock-never-falls : (n : ℕ) (before later : List Call) → reached n before .clock ≤ reached n (before ++ later) .clock
-clock-never-falls n before later = rw run-append (clock-run n (reached n before) later)

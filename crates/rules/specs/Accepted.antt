@@ -6,15 +6,24 @@ use Rattle.kinds.specs.declared.SlotNo.{SlotNo}
 use Rattle.kinds.specs.declared.Txid.{Txid}
 use Rattle.kinds.specs.Kinds.{top}
 use Rattle.rules.specs.declared.Table.{Table}
-use Rattle.rules.specs.Tally.{lowestEmpty}
 use Rattle.rules.specs.Tables.{txidAt}
 use Rattle.rules.specs.Calls.{Call, begin, end, snap, own, oldest, vacuum, stamp, finish}
 
--- a registration that holds its slot
+-- the transaction (slot, id) is registered: the slot holds that txid
+pub record Registered (t : Table) (slot : SlotNo) (id : Txid) : Type 0 where
+  pub not-zero : id .0 ≢ 0
+  pub holds : txidAt t (slot .0) ≡ id .0
+
+-- a registered transaction whose slot the table has
 pub record Owns (n : ℕ) (t : Table) (slot : SlotNo) (id : Txid) : Type 0 where
   pub inside : slot .0 < n
-  pub named : id .0 ≢ 0
-  pub holds : txidAt t (slot .0) ≡ id .0
+  pub registered : Registered t slot id
+
+-- some slot is empty
+pub record Free (n : ℕ) (t : Table) : Type 0 where
+  pub slot : ℕ
+  pub inside : slot < n
+  pub empty : txidAt t slot ≡ 0
 
 -- a number that may be reserved at the clock
 pub record Reserves (clock number : ℕ) : Type 0 where
@@ -29,7 +38,7 @@ pub record Observes (former clock sample : ℕ) : Type 0 where
   pub within : sample ≤ clock
 
 abbrev pub Acceptable : ℕ → Table → Call → Type 0
-Acceptable n t (begin number) = Reserves (t .clock) (number .0) × (lowestEmpty (t .txids) < n)
+Acceptable n t (begin number) = Reserves (t .clock) (number .0) × Free n t
 Acceptable n t (end slot id) = Owns n t slot id
 Acceptable n t (snap clock sample) = Observes (t .clock) clock sample
 Acceptable n t (own slot id clock sample) = Owns n t slot id × Observes (t .clock) clock sample

@@ -1,4 +1,4 @@
--- Demand 3 of the request: the promise to vacuum.
+-- The promise to vacuum: docs/PROMISE.md has it in words.
 use Prim.Native.Nat.{ℕ, _≤_, _<_}
 use mathlib.Core.Path.{_≡_}
 use mathlib.Core.List.{List, [], _∷_, _++_}
@@ -9,13 +9,14 @@ use Rattle.kinds.specs.declared.Txid.{Txid}
 use Rattle.settled.specs.declared.Snapshot.{Snapshot}
 use Rattle.settled.specs.Settled.{settledIn}
 use Rattle.rules.specs.Calls.{Call, own, vacuum, answer, shown}
-use Rattle.rules.specs.History.{reached, Accepts, Registered, lastOwn}
+use Rattle.rules.specs.Accepted.{Registered}
+use Rattle.rules.specs.History.{reached, Accepts, lastOwn}
 
 -- each id from 1 up to but not including the line is below xmax and not listed in flight: the settled test's own definition
 abbrev pub SettledBelow : ℕ → Snapshot → Type 0
 SettledBelow line s = (x : ℕ) → 1 ≤ x → x < line → settledIn (s .xmax) (s .ids) (s .count) x ≡ true
 
--- the line that a history has reached: what the last vacuum answered, and what every record prints
+-- the line that a history has reached: what the last accepted vacuum answered, 1 before any; what every record prints
 abbrev pub lineAfter : ℕ → List Call → ℕ
 lineAfter n cs = reached n cs .line
 

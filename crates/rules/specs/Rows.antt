@@ -4,8 +4,7 @@ use mathlib.Core.Path.{_≡_}
 use mathlib.Core.List.{List, [], _∷_}
 use lib.ListN.{replicate}
 use Rattle.kinds.specs.declared.Stamp.{Stamp}
-use Rattle.kinds.specs.declared.SlotNo.{SlotNo}
-use Rattle.kinds.specs.declared.Txid.{Txid}
+use Rattle.kinds.specs.Kinds.{number, slot, txid}
 use Rattle.rules.specs.declared.Table.{Table}
 use Rattle.rules.specs.Tables.{freshTable}
 use Rattle.rules.specs.Answers.{Answer, registered, done, snapped, oldestIs, lineIs}
@@ -32,16 +31,6 @@ seenFrom n t (c ∷ cs) =
 unfoldable pub RowsHold : ℕ → List Row → Type 0
 RowsHold n [] = Unit
 RowsHold n (r ∷ rs) = (seenFrom n (r .start) (r .calls) ≡ r .sees) × RowsHold n rs
-
--- the numbers of the rows, by their kinds
-abbrev number : ℕ → Stamp
-number k = record { 0 = k }
-
-abbrev slot : ℕ → SlotNo
-slot k = record { 0 = k }
-
-abbrev txid : ℕ → Txid
-txid k = record { 0 = k }
 
 -- ids from k on, one a slot
 abbrev from : ℕ → ℕ → List ℕ

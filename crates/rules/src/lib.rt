@@ -7,6 +7,6 @@ pub struct Table {
     pub snapshot_xmins: [u64; SLOTS],
     pub clock: u64,
     pub sampled_clock: u64,
-    // The vacuum line: tiles whose ender is below it may go.
+    // The vacuum line: versions that an id below it replaced may go.
     pub line: u64,
 }

@@ -3,13 +3,14 @@ use Prim.Native.Nat.{ℕ}
 use mathlib.Core.Path.{_≡_, refl}
 use mathlib.Core.Bool.{Bool, true, false}
 use mathlib.Core.List.{List, [], _∷_}
-use Rattle.kinds.specs.Refusals.{Told, told, bare, accepted}
+use Rattle.kinds.specs.Kinds.{txid}
+use Rattle.kinds.specs.Refusals.{told, bare, accepted}
 use Rattle.settled.specs.Settled.{listed, SettledAnswer, settledTest}
 
 -- asked of these ids one after the other, at 256 slots
 abbrev asked : ℕ → List ℕ → ℕ → List ℕ → List SettledAnswer
 asked xmax ids count [] = []
-asked xmax ids count (x ∷ xs) = settledTest 256 xmax ids count (record { 0 = x }) ∷ asked xmax ids count xs
+asked xmax ids count (x ∷ xs) = settledTest 256 xmax ids count (txid x) ∷ asked xmax ids count xs
 
 abbrev answers : List Bool → List SettledAnswer
 answers [] = []

@@ -13,7 +13,7 @@ use Rattle.rules.specs.declared.Table.{Table}
 use Rattle.rules.specs.Tally.{active, snapshotOf}
 use Rattle.rules.specs.Tests.{ownerTest, observationTest}
 use Rattle.rules.specs.Calls.{own, refusal, afterAccepted, answerAccepted, shownAccepted, shownBy, shown}
-use Rattle.rules.proofs.Tallies.{used-places}
+use Rattle.rules.proofs.Tally.{used-places}
 use Rattle.rules.proofs.Tests.{owns}
 use Rattle.changes.specs.declared.Counters.{Counters}
 use Rattle.changes.specs.Changes.{countersOf, storedAt, applied}
@@ -30,7 +30,7 @@ module _ (n : ℕ) (t : Table) (few : length (t .txids) ≤ n) (slot : SlotNo) (
 
   -- the owner's slot keeps its txid
   owner-stays : ownerTest n (t .txids) slot id ≡ Pass → set (t .txids) (slot .0) (id .0) ≡ t .txids
-  owner-stays e = rw (← owns n t slot id e .holds) (set-getD (t .txids) (slot .0) 0)
+  owner-stays e = rw (← owns n t slot id e .registered .holds) (set-getD (t .txids) (slot .0) 0)
 
   own-by-rules :
       (v : Verdict) → ownVerdict n (t .txids) (t .clock) slot id clock sample ≡ v →

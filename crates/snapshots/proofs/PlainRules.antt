@@ -10,7 +10,7 @@ use Rattle.rules.specs.declared.Table.{Table}
 use Rattle.rules.specs.Tally.{active, snapshotOf}
 use Rattle.rules.specs.Tests.{observationTest}
 use Rattle.rules.specs.Calls.{snap, refusal, afterAccepted, answerAccepted, shownAccepted, shownBy, shown}
-use Rattle.rules.proofs.Tallies.{used-places}
+use Rattle.rules.proofs.Tally.{used-places}
 use Rattle.changes.specs.declared.Counters.{Counters}
 use Rattle.changes.specs.Changes.{countersOf, storedAt, applied}
 use Rattle.changes.specs.Lent.{Lent, Decided}

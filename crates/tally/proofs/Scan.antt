@@ -1,4 +1,5 @@
--- What a scan has seen when it stands before slot i: the tallies of all the slots are those of the slots left, taken up from the present numbers.
+-- What a scan has seen when it stands before slot i.
+-- The tallies of all the slots are those of the slots left, taken up from the present numbers.
 use mathlib.Core.Path.{_≡_, refl, _∙_, sym, ap}
 use mathlib.Core.List.{List, [], _∷_, _++_}
 use Prim.Native.Nat.{ℕ, _+_, _-_, _<_, _≤_, min, max}
@@ -23,7 +24,8 @@ places-are n ids h =
     rw whole at (replicate-append-replicate (length ids) rest zero) in
     sets-eq ids (replicate n zero) 0 (omega (arith, length-replicate n zero))
     ∙ rw (zero-add (length ids), ← split)
-    (ap (λ (l : List ℕ). ids ++ l) (drop-at (replicate (length ids) zero) (replicate rest zero) (length ids) (length-replicate (length ids) zero)))
+    (ap (λ (l : List ℕ). ids ++ l)
+    (drop-at (replicate (length ids) zero) (replicate rest zero) (length ids) (length-replicate (length ids) zero)))
 
 -- start is the list of places where the scan begins
 pub record Scanned (sample : ℕ) (txids start ids : List ℕ) (count low high i : ℕ) : Type 0 where

@@ -8,6 +8,7 @@ use Rattle.kinds.specs.declared.refusal.Verdict.{Verdict}
 use Rattle.kinds.specs.declared.refusal.Verdict.the-variants.{Pass, Refuse}
 use Rattle.kinds.specs.Refusals.{consumed}
 use Rattle.rules.specs.declared.Table.{Table}
+use Rattle.rules.specs.Tables.{observed}
 use Rattle.rules.specs.Calls.{Call, begin, end, snap, own, oldest, vacuum, stamp, finish, refusal, afterAccepted, spent, afterRefused, afterBy, after}
 use Rattle.upstream.specs.States.{State, stateOf, stateAfter, historyBy, Shaped, Foreseen}
 use Rattle.upstream.specs.Relations.{WellFormed, Sound}
@@ -27,7 +28,7 @@ unfolding consumed spent afterRefused
 unforeseen Pass t history c = inl tt
 unforeseen (Refuse (NoFreeSlot txid)) t history c = inl tt
 unforeseen (Refuse (InvalidSlot i)) t history c = inl tt
-unforeseen (Refuse (SlotOwnershipMismatch i expected found)) t history c = inl tt
+unforeseen (Refuse (SlotOwnershipMismatch i expected observed)) t history c = inl tt
 unforeseen (Refuse ZeroTxid) t history c = inr refl
 unforeseen (Refuse ClockExhausted) t history c = inr refl
 unforeseen (Refuse BadReservation) t history c = inr refl
@@ -40,27 +41,20 @@ module _ (n : ℕ) (t : Table) (history : List ℕ) (s : Shaped n t) (w : WellFo
   sound : Sound n t
   sound = record { shape = s; table = w .table }
 
-  -- snap and vacuum, as far as upstream's state shows them
+  -- snap and vacuum: upstream's state shows of both no more than the observation
   observation-keeps :
-      (c m : ℕ) (v : Verdict) → Observing (t .clock) c m v →
-      WellFormed n (stateOf (afterBy v t (snap c m)) (historyBy v history (snap c m)))
-  unfolding afterAccepted
-  observation-keeps c m v (seen f) = well-observed n t history w c m f
-
-  vacuum-keeps :
-      (c m : ℕ) (v : Verdict) → Observing (t .clock) c m v →
-      WellFormed n (stateOf (afterBy v t (vacuum c m)) (historyBy v history (vacuum c m)))
-  unfolding afterAccepted
-  vacuum-keeps c m v (seen f) = well-observed n t history w c m f
+      (c m : ℕ) (call : Call) → stateOf (afterAccepted t call) (historyBy Pass history call) ≡ stateOf (observed c m t) history →
+      (v : Verdict) → Observing (t .clock) c m v → WellFormed n (stateOf (afterBy v t call) (historyBy v history call))
+  observation-keeps c m call e v (seen f) = rw e (well-observed n t history w c m f)
 
   foreseen-keeps : (c : Call) → Foreseen (refusal n t c) → WellFormed n (stateAfter n t history c)
-  unfolding refusal after
+  unfolding refusal afterAccepted after
   foreseen-keeps (begin k) f = begin-meets n t history k sound f .l-begin-e1 (w .history)
   foreseen-keeps (end i id) f = end-meets n t history i id sound f .l-end-e1 (w .history)
-  foreseen-keeps (snap c m) f = observation-keeps c m (refusal n t (snap c m)) (observing (t .clock) c m f)
+  foreseen-keeps (snap c m) f = observation-keeps c m (snap c m) refl (refusal n t (snap c m)) (observing (t .clock) c m f)
   foreseen-keeps (own i id c m) f = own-keeps n t history sound i id c m f (w .history)
   foreseen-keeps (oldest c m) f = oldest-meets n t history c m sound f .l-oldest-e1 (w .history)
-  foreseen-keeps (vacuum c m) f = vacuum-keeps c m (refusal n t (vacuum c m)) (observing (t .clock) c m f)
+  foreseen-keeps (vacuum c m) f = observation-keeps c m (vacuum c m) refl (refusal n t (vacuum c m)) (observing (t .clock) c m f)
   foreseen-keeps (stamp k) f = stamp-meets n t history sound k f .l-stamp-e1 (w .history)
   foreseen-keeps (finish i id k) f = finish-meets n t history sound i id k f .l-finish-e1 (w .history)
 

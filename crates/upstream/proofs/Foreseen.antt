@@ -2,6 +2,7 @@
 use Prim.Native.Nat.{ℕ, _<_}
 use mathlib.Core.Path.{_≡_}
 use mathlib.Core.Bool.{Bool, true, false, cond}
+use mathlib.Core.List.{List}
 use native.Mathlib.Omega.{arith}
 use lib.Dec.{eqb, leb}
 use lib.ListN.{getD}
@@ -14,27 +15,37 @@ use Rattle.kinds.specs.declared.refusal.Refusal.the-variants.{NoFreeSlot, Inval
 use Rattle.kinds.specs.declared.refusal.Verdict.{Verdict}
 use Rattle.kinds.specs.declared.refusal.Verdict.the-variants.{Pass, Refuse}
 use Rattle.kinds.specs.Verdicts.{then, zeroTest}
+use Rattle.kinds.proofs.Verdicts.{then-last}
 use Rattle.rules.specs.declared.Table.{Table}
 use Rattle.rules.specs.Tally.{lowestEmpty}
-use Rattle.rules.specs.Tests.{ownerTest, reservationTest, fullTest, observationTest}
+use Rattle.rules.specs.Tests.{ownerTest, fullTest}
 use Rattle.rules.specs.Accepted.{Reserves, Observes}
 use Rattle.rules.specs.Calls.{begin, end, snap, own, oldest, stamp, finish, refusal}
-use Rattle.rules.proofs.Tests.{acceptable-accepted}
-use Rattle.upstream.specs.States.{Foreseen}
+use Rattle.rules.proofs.Tests.{reservation-passes, observation-passes}
+use Rattle.upstream.specs.States.{State, stateOf, Foreseen}
+use Rattle.upstream.specs.Relations.{Sound, Observation, Reservation}
 use Rattle.upstream.proofs.Runs.{mismatch}
 
 pub positive-passes : (id : Txid) → 0 < id .0 → zeroTest id ≡ Pass
 positive-passes id h = rw (ne-eqb (id .0) 0 (λ z. omega arith))
 
 module _ (n : ℕ) (t : Table) where
-  -- what the trait promised of a number, and of a clock with its sample, is what our tests ask for
-  pub number-passes : (k : Stamp) → Reserves (t .clock) (k .0) → reservationTest (t .clock) k ≡ Pass
-  unfolding refusal
-  number-passes k r = acceptable-accepted n t (stamp k) r
+  -- the trait's `reservation` and `observation` give what our tests ask for; upstream's number is not 0 because no clock is
+  pub reservation-reserves :
+      (history : List ℕ) (new : State) (k : Stamp) → Sound n t → Reservation (stateOf t history) new (k .0) →
+      Reserves (t .clock) (k .0)
+  reservation-reserves history new k y r =
+      record {
+        positive = omega (arith, y .table .sample-positive, y .table .sample-within, r .from-clock);
+        from-clock = r .from-clock;
+        below-top = r .below-top;
+      }
 
-  pub sample-passes : (c m : ℕ) → Observes (t .clock) c m → observationTest (t .clock) c m ≡ Pass
-  unfolding refusal
-  sample-passes c m o = acceptable-accepted n t (snap c m) o
+  pub observation-observes :
+      (history : List ℕ) (new : State) → Observation (stateOf t history) new →
+      Observes (t .clock) (new .clock) (new .«sampled_clock»)
+  observation-observes history new o =
+      record { onward = o .clock; positive = o .sample-positive; within = o .sample-within }
 
   full-foreseen : (k : Stamp) → Foreseen (fullTest n (t .txids) k)
   full-foreseen k = go (leb n (lowestEmpty (t .txids)))
@@ -57,38 +68,31 @@ module _ (n : ℕ) (t : Table) where
 
   pub begin-foreseen : (k : Stamp) → Reserves (t .clock) (k .0) → Foreseen (refusal n t (begin k))
   unfolding refusal
-  begin-foreseen k f = rw (number-passes k f) (full-foreseen k)
+  begin-foreseen k f = rw (reservation-passes (t .clock) k f) (full-foreseen k)
+
+  pub end-foreseen : (i : SlotNo) (id : Txid) → 0 < id .0 → Foreseen (refusal n t (end i id))
+  unfolding refusal
+  end-foreseen i id h = rw (← then-last (ownerTest n (t .txids) i id)) (owner-foreseen i id Pass h tt)
 
   pub snap-foreseen : (c m : ℕ) → Observes (t .clock) c m → Foreseen (refusal n t (snap c m))
   unfolding refusal
-  snap-foreseen c m f = rw (sample-passes c m f) tt
-
-  pub oldest-foreseen : (c m : ℕ) → Observes (t .clock) c m → Foreseen (refusal n t (oldest c m))
-  unfolding refusal
-  oldest-foreseen c m f = rw (sample-passes c m f) tt
+  snap-foreseen c m f = rw (observation-passes (t .clock) c m f) tt
 
   pub own-foreseen :
       (i : SlotNo) (id : Txid) (c m : ℕ) → 0 < id .0 → Observes (t .clock) c m → Foreseen (refusal n t (own i id c m))
   unfolding refusal
-  own-foreseen i id c m h f = rw (sample-passes c m f) (owner-foreseen i id Pass h tt)
+  own-foreseen i id c m h f = rw (observation-passes (t .clock) c m f) (owner-foreseen i id Pass h tt)
+
+  pub oldest-foreseen : (c m : ℕ) → Observes (t .clock) c m → Foreseen (refusal n t (oldest c m))
+  unfolding refusal
+  oldest-foreseen c m f = rw (observation-passes (t .clock) c m f) tt
 
   pub stamp-foreseen : (k : Stamp) → Reserves (t .clock) (k .0) → Foreseen (refusal n t (stamp k))
   unfolding refusal
-  stamp-foreseen k f = rw (number-passes k f) tt
+  stamp-foreseen k f = rw (reservation-passes (t .clock) k f) tt
 
   pub finish-foreseen :
       (i : SlotNo) (id : Txid) (k : Stamp) → 0 < id .0 → Reserves (t .clock) (k .0) →
       Foreseen (refusal n t (finish i id k))
   unfolding refusal
-  finish-foreseen i id k z f = rw (number-passes k f) (owner-foreseen i id Pass z tt)
-
-  pub end-foreseen : (i : SlotNo) (id : Txid) → 0 < id .0 → Foreseen (refusal n t (end i id))
-  unfolding refusal
-  end-foreseen i id h =
-      rw (positive-passes id h) (go (leb n (i .0)) (eqb (getD (t .txids) (i .0) 0) (id .0)))
-    where
-      go :
-          (a b : Bool) → Foreseen (then (cond a (Refuse (InvalidSlot i)) Pass) (cond b Pass (mismatch (t .txids) i id)))
-      go true b = tt
-      go false true = tt
-      go false false = tt
+  finish-foreseen i id k z f = rw (reservation-passes (t .clock) k f) (owner-foreseen i id Pass z tt)

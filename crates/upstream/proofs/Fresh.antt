@@ -1,23 +1,22 @@
 -- Upstream's state over a list of calls from fresh: the table reached, and the numbers reserved. Its well_formed holds of every one.
-use Prim.Native.Nat.{ℕ, suc}
+use Prim.Native.Nat.{ℕ}
 use mathlib.Core.Path.{_≡_, refl, sym, ap, _∙_}
-use mathlib.Core.Logic.{_≢_, _⊎_, inl, inr}
+use mathlib.Core.Logic.{_≢_}
 use mathlib.Core.Bool.{true}
 use mathlib.Core.List.{List, [], _∷_, _++_, append-assoc, append-nil}
-use native.Mathlib.Omega.{arith}
 use lib.ListN.{replicate}
 use Rattle.settled.specs.Settled.{listed}
+use Rattle.settled.proofs.Listed.{listed-place}
 use Rattle.rules.specs.declared.Table.{Table}
 use Rattle.rules.specs.Tables.{freshTable}
 use Rattle.rules.specs.Calls.{Call, refusal, after}
-use Rattle.rules.specs.Facts.{WellFormedHistory}
 use Rattle.rules.specs.History.{reached}
 use Rattle.rules.specs.Reservations.{reservesBy, reservations}
 use Rattle.rules.proofs.Places.{zeros-hold}
-use Rattle.rules.proofs.Tallies.{listed-none, listed-cases}
-use Rattle.rules.proofs.Steps.{run-snoc, good-reached}
-use Rattle.rules.proofs.Reserved.{reservations-snoc}
-use Rattle.rules.proofs.WellFormed.{reached-well-formed}
+use Rattle.rules.proofs.History.{run-snoc}
+use Rattle.rules.proofs.Facts.{good-reached}
+use Rattle.rules.proofs.Reservations.{InOrder, reserved-in-order, order-place, order-places, reservations-snoc}
+use Rattle.rules.proofs.Taken.{taken-reserved}
 use Rattle.upstream.specs.States.{State, slot, at, pairs, push, pushes, stateOf, stateAfter}
 use Rattle.upstream.specs.Relations.{Contains, WellFormed, Sound}
 use Rattle.upstream.proofs.Pairs.{pairs-at}
@@ -46,14 +45,9 @@ state-steps n cs c =
 
 -- who is listed stands at some place
 listed-contains : (x : ℕ) (ids : List ℕ) → listed x ids ≡ true → Contains ids x
-listed-contains x [] e = absurd (listed-none x e)
-listed-contains x (y ∷ ids) e = go (listed-cases x y ids e) (listed-contains x ids)
-  where
-    go : (y ≡ x) ⊎ (listed x ids ≡ true) → (listed x ids ≡ true → Contains ids x) → Contains (y ∷ ids) x
-    go (inl p) rest = record { place = 0; inside = omega arith; there = p }
-    go (inr p) rest =
-        let c = rest p in
-        record { place = suc (c .place); inside = omega (arith, c .inside); there = c .there }
+listed-contains x ids e =
+    let (i, h, p) = listed-place x ids e in
+    record { place = i; inside = h; there = p }
 
 pub sound-from-fresh : (n : ℕ) (cs : List Call) → Sound n (reached n cs)
 sound-from-fresh n cs = from-good n (reached n cs) (good-reached n cs)
@@ -64,17 +58,18 @@ from-fresh n cs =
       table = sound-from-fresh n cs .table;
       history =
           record {
-            ordered = w .ordered;
-            positive = λ i b. w .in-range i b .0;
-            below = λ i b. w .in-range i b .1;
+            ordered = λ i j l h. order-places _ (reservations n cs) _ i j order l h;
+            positive = λ i h. order-place _ (reservations n cs) _ i order h .1;
+            below = λ i h. order-place _ (reservations n cs) _ i order h .2;
             registered = registered;
           };
     }
   where
-    w : WellFormedHistory (reached n cs) (reservations n cs)
-    w = reached-well-formed n cs
+    order : InOrder (freshTable n .clock) (reservations n cs) (reached n cs .clock)
+    order = reserved-in-order n (freshTable n) cs
 
-    registered : (i : ℕ) → at (slotsOf (reached n cs)) i .txid ≢ 0 → Contains (reservations n cs) (at (slotsOf (reached n cs)) i .txid)
+    registered :
+        (i : ℕ) → at (slotsOf (reached n cs)) i .txid ≢ 0 → Contains (reservations n cs) (at (slotsOf (reached n cs)) i .txid)
     registered i z =
         let e = txid-at n (reached n cs) i (sound-from-fresh n cs .shape) in
-        rw e (listed-contains _ (reservations n cs) (w .contains i (λ q. z (e ∙ q))))
+        rw e (listed-contains _ (reservations n cs) (taken-reserved n cs i (λ q. z (e ∙ q))))

@@ -14,8 +14,10 @@ use Rattle.kinds.specs.declared.SlotNo.{SlotNo}
 use Rattle.kinds.specs.declared.Txid.{Txid}
 use Rattle.kinds.specs.declared.refusal.Refusal.{Refusal}
 use Rattle.kinds.specs.declared.refusal.Refusal.the-variants.{NoFreeSlot}
+use Rattle.kinds.specs.Kinds.{txid}
 use Rattle.kinds.specs.Refusals.{told}
 use Rattle.kinds.specs.declared.refusal.Verdict.the-variants.{Pass, Refuse}
+use Rattle.kinds.proofs.Verdicts.{refuse-not-pass}
 use Rattle.rules.specs.declared.Table.{Table}
 use Rattle.rules.specs.Tally.{oldestOf, snapshotOf}
 use Rattle.rules.specs.Tables.{freshTable, withSlot, withClock, withLine, observed}
@@ -33,22 +35,21 @@ use Rattle.upstream.proofs.Pairs.{pairs-set}
 use Rattle.upstream.proofs.Runs.{seen}
 use Rattle.upstream.proofs.Kept.{length-push, history-push}
 use Rattle.upstream.proofs.Moves.{slotsOf, with-history, txid-at, well-observed, well-entered}
-use Rattle.upstream.proofs.Checked.{not-refused, not-passed}
 use Rattle.upstream.proofs.Snapshots.{locked-run}
 use Rattle.upstream.proofs.Oldest.{oldest-run}
 use Rattle.upstream.proofs.Publish.{above}
 use Rattle.upstream.proofs.Fresh.{fresh-at, from-fresh}
 
 abbrev none-free : ℕ → Answer
-none-free id = answerTold (told (NoFreeSlot (record { 0 = id })))
+none-free id = answerTold (told (NoFreeSlot (txid id)))
 
 -- checked_slot: a slot outside is answered by any error x
 pub wrong-kind : (n : ℕ) (slot : SlotNo) (x : Refusal) → CheckedSlot n slot (cond (leb n (slot .0)) (Refuse x) Pass)
 wrong-kind n slot x = go (leb n (slot .0)) refl
   where
     go : (b : Bool) → leb n (slot .0) ≡ b → CheckedSlot n slot (cond b (Refuse x) Pass)
-    go true e = record { l-checked-slot-e1 = λ p. not-passed _ p; l-checked-slot-e2 = λ r p. leb-true n (slot .0) e }
-    go false e = record { l-checked-slot-e1 = λ p. leb-false n (slot .0) e; l-checked-slot-e2 = λ r p. not-refused r p }
+    go true e = record { l-checked-slot-e1 = λ p. absurd (refuse-not-pass _ p); l-checked-slot-e2 = λ r p. leb-true n (slot .0) e }
+    go false e = record { l-checked-slot-e1 = λ p. leb-false n (slot .0) e; l-checked-slot-e2 = λ r p. absurd (refuse-not-pass r (sym p)) }
 
 module _ (n : ℕ) (t : Table) (history : List ℕ) (y : Sound n t) where
   -- begin: any empty slot i, the highest too, and the sample set to 1

@@ -4,26 +4,12 @@ use mathlib.Core.Path.{_≡_, refl, sym, ap, _∙_}
 use mathlib.Core.Logic.{_≢_}
 use mathlib.Core.List.{List, [], _∷_}
 use native.Mathlib.Nat.{le-trans}
-use native.Mathlib.Decide.{ℕ-discrete, decLt}
+use native.Mathlib.Decide.{decLt}
 use native.Mathlib.Omega.{arith}
 use lib.ListN.{length, getD, set, length-set, length-append, List·getD-append}
-use lib.Seq.{getD-set-same, getD-set-other, set-out}
+use Rattle.rules.proofs.Places.{Stored, new-here, as-before, stored}
 use Rattle.upstream.specs.States.{Slot, slot, at, push}
 use Rattle.upstream.specs.Relations.{Contains, TablePart, HistoryPart}
-
--- after a store at i, place j is the new slot's, or holds what it held
-pub data Stored (ss : List Slot) (i : ℕ) (a : Slot) (j : ℕ) : Type 0 where
-  here : j ≡ i → at (set ss i a) j ≡ a → Stored ss i a j
-  elsewhere : (i < length ss → j ≢ i) → at (set ss i a) j ≡ at ss j → Stored ss i a j
-
-pub stored : (ss : List Slot) (i : ℕ) (a : Slot) (j : ℕ) → Stored ss i a j
-stored ss i a j = go (ℕ-discrete j i) (decLt i (length ss))
-  where
-    go : Dec (j ≡ i) → Dec (i < length ss) → Stored ss i a j
-    go (yes e) (yes h) = here e (rw e (getD-set-same ss i a (slot 0 0) h))
-    go (yes e) (no h) =
-        elsewhere (λ h′. absurd (h h′)) (ap (λ (l : List Slot). at l j) (set-out ss i a (omega arith)))
-    go (no d) h = elsewhere (λ h′. d) (getD-set-other ss i j a (slot 0 0) d)
 
 -- what well_formed says of one slot
 pub record SlotFine (clock : ℕ) (s : Slot) : Type 0 where
@@ -75,27 +61,27 @@ table-set n ss c m i a p f d =
       xmin-positive = λ j. all j .positive;
       xmin-within = λ j. all j .within;
       txid-below = λ j. all j .below;
-      distinct = λ j k h z. apart j k h (stored ss i a j) (stored ss i a k) z;
+      distinct = λ j k h z. apart j k h (stored (slot 0 0) ss i a j) (stored (slot 0 0) ss i a k) z;
     }
   where
-    one : (j : ℕ) → Stored ss i a j → SlotFine c (at (set ss i a) j)
-    one j (here e q) = rw q f
-    one j (elsewhere e q) = rw q (fine n ss c m p j)
+    one : (j : ℕ) → Stored (slot 0 0) ss i a j → SlotFine c (at (set ss i a) j)
+    one j (new-here e _ q) = rw q f
+    one j (as-before e q) = rw q (fine n ss c m p j)
 
     all : (j : ℕ) → SlotFine c (at (set ss i a) j)
-    all j = one j (stored ss i a j)
+    all j = one j (stored (slot 0 0) ss i a j)
 
     apart :
-        (j k : ℕ) → j < k → Stored ss i a j → Stored ss i a k → at (set ss i a) j .txid ≢ 0 →
+        (j k : ℕ) → j < k → Stored (slot 0 0) ss i a j → Stored (slot 0 0) ss i a k → at (set ss i a) j .txid ≢ 0 →
         at (set ss i a) j .txid ≢ at (set ss i a) k .txid
-    apart j k h (here e q) (here e′ q′) z w = omega arith
-    apart j k h (here e q) (elsewhere e′ q′) z w =
+    apart j k h (new-here e _ q) (new-here e′ _ q′) z w = omega arith
+    apart j k h (new-here e _ q) (as-before e′ q′) z w =
         d k (λ x. omega arith) (rw q at z) (sym (ap (λ (s : Slot). s .txid) q′) ∙ sym w ∙ ap (λ (s : Slot). s .txid) q)
-    apart j k h (elsewhere e q) (here e′ q′) z w =
+    apart j k h (as-before e q) (new-here e′ _ q′) z w =
         let y = ap (λ (s : Slot). s .txid) q in
         let y′ = ap (λ (s : Slot). s .txid) q′ in
         d j (λ x. omega arith) (λ x. z (w ∙ y′ ∙ x)) (sym y ∙ w ∙ y′)
-    apart j k h (elsewhere e q) (elsewhere e′ q′) z w =
+    apart j k h (as-before e q) (as-before e′ q′) z w =
         let y = ap (λ (s : Slot). s .txid) q in
         let y′ = ap (λ (s : Slot). s .txid) q′ in
         p .distinct j k h (λ x. z (y ∙ x)) (sym y ∙ w ∙ y′)

@@ -10,10 +10,11 @@ use lib.ListN.{getD, set}
 use Rattle.rules.specs.declared.Table.{Table}
 use Rattle.rules.specs.Tables.{withSlot, withXmin, withClock, observed}
 use Rattle.rules.specs.Accepted.{Reserves, Observes}
+use Rattle.rules.proofs.Places.{Stored, new-here, as-before, stored}
 use Rattle.upstream.specs.States.{Slot, slot, at, pairs, push, stateOf, Shaped}
 use Rattle.upstream.specs.Relations.{Contains, HistoryOf, WellFormed, Sound}
 use Rattle.upstream.proofs.Pairs.{pairs-at, pairs-set, pairs-set-xmin}
-use Rattle.upstream.proofs.Kept.{Stored, here, elsewhere, stored, fine-empty, fine-taken, table-clocks, table-set, contains-old, contains-last, history-same, history-push}
+use Rattle.upstream.proofs.Kept.{fine-empty, fine-taken, table-clocks, table-set, contains-old, contains-last, history-same, history-push}
 
 -- a table's slots, as upstream has them
 abbrev pub slotsOf : Table → List Slot
@@ -69,14 +70,14 @@ module _ (n : ℕ) (t : Table) (history : List ℕ) (w : WellFormed n (stateOf t
         history =
             rw (pairs-set (t .txids) (t .«snapshot_xmins») i 0 0)
             (history-same (slotsOf t) (set (slotsOf t) i (slot 0 0)) (t .clock) (t .clock) history (w .history) (le-refl _)
-            (λ j. left j (stored (slotsOf t) i (slot 0 0) j)));
+            (λ j. left j (stored (slot 0 0) (slotsOf t) i (slot 0 0) j)));
       }
     where
       left :
-          (j : ℕ) → Stored (slotsOf t) i (slot 0 0) j → at (set (slotsOf t) i (slot 0 0)) j .txid ≢ 0 →
+          (j : ℕ) → Stored (slot 0 0) (slotsOf t) i (slot 0 0) j → at (set (slotsOf t) i (slot 0 0)) j .txid ≢ 0 →
           Contains history (at (set (slotsOf t) i (slot 0 0)) j .txid)
-      left j (here e q) z = absurd (z (ap (λ (x : Slot). x .txid) q))
-      left j (elsewhere e q) z = rw q (w .history .registered j (rw q at z))
+      left j (new-here e _ q) z = absurd (z (ap (λ (x : Slot). x .txid) q))
+      left j (as-before e q) z = rw q (w .history .registered j (rw q at z))
 
   pub well-entered :
       (i k : ℕ) → Reserves (t .clock) k → WellFormed n (stateOf (withSlot i k k (withClock (k + 1) t)) (push history k))
@@ -89,7 +90,7 @@ module _ (n : ℕ) (t : Table) (history : List ℕ) (w : WellFormed n (stateOf t
         history =
             rw (pairs-set (t .txids) (t .«snapshot_xmins») i k k)
             (history-push (slotsOf t) (set (slotsOf t) i (slot k k)) (t .clock) k history (w .history) (f .positive)
-            (f .from-clock) (λ j. had j (stored (slotsOf t) i (slot k k) j)));
+            (f .from-clock) (λ j. had j (stored (slot 0 0) (slotsOf t) i (slot k k) j)));
       }
     where
       apart : (j : ℕ) → j ≢ i → k ≢ 0 → at (slotsOf t) j .txid ≢ k
@@ -99,10 +100,10 @@ module _ (n : ℕ) (t : Table) (history : List ℕ) (w : WellFormed n (stateOf t
           omega arith
 
       had :
-          (j : ℕ) → Stored (slotsOf t) i (slot k k) j → at (set (slotsOf t) i (slot k k)) j .txid ≢ 0 →
+          (j : ℕ) → Stored (slot 0 0) (slotsOf t) i (slot k k) j → at (set (slotsOf t) i (slot k k)) j .txid ≢ 0 →
           Contains (push history k) (at (set (slotsOf t) i (slot k k)) j .txid)
-      had j (here e q) z = rw q (contains-last history k)
-      had j (elsewhere e q) z = rw q (contains-old history k _ (w .history .registered j (rw q at z)))
+      had j (new-here e _ q) z = rw q (contains-last history k)
+      had j (as-before e q) z = rw q (contains-old history k _ (w .history .registered j (rw q at z)))
 
   pub well-marked :
       (i x : ℕ) → Shaped n t → getD (t .txids) i 0 ≢ 0 → 0 < x → x ≤ getD (t .txids) i 0 →
@@ -116,7 +117,7 @@ module _ (n : ℕ) (t : Table) (history : List ℕ) (w : WellFormed n (stateOf t
         history =
             rw (pairs-set-xmin (t .txids) (t .«snapshot_xmins») i x)
             (history-same (slotsOf t) (set (slotsOf t) i (slot (getD (t .txids) i 0) x)) (t .clock) (t .clock) history
-            (w .history) (le-refl _) (λ j. had j (stored (slotsOf t) i (slot (getD (t .txids) i 0) x) j)));
+            (w .history) (le-refl _) (λ j. had j (stored (slot 0 0) (slotsOf t) i (slot (getD (t .txids) i 0) x) j)));
       }
     where
       txid-i : at (slotsOf t) i .txid ≡ getD (t .txids) i 0
@@ -129,8 +130,8 @@ module _ (n : ℕ) (t : Table) (history : List ℕ) (w : WellFormed n (stateOf t
       apart j d y e = held-once n t (record { shape = s; table = w .table }) i j d taken (e ∙ sym txid-i)
 
       had :
-          (j : ℕ) → Stored (slotsOf t) i (slot (getD (t .txids) i 0) x) j →
+          (j : ℕ) → Stored (slot 0 0) (slotsOf t) i (slot (getD (t .txids) i 0) x) j →
           at (set (slotsOf t) i (slot (getD (t .txids) i 0) x)) j .txid ≢ 0 →
           Contains history (at (set (slotsOf t) i (slot (getD (t .txids) i 0) x)) j .txid)
-      had j (here e r) y = rw (r, ← txid-i) (w .history .registered i taken)
-      had j (elsewhere e r) y = rw r (w .history .registered j (rw r at y))
+      had j (new-here e _ r) y = rw (r, ← txid-i) (w .history .registered i taken)
+      had j (as-before e r) y = rw r (w .history .registered j (rw r at y))

@@ -26,8 +26,8 @@ module _
         l-oldest-e4 = refl;
         l-oldest-e5 = f .onward;
         l-oldest-e6 =
-            sym
-            (rw (y .shape .txids-size) at (retention-same (t .txids) (t .«snapshot_xmins») m (y .shape .txids-size ∙ sym (y .shape .xmins-size))));
+            let same = retention-same (t .txids) (t .«snapshot_xmins») m (y .shape .txids-size ∙ sym (y .shape .xmins-size)) in
+            sym (rw (y .shape .txids-size) at same);
       }
 
   pub oldest-meets :

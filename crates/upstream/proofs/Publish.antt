@@ -16,12 +16,12 @@ use Rattle.rules.specs.Tables.{withClock}
 use Rattle.rules.specs.Tests.{reservationTest}
 use Rattle.rules.specs.Accepted.{Reserves}
 use Rattle.rules.specs.Calls.{stamp, finish, refusal, afterAccepted, spent, afterRefused, afterBy, after, answerAccepted, answerBy, answer}
+use Rattle.rules.proofs.Places.{Stored, new-here, as-before, stored}
 use Rattle.upstream.specs.States.{Slot, slot, at, push, stateOf, stateAfter, historyBy, Foreseen}
 use Rattle.upstream.specs.Relations.{Contains, HistoryOf, Sound}
 use Rattle.upstream.specs.Clauses.{ReservePublicationClock, DeregisterThenReserve}
 use Rattle.upstream.proofs.Pairs.{pairs-set}
 use Rattle.upstream.proofs.Runs.{Reserving, reserved, reserving, reserves-pass, Owning, outside, other, owned, owning-then}
-use Rattle.upstream.proofs.Kept.{Stored, here, elsewhere, stored}
 use Rattle.upstream.proofs.Moves.{slotsOf, with-history, txid-at, held-once, well-reserved, well-cleared}
 
 module _ (n : ℕ) (t : Table) (history : List ℕ) (y : Sound n t) where
@@ -56,14 +56,14 @@ module _ (n : ℕ) (t : Table) (history : List ℕ) (y : Sound n t) where
     gone :
         id .0 ≢ 0 → getD (t .txids) (i .0) 0 ≡ id .0 → i .0 < n → (j : ℕ) →
         at (set (slotsOf t) (i .0) (slot 0 0)) j .txid ≢ id .0
-    gone z o h j = go (stored (slotsOf t) (i .0) (slot 0 0) j)
+    gone z o h j = go (stored (slot 0 0) (slotsOf t) (i .0) (slot 0 0) j)
       where
         mine : at (slotsOf t) (i .0) .txid ≡ id .0
         mine = txid-at n t (i .0) (y .shape) ∙ o
 
-        go : Stored (slotsOf t) (i .0) (slot 0 0) j → at (set (slotsOf t) (i .0) (slot 0 0)) j .txid ≢ id .0
-        go (here e q) x = z (sym (sym (ap (λ (a : Slot). a .txid) q) ∙ x))
-        go (elsewhere e q) x =
+        go : Stored (slot 0 0) (slotsOf t) (i .0) (slot 0 0) j → at (set (slotsOf t) (i .0) (slot 0 0)) j .txid ≢ id .0
+        go (new-here e _ q) x = z (sym (sym (ap (λ (a : Slot). a .txid) q) ∙ x))
+        go (as-before e q) x =
             held-once n t y (i .0) j (e (rw (y .table .size) h)) (λ y. z (sym mine ∙ y))
             (sym (ap (λ (a : Slot). a .txid) q) ∙ x ∙ sym mine)
 

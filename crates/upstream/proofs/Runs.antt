@@ -11,10 +11,11 @@ use Rattle.kinds.specs.declared.Stamp.{Stamp}
 use Rattle.kinds.specs.declared.SlotNo.{SlotNo}
 use Rattle.kinds.specs.declared.Txid.{Txid}
 use Rattle.kinds.specs.declared.refusal.Refusal.the-variants.{NoFreeSlot, InvalidSlot, SlotOwnershipMismatch, ZeroTxid, ClockExhausted, BadReservation, BadClock, BadSample}
-use Rattle.kinds.specs.Kinds.{top, txidOf}
+use Rattle.kinds.specs.Kinds.{top, txid, txidOf}
 use Rattle.kinds.specs.declared.refusal.Verdict.{Verdict}
 use Rattle.kinds.specs.declared.refusal.Verdict.the-variants.{Pass, Refuse}
 use Rattle.kinds.specs.Verdicts.{then}
+use Rattle.kinds.proofs.Verdicts.{then-last}
 use Rattle.rules.specs.Tally.{lowestEmpty}
 use Rattle.rules.specs.Tests.{ownerTest, reservationTest, fullTest, observationTest}
 use Rattle.rules.specs.Accepted.{Reserves, Observes}
@@ -69,12 +70,8 @@ beginning n txids clock k f = go (reservationTest clock k) (reserving clock k) f
     go Pass r f = on Pass (r tt)
     go (Refuse x) r f = on (Refuse x) (r f)
 
-then-last : (v : Verdict) → then v Pass ≡ v
-then-last Pass = refl
-then-last (Refuse r) = refl
-
 abbrev pub mismatch : List ℕ → SlotNo → Txid → Verdict
-mismatch txids slot id = Refuse (SlotOwnershipMismatch slot id (record { 0 = getD txids (slot .0) 0 }))
+mismatch txids slot id = Refuse (SlotOwnershipMismatch slot id (txid (getD txids (slot .0) 0)))
 
 -- a registration: its slot is outside, or holds another txid or none, or is its own; and P, what a second test then tells
 pub data Owning (n : ℕ) (txids : List ℕ) (slot : SlotNo) (id : Txid) (P : Type 0) : Verdict → Type 0 where

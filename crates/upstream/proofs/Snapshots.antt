@@ -23,7 +23,7 @@ use Rattle.rules.specs.Tests.{observationTest}
 use Rattle.rules.specs.Calls.{snap, own, refusal, afterAccepted, spent, afterRefused, afterBy, after, answerAccepted, answerBy, answer, shownAccepted, shownBy, shown}
 use Rattle.settled.specs.declared.Snapshot.{Snapshot}
 use Rattle.rules.specs.Accepted.{Observes}
-use Rattle.rules.proofs.Tallies.{minimum-member, minimum-bound, maximum-bound, taken-active, active-taken, used-places}
+use Rattle.rules.proofs.Tally.{minimum-member, minimum-bound, maximum-bound, taken-active, active-taken, used-places}
 use Rattle.rules.proofs.BelowTop.{BelowTop}
 use Rattle.upstream.specs.States.{State, slot, at, pairs, stateOf, stateAfter, historyBy, Foreseen}
 use Rattle.upstream.specs.Relations.{HistoryOf, WellFormed, Sound, Coherent}

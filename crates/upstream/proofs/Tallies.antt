@@ -1,4 +1,5 @@
--- Upstream's tallies, which read the slots from the last one back, are ours, which read them from the first one on. Over any number of slots.
+-- Upstream's tallies, which read the slots from the last one back, are ours, which read them from the first one on.
+-- Over any number of slots.
 use Prim.Native.Nat.{ℕ, zero, suc, min, max}
 use mathlib.Core.Path.{_≡_, refl, ap, _∙_}
 use mathlib.Core.Bool.{Bool, true, false, cond}

@@ -1,30 +1,18 @@
 -- States that meet the hypotheses of the proofs beside this file, so that none of them speaks of nothing.
-use Prim.Native.Nat.{ℕ}
 use mathlib.Core.Path.{_≡_, refl}
 use mathlib.Core.Bool.{true}
 use mathlib.Core.List.{List, [], _∷_}
-use Rattle.kinds.specs.declared.Stamp.{Stamp}
-use Rattle.kinds.specs.declared.SlotNo.{SlotNo}
-use Rattle.kinds.specs.declared.Txid.{Txid}
+use Rattle.kinds.specs.Kinds.{number, slot, txid}
 use Rattle.kinds.specs.declared.refusal.Refusal.the-variants.{NoFreeSlot}
 use Rattle.kinds.specs.declared.refusal.Verdict.the-variants.{Pass, Refuse}
 use Rattle.rules.specs.declared.Table.{Table}
 use Rattle.rules.specs.Tally.{active, lowestEmpty, minimum, maximum, snapshotOf}
 use Rattle.rules.specs.Tables.{freshTable}
-use Rattle.rules.specs.Calls.{Call, begin, end, own, finish, refusal, afterAccepted, after, shownAccepted, shown}
+use Rattle.rules.specs.Calls.{Call, begin, end, snap, own, oldest, stamp, finish, refusal, afterAccepted, after, shownAccepted, shown}
 use Rattle.rules.specs.History.{run, reached}
 use Rattle.rules.specs.Reservations.{reservationsFrom, reservations}
 use Rattle.rules.specs.Check.{slotsPass, differ, passes, tablePasses}
 use Rattle.settled.specs.Settled.{listed}
-
-abbrev number : ℕ → Stamp
-number k = record { 0 = k }
-
-abbrev place : ℕ → SlotNo
-place k = record { 0 = k }
-
-abbrev txid : ℕ → Txid
-txid k = record { 0 = k }
 
 -- two slots, taken by 4 and by 7
 abbrev two-begins : List Call
@@ -34,32 +22,45 @@ abbrev both-taken : Table
 both-taken = reached 2 two-begins
 
 -- with the numbers 4, 7
-pub taken-reserved : reservations 2 two-begins ≡ 4 ∷ 7 ∷ []
+pub both-reserved : reservations 2 two-begins ≡ 4 ∷ 7 ∷ []
 unfolding reservationsFrom refusal after freshTable afterAccepted lowestEmpty
-taken-reserved = refl
+both-reserved = refl
 
 -- the check says yes of it
-pub taken-passes : tablePasses 2 both-taken ≡ true
+pub both-pass : tablePasses 2 both-taken ≡ true
 unfolding run refusal after freshTable afterAccepted lowestEmpty passes slotsPass differ listed
-taken-passes = refl
+both-pass = refl
 
--- no call of it that upstream foresees is refused by 4 to 8: a full table, owned snapshots with a sample below both ids, an end, a finish
+-- no call that upstream foresees is refused there by 4 to 8: a full table; an end, a finish and an own snapshot of who is
+-- registered; a plain snapshot, the oldest and a stamp. The sample is below both ids
 pub full-begin : refusal 2 both-taken (begin (number 9)) ≡ Refuse (NoFreeSlot (txid 9))
 unfolding run refusal after freshTable afterAccepted lowestEmpty
 full-begin = refl
 
-pub stale-own : refusal 2 both-taken (own (place 1) (txid 7) 9 3) ≡ Pass
+pub owner-end : refusal 2 both-taken (end (slot 0) (txid 4)) ≡ Pass
+unfolding run refusal after freshTable afterAccepted lowestEmpty
+owner-end = refl
+
+pub owner-finish : refusal 2 both-taken (finish (slot 0) (txid 4) (number 9)) ≡ Pass
+unfolding run refusal after freshTable afterAccepted lowestEmpty
+owner-finish = refl
+
+pub stale-own : refusal 2 both-taken (own (slot 1) (txid 7) 9 3) ≡ Pass
 unfolding run refusal after freshTable afterAccepted lowestEmpty
 stale-own = refl
 
-pub stale-xmax : shown 2 both-taken (own (place 1) (txid 7) 9 3) ≡ record { xmin = 3; xmax = 8; ids = 4 ∷ 7 ∷ []; count = 2 }
+pub stale-xmax : shown 2 both-taken (own (slot 1) (txid 7) 9 3) ≡ record { xmin = 3; xmax = 8; ids = 4 ∷ 7 ∷ []; count = 2 }
 unfolding run refusal after freshTable afterAccepted lowestEmpty shownAccepted shown snapshotOf active minimum maximum
 stale-xmax = refl
 
-pub own-end : refusal 2 both-taken (end (place 0) (txid 4)) ≡ Pass
+pub stale-snap : refusal 2 both-taken (snap 9 3) ≡ Pass
 unfolding run refusal after freshTable afterAccepted lowestEmpty
-own-end = refl
+stale-snap = refl
 
-pub own-finish : refusal 2 both-taken (finish (place 0) (txid 4) (number 9)) ≡ Pass
+pub stale-oldest : refusal 2 both-taken (oldest 9 3) ≡ Pass
 unfolding run refusal after freshTable afterAccepted lowestEmpty
-own-finish = refl
+stale-oldest = refl
+
+pub next-stamp : refusal 2 both-taken (stamp (number 9)) ≡ Pass
+unfolding run refusal after freshTable afterAccepted lowestEmpty
+next-stamp = refl

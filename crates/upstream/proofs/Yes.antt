@@ -9,7 +9,8 @@ use Rattle.rules.specs.declared.Table.{Table}
 use Rattle.rules.specs.Tables.{txidAt, xminAt}
 use Rattle.rules.specs.Check.{tablePasses}
 use Rattle.rules.specs.Facts.{SlotGood, empty, taken, Good}
-use Rattle.rules.proofs.Checked.{passes-good}
+use Rattle.rules.proofs.Moves.{equally-long}
+use Rattle.rules.proofs.Check.{passes-good}
 use Rattle.upstream.specs.States.{Slot, slot, at}
 use Rattle.upstream.specs.Relations.{Sound}
 use Rattle.upstream.proofs.Pairs.{pairs-length, pairs-at}
@@ -38,7 +39,7 @@ from-good n t g =
     }
   where
     same : length (t .txids) ≡ length (t .«snapshot_xmins»)
-    same = g .txid-column ∙ sym (g .xmin-column)
+    same = equally-long n t g
 
     fine : (i : ℕ) → SlotFine (t .clock) (at (slotsOf t) i)
     fine i =

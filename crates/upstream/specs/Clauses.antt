@@ -1,4 +1,5 @@
--- The ensures of upstream's nine functions, by the ids of docs/CONTRACTS.md. `number` 0 is Ok, 1 to 3 are upstream's errors. The flag is left out. Where a clause needs the history, the field asks for it.
+-- The ensures of upstream's nine functions, by the ids of docs/CONTRACTS.md.
+-- `number` 0 is Ok, 1 to 3 are upstream's errors. The flag is left out. Where a clause needs the history, the field asks for it.
 use Prim.Native.Nat.{ℕ, _+_, _<_, _≤_}
 use mathlib.Core.Path.{_≡_}
 use mathlib.Core.Logic.{_≢_}
@@ -9,6 +10,7 @@ use Rattle.kinds.specs.declared.SlotNo.{SlotNo}
 use Rattle.kinds.specs.declared.Txid.{Txid}
 use Rattle.kinds.specs.declared.refusal.Refusal.{Refusal}
 use Rattle.kinds.specs.declared.refusal.Refusal.the-variants.{InvalidSlot, SlotOwnershipMismatch}
+use Rattle.kinds.specs.Kinds.{txid}
 use Rattle.kinds.specs.Refusals.{told}
 use Rattle.kinds.specs.declared.refusal.Verdict.{Verdict}
 use Rattle.kinds.specs.declared.refusal.Verdict.the-variants.{Pass, Refuse}
@@ -18,7 +20,7 @@ use Rattle.upstream.specs.States.{State, slot, at, push}
 use Rattle.upstream.specs.Tallies.{«minimum_retention»}
 use Rattle.upstream.specs.Relations.{Contains, HistoryOf, WellFormed, Coherent, Observation, Reservation}
 
--- L:153-155
+-- L:153-155, but for the value of an accepted slot, which a verdict does not carry: crate verdicts' `CheckedFits` has it
 pub record CheckedSlot (n : ℕ) (given : SlotNo) (result : Verdict) : Type 0 where
   pub l-checked-slot-e1 : result ≡ Pass → given .0 < n
   pub l-checked-slot-e2 : (r : Refusal) → result ≡ Refuse r → n ≤ given .0
@@ -62,7 +64,7 @@ abbrev pub endResult : ℕ → State → SlotNo → Txid → Answer
 endResult n old given id =
     cond (leb n (given .0)) (answerTold (told (InvalidSlot given)))
     (cond (eqb (at (old .slots) (given .0) .txid) (id .0)) done
-    (answerTold (told (SlotOwnershipMismatch given id (record { 0 = at (old .slots) (given .0) .txid })))))
+    (answerTold (told (SlotOwnershipMismatch given id (txid (at (old .slots) (given .0) .txid))))))
 
 pub record EndTransaction (n : ℕ) (old new : State) (given : SlotNo) (id : Txid) (result : Answer) : Type 0 where
   pub l-end-e1 : HistoryOf old → WellFormed n new

@@ -18,7 +18,8 @@ pub record Contains (ids : List ℕ) (x : ℕ) : Type 0 where
   pub inside : place < length ids
   pub there : getD ids place 0 ≡ x
 
--- `well_formed`, what it says of slots and clocks. Past the last slot stands an empty one, of which all of it holds, so no index needs a bound
+-- `well_formed`, what it says of slots and clocks. Past the last slot stands an empty one, of which all of it holds, so no
+-- index needs a bound
 pub record TablePart (n : ℕ) (slots : List Slot) (clock sample : ℕ) : Type 0 where
   pub size : length slots ≡ n
   pub sample-positive : 0 < sample

@@ -1,4 +1,5 @@
--- Upstream's state, and how a table with the numbers reserved so far is one. Names are upstream's (L:18-40); the flag `lifecycle_held` is left out.
+-- Upstream's state, and how a table with the numbers reserved so far is one.
+-- Names are upstream's (L:18-40); the flag `lifecycle_held` is left out.
 use Prim.Native.Nat.{ℕ}
 use mathlib.Core.List.{List, [], _∷_, _++_}
 use mathlib.Core.Path.{_≡_}
@@ -69,7 +70,7 @@ abbrev pub Foreseen : Verdict → Type 0
 Foreseen Pass = Unit
 Foreseen (Refuse (NoFreeSlot txid)) = Unit
 Foreseen (Refuse (InvalidSlot slot)) = Unit
-Foreseen (Refuse (SlotOwnershipMismatch slot expected seen)) = Unit
+Foreseen (Refuse (SlotOwnershipMismatch slot expected observed)) = Unit
 Foreseen (Refuse ZeroTxid) = ⊥
 Foreseen (Refuse ClockExhausted) = ⊥
 Foreseen (Refuse BadReservation) = ⊥

@@ -14,11 +14,23 @@ txids-differ-requires c κs = search needs
 
 returns : tie.Need-returns
 unfolding passes
-returns c = rw (← c .before .before .before .before .numbers-pass .ensures, c .before .before .before .if1 .taken, ← c .before .before .slots-pass .ensures, c .before .if2 .taken, c .txids-differ .ensures)
+returns c =
+    let slots = c .before .before in
+    let numbers = slots .before .before in
+    rw (
+      ← numbers .numbers-pass .ensures,
+      slots .before .if1 .taken,
+      ← slots .slots-pass .ensures,
+      c .before .if2 .taken,
+      c .txids-differ .ensures,
+    )
 
 returns-2 : tie.Need-returns-2
 unfolding passes
-returns-2 c = rw (← c .before .before .before .numbers-pass .ensures, c .before .before .if1 .taken, ← c .before .slots-pass .ensures, c .if2 .left)
+returns-2 c =
+    let slots = c .before in
+    let numbers = slots .before .before in
+    rw (← numbers .numbers-pass .ensures, slots .before .if1 .taken, ← slots .slots-pass .ensures, c .if2 .left)
 
 returns-3 : tie.Need-returns-3
 unfolding passes

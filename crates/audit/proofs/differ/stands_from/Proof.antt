@@ -4,7 +4,7 @@ use native.Mathlib.Omega.{arith}
 use borrow.Author.Needs.{needs}
 use lib.ListN.{length, drop}
 use Rattle.settled.specs.Settled.{listed}
-use Rattle.audit.proofs.Rest.{stands-here, stands-later, stands-nowhere}
+use Rattle.settled.proofs.Listed.{listed-here, listed-later, listed-over}
 use Rattle.audit.proofs.differ.stands_from.Statement.{statement}
 use Rattle.audit.proofs.differ.stands_from.Tie as tie
 
@@ -27,7 +27,7 @@ returns : tie.Need-returns Inv-loop μ-loop
 returns c =
     let l = c .before .before .before .loop in
     let a = c .before .before .before .before .args in
-    sym (l .inv ∙ stands-here (a .x) (a .txids .now) (l .i) (omega arith) (c .if1 .taken))
+    sym (l .inv ∙ listed-here (a .x) (a .txids .now) (l .i) (omega arith) (c .if1 .taken))
 
 add-i : tie.Need-add-i Inv-loop μ-loop
 add-i c = search needs
@@ -39,13 +39,13 @@ loop-again : tie.Need-loop-again Inv-loop μ-loop
 loop-again c =
     let l = c .before .before .before .loop in
     let a = c .before .before .before .before .args in
-    l .inv ∙ stands-later (a .x) (a .txids .now) (l .i) (omega arith) (c .if1 .left)
+    l .inv ∙ listed-later (a .x) (a .txids .now) (l .i) (omega arith) (c .if1 .left)
 
 returns-2 : tie.Need-returns-2 Inv-loop μ-loop
 returns-2 c =
     let l = c .before .loop in
     let a = c .before .before .args in
-    sym (l .inv ∙ stands-nowhere (a .x) (a .txids .now) (l .i) (omega arith))
+    sym (l .inv ∙ listed-over (a .x) (a .txids .now) (l .i) (omega arith))
 
 pub stands-from-spec : {M : Type 1} → statement M
 stands-from-spec =

@@ -42,7 +42,8 @@ returns : tie.Need-returns Inv-loop μ-loop
 returns c =
     let l = c .before .before .before .before .before .loop in
     let a = c .before .before .before .before .before .before .before .args in
-    sym (l .inv ∙ differ-twice (a .txids .now) (l .i) (omega arith) (c .before .before .if1 .left) (sym (c .before .stands-from .ensures) ∙ c .if2 .taken))
+    let again = sym (c .before .stands-from .ensures) ∙ c .if2 .taken in
+    sym (l .inv ∙ differ-twice (a .txids .now) (l .i) (omega arith) (c .before .before .if1 .left) again)
 
 loop-less-2 : tie.Need-loop-less-2 Inv-loop μ-loop
 loop-less-2 c = search needs
@@ -51,7 +52,8 @@ loop-again-2 : tie.Need-loop-again-2 Inv-loop μ-loop
 loop-again-2 c =
     let l = c .before .before .before .before .before .loop in
     let a = c .before .before .before .before .before .before .before .args in
-    l .inv ∙ differ-once (a .txids .now) (l .i) (omega arith) (c .before .before .if1 .left) (sym (c .before .stands-from .ensures) ∙ c .if2 .left)
+    let alone = sym (c .before .stands-from .ensures) ∙ c .if2 .left in
+    l .inv ∙ differ-once (a .txids .now) (l .i) (omega arith) (c .before .before .if1 .left) alone
 
 returns-2 : tie.Need-returns-2 Inv-loop μ-loop
 returns-2 c =

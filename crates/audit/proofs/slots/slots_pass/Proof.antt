@@ -9,7 +9,8 @@ use Rattle.audit.proofs.slots.slots_pass.Statement.{statement}
 use Rattle.audit.proofs.slots.slots_pass.Tie as tie
 
 abbrev Inv-loop : tie.InvT-loop
-Inv-loop txids xmins clock line i₀ i = (i ≤ length txids) × (slotsPass clock line txids xmins ≡ slotsPass clock line (drop i txids) (drop i xmins))
+Inv-loop txids xmins clock line i₀ i =
+    (i ≤ length txids) × (slotsPass clock line txids xmins ≡ slotsPass clock line (drop i txids) (drop i xmins))
 
 abbrev μ-loop : tie.MeasureT-loop
 μ-loop txids xmins clock line i₀ i = length txids - i
@@ -48,13 +49,16 @@ loop-again : tie.Need-loop-again Inv-loop μ-loop
 loop-again c =
     let l = c .before .before .before .before .before .before .loop in
     let a = c .before .before .before .before .before .before .before .before .before .args in
-    (omega arith, l .inv .1 ∙ slots-good (a .clock) (a .line) (a .txids .now) (a .xmins .now) (l .i) (omega arith) (omega arith) (sym (c .before .slot-passes .ensures) ∙ c .if2 .taken))
+    let good = sym (c .before .slot-passes .ensures) ∙ c .if2 .taken in
+    let step = slots-good (a .clock) (a .line) (a .txids .now) (a .xmins .now) (l .i) (omega arith) (omega arith) good in
+    (omega arith, l .inv .1 ∙ step)
 
 returns-2 : tie.Need-returns-2 Inv-loop μ-loop
 returns-2 c =
     let l = c .before .before .before .before .before .before .loop in
     let a = c .before .before .before .before .before .before .before .before .before .args in
-    sym (l .inv .1 ∙ slots-bad (a .clock) (a .line) (a .txids .now) (a .xmins .now) (l .i) (omega arith) (omega arith) (sym (c .before .slot-passes .ensures) ∙ c .if2 .left))
+    let bad = sym (c .before .slot-passes .ensures) ∙ c .if2 .left in
+    sym (l .inv .1 ∙ slots-bad (a .clock) (a .line) (a .txids .now) (a .xmins .now) (l .i) (omega arith) (omega arith) bad)
 
 returns-3 : tie.Need-returns-3 Inv-loop μ-loop
 returns-3 c =

@@ -3,13 +3,13 @@ use Rattle.tally.proofs.Scan.{Scanned, scanned-none, scanned-miss, scan
 use mathlib.Core.Path.{sym, ap, _∙_}
 use native.Mathlib.Omega.{arith}
 use borrow.Author.Needs.{needs}
-use lib.ListN.{length}
 use lib.ListN.{length, take}
 use Rattle.tally.proofs.snapshot.take_snapshot.Statement.{statement}
 use Rattle.tally.proofs.snapshot.take_snapshot.Tie as tie
 
 abbrev Inv-loop : tie.InvT-loop
-Inv-loop txids sample end ids₀ count₀ low₀ high₀ i₀ ids count low high i = Scanned sample (take (length ids₀) txids) ids₀ ids count low high i
+Inv-loop txids sample end ids₀ count₀ low₀ high₀ i₀ ids count low high i =
+    Scanned sample (take (length ids₀) txids) ids₀ ids count low high i
 
 abbrev μ-loop : tie.MeasureT-loop
 μ-loop txids sample end ids₀ count₀ low₀ high₀ i₀ ids count low high i = end - i
@@ -72,7 +72,9 @@ loop-again-2 c =
     let z = c .before .before .before .before .before .before .zeros .ensures in
     let e = c .before .before .before .before .before .before .before .shorter .ensures in
     let t = c .before .before .before .before .before .before .before .before .before .args .txids .now in
-    scanned-hit (l .inv) (here _ t (l .inv) z e (omega arith)) (sym (read _ t (l .inv) z e (omega arith))) (c .before .before .if1 .left) (c .before .lesser .ensures) (c .greater .ensures)
+    let inside = here _ t (l .inv) z e (omega arith) in
+    let id = sym (read _ t (l .inv) z e (omega arith)) in
+    scanned-hit (l .inv) inside id (c .before .before .if1 .left) (c .before .lesser .ensures) (c .greater .ensures)
 
 returns : tie.Need-returns Inv-loop μ-loop
 returns c =
@@ -93,8 +95,9 @@ returns-2 c =
     let l = c .before .before .before .before .loop in
     let z = c .before .before .before .before .before .zeros .ensures in
     let e = c .before .before .before .before .before .before .shorter .ensures in
-    let t = c .before .before .before .before .before .before .before .before .args .txids .now in
-    over-some _ t (l .inv) z e (omega arith) (c .before .before .if2 .left) (c .greater2 .ensures ∙ ap (max (c .before .before .before .before .before .before .before .before .args .sample)) (c .before .next-held .ensures))
+    let a = c .before .before .before .before .before .before .before .before .args in
+    let xmax = c .greater2 .ensures ∙ ap (max (a .sample)) (c .before .next-held .ensures) in
+    over-some _ (a .txids .now) (l .inv) z e (omega arith) (c .before .before .if2 .left) xmax
 
 pub take-snapshot-spec : {M : Type 1} → statement M
 take-snapshot-spec =

@@ -1,25 +1,25 @@
 -- The computed table check says yes exactly where its named facts hold. So fresh passes, and every call keeps a yes.
 use Prim.Native.Nat.{ℕ, zero, suc}
 use mathlib.Core.Path.{_≡_, refl, sym, _∙_, ap}
-use mathlib.Core.Logic.{_≢_, _⊎_, inl, inr, _↔_}
+use mathlib.Core.Logic.{_≢_, _↔_}
 use mathlib.Core.List.{List, [], _∷_}
-use mathlib.Core.Bool.{Bool, true, false, _||_, not, true≢false, false≢true}
+use mathlib.Core.Bool.{Bool, true, false, _||_, not, true≢false, false≢true, and-eq-true-iff}
 use native.Mathlib.Nat.{suc-ne-zero, suc-inj}
 use native.Mathlib.Omega.{arith}
 use lib.Dec.{ltb, leb, eqb}
 use lib.ListN.{length, getD}
 use borrow.Author.Tests.{ltb-true, leb-true, eqb-true, eqb-false, lt-ltb, le-leb, eq-eqb, ne-eqb, not-true}
 use Rattle.settled.specs.Settled.{listed}
+use Rattle.settled.proofs.Listed.{place-listed, listed-place}
 use Rattle.rules.specs.declared.Table.{Table}
 use Rattle.rules.specs.Tables.{freshTable}
 use Rattle.rules.specs.Calls.{Call, after}
 use Rattle.rules.specs.Check.{slotPasses, slotsPass, differ, numbersPass, passes, tablePasses}
 use Rattle.rules.specs.Facts.{SlotGood, empty, taken, Good}
 use Rattle.rules.specs.History.{reached}
-use Rattle.rules.proofs.Bools.{and-true, true-and}
-use Rattle.rules.proofs.Tallies.{listed-head, listed-tail, listed-none, listed-cases}
-use Rattle.rules.proofs.Moves.{good-fresh}
-use Rattle.rules.proofs.Steps.{good-after, good-reached}
+use Rattle.rules.proofs.Places.{inside-of-ne}
+use Rattle.rules.proofs.Moves.{equally-long, good-fresh}
+use Rattle.rules.proofs.Facts.{good-after, good-reached}
 
 -- one slot
 slot-to : (clock line txid xmin : ℕ) → slotPasses clock line txid xmin ≡ true → SlotGood clock line txid xmin
@@ -28,9 +28,9 @@ slot-to clock line txid xmin e = go (eqb txid 0) refl
     go : (b : Bool) → eqb txid 0 ≡ b → SlotGood clock line txid xmin
     go true q = empty (eqb-true _ _ q) (eqb-true _ _ (rw q at e))
     go false q =
-        let (h₁, r₁) = and-true (leb 1 xmin) _ (rw q at e) in
-        let (h₂, r₂) = and-true (leb xmin txid) _ r₁ in
-        let (h₃, h₄) = and-true (ltb txid clock) (leb line txid) r₂ in
+        let (h₁, r₁) = and-eq-true-iff (leb 1 xmin) _ .0 (rw q at e) in
+        let (h₂, r₂) = and-eq-true-iff (leb xmin txid) _ .0 r₁ in
+        let (h₃, h₄) = and-eq-true-iff (ltb txid clock) (leb line txid) .0 r₂ in
         taken (leb-true 1 xmin h₁) (leb-true xmin txid h₂) (ltb-true txid clock h₃) (leb-true line txid h₄)
 
 slot-from : (clock line txid xmin : ℕ) → SlotGood clock line txid xmin → slotPasses clock line txid xmin ≡ true
@@ -54,7 +54,7 @@ slots-to clock line [] [] e = (refl, λ i. empty (nothing i) (nothing i))
 slots-to clock line [] (m ∷ ms) e = absurd (false≢true e)
 slots-to clock line (x ∷ xs) [] e = absurd (false≢true e)
 slots-to clock line (x ∷ xs) (m ∷ ms) e =
-    let (a, b) = and-true (slotPasses clock line x m) (slotsPass clock line xs ms) e in
+    let (a, b) = and-eq-true-iff (slotPasses clock line x m) (slotsPass clock line xs ms) .0 e in
     let (l, f) = slots-to clock line xs ms b in
     (ap suc l, each a f)
   where
@@ -70,24 +70,18 @@ slots-from clock line [] [] l f = refl
 slots-from clock line [] (m ∷ ms) l f = absurd (suc-ne-zero _ (sym l))
 slots-from clock line (x ∷ xs) [] l f = absurd (suc-ne-zero _ l)
 slots-from clock line (x ∷ xs) (m ∷ ms) l f =
-    true-and (slotPasses clock line x m) (slotsPass clock line xs ms) (slot-from clock line x m (f 0))
-    (slots-from clock line xs ms (suc-inj l) (λ i. f (suc i)))
+    and-eq-true-iff (slotPasses clock line x m) (slotsPass clock line xs ms) .1
+    (slot-from clock line x m (f 0), slots-from clock line xs ms (suc-inj l) (λ i. f (suc i)))
 
 -- taken txids differ
 abbrev Differ : List ℕ → Type 0
 Differ txids = (i j : ℕ) → getD txids i 0 ≢ 0 → getD txids i 0 ≡ getD txids j 0 → i ≡ j
 
-place-listed : (x : ℕ) (txids : List ℕ) (i : ℕ) → x ≢ 0 → getD txids i 0 ≡ x → listed x txids ≡ true
-place-listed x [] zero h e = absurd (h (sym e))
-place-listed x [] (suc i) h e = absurd (h (sym e))
-place-listed x (y ∷ ys) zero h e = rw e (listed-head x ys)
-place-listed x (y ∷ ys) (suc i) h e = listed-tail x y ys (place-listed x ys i h e)
-
 first-differs :
     (x : ℕ) (xs : List ℕ) (i : ℕ) → (eqb x 0 || not (listed x xs)) ≡ true → x ≢ 0 → getD xs i 0 ≡ x → ⊥
 first-differs x xs i e h q =
     let absent : listed x xs ≡ false = not-true (listed x xs) (rw (ne-eqb x 0 h) at e) in
-    true≢false (sym (place-listed x xs i h q) ∙ absent)
+    true≢false (sym (place-listed x xs i (inside-of-ne xs i (λ z. h (sym q ∙ z))) q) ∙ absent)
 
 differ-to : (txids : List ℕ) → differ txids ≡ true → Differ txids
 unfolding differ
@@ -95,45 +89,36 @@ differ-to [] e zero j h q = absurd (h refl)
 differ-to [] e (suc i) j h q = absurd (h refl)
 differ-to (x ∷ xs) e zero zero h q = refl
 differ-to (x ∷ xs) e zero (suc j) h q =
-    absurd (first-differs x xs j (and-true (eqb x 0 || not (listed x xs)) (differ xs) e .0) h (sym q))
+    absurd (first-differs x xs j (and-eq-true-iff (eqb x 0 || not (listed x xs)) (differ xs) .0 e .0) h (sym q))
 differ-to (x ∷ xs) e (suc i) zero h q =
-    absurd (first-differs x xs i (and-true (eqb x 0 || not (listed x xs)) (differ xs) e .0) (λ z. h (q ∙ z)) q)
+    absurd (first-differs x xs i (and-eq-true-iff (eqb x 0 || not (listed x xs)) (differ xs) .0 e .0) (λ z. h (q ∙ z)) q)
 differ-to (x ∷ xs) e (suc i) (suc j) h q =
-    ap suc (differ-to xs (and-true (eqb x 0 || not (listed x xs)) (differ xs) e .1) i j h q)
-
-listed-place : (x : ℕ) (txids : List ℕ) → listed x txids ≡ true → (i : ℕ) × (getD txids i 0 ≡ x)
-listed-place x [] e = absurd (listed-none x e)
-listed-place x (y ∷ ys) e = go (listed-cases x y ys e) (listed-place x ys)
-  where
-    go : (y ≡ x) ⊎ (listed x ys ≡ true) → (listed x ys ≡ true → (i : ℕ) × (getD ys i 0 ≡ x)) →
-        (i : ℕ) × (getD (y ∷ ys) i 0 ≡ x)
-    go (inl q) ih = (0, q)
-    go (inr q) ih = let (i, p) = ih q in (suc i, p)
+    ap suc (differ-to xs (and-eq-true-iff (eqb x 0 || not (listed x xs)) (differ xs) .0 e .1) i j h q)
 
 differ-from : (txids : List ℕ) → Differ txids → differ txids ≡ true
 unfolding differ
 differ-from [] d = refl
 differ-from (x ∷ xs) d =
-    true-and (eqb x 0 || not (listed x xs)) (differ xs) (first (eqb x 0) refl (listed x xs) refl)
-    (differ-from xs (λ i j h q. suc-inj (d (suc i) (suc j) h q)))
+    and-eq-true-iff (eqb x 0 || not (listed x xs)) (differ xs) .1
+    (first (eqb x 0) refl (listed x xs) refl, differ-from xs (λ i j h q. suc-inj (d (suc i) (suc j) h q)))
   where
     first : (b : Bool) → eqb x 0 ≡ b → (l : Bool) → listed x xs ≡ l → (b || not l) ≡ true
     first true e l p = refl
     first false e false p = refl
     first false e true p =
-        let (i, q) = listed-place x xs p in
+        let (i, b, q) = listed-place x xs p in
         absurd (suc-ne-zero i (d (suc i) 0 (λ z. eqb-false x 0 e (sym q ∙ z)) q))
 
 -- the whole check
 pub passes-good : (n : ℕ) (t : Table) → tablePasses n t ≡ true → Good n t
 unfolding passes
 passes-good n t e =
-    let (a, b) = and-true (numbersPass n (length (t .txids)) (t .clock) (t .«sampled_clock») (t .line)) _ e in
-    let (s, d) = and-true (slotsPass (t .clock) (t .line) (t .txids) (t .«snapshot_xmins»)) (differ (t .txids)) b in
-    let (a₁, r₁) = and-true (eqb (length (t .txids)) n) _ a in
-    let (a₂, r₂) = and-true (leb 1 (t .«sampled_clock»)) _ r₁ in
-    let (a₃, r₃) = and-true (leb (t .«sampled_clock») (t .clock)) _ r₂ in
-    let (a₄, a₅) = and-true (leb 1 (t .line)) (leb (t .line) (t .clock)) r₃ in
+    let (a, b) = and-eq-true-iff (numbersPass n (length (t .txids)) (t .clock) (t .«sampled_clock») (t .line)) _ .0 e in
+    let (s, d) = and-eq-true-iff (slotsPass (t .clock) (t .line) (t .txids) (t .«snapshot_xmins»)) (differ (t .txids)) .0 b in
+    let (a₁, r₁) = and-eq-true-iff (eqb (length (t .txids)) n) _ .0 a in
+    let (a₂, r₂) = and-eq-true-iff (leb 1 (t .«sampled_clock»)) _ .0 r₁ in
+    let (a₃, r₃) = and-eq-true-iff (leb (t .«sampled_clock») (t .clock)) _ .0 r₂ in
+    let (a₄, a₅) = and-eq-true-iff (leb 1 (t .line)) (leb (t .line) (t .clock)) .0 r₃ in
     let (l, f) = slots-to (t .clock) (t .line) (t .txids) (t .«snapshot_xmins») s in
     record {
       txid-column = eqb-true _ _ a₁;
@@ -155,7 +140,7 @@ good-passes n t g =
       le-leb (t .«sampled_clock») (t .clock) (g .sample-to-clock),
       le-leb 1 (t .line) (g .line-from-1),
       le-leb (t .line) (t .clock) (g .line-to-clock),
-      slots-from (t .clock) (t .line) (t .txids) (t .«snapshot_xmins») (g .txid-column ∙ sym (g .xmin-column)) (g .each),
+      slots-from (t .clock) (t .line) (t .txids) (t .«snapshot_xmins») (equally-long n t g) (g .each),
       differ-from (t .txids) (g .differ),
     )
 

@@ -1,4 +1,4 @@
--- The numbers reserved from fresh: in order, from 1 to below the clock, each above all before it.
+-- The numbers reserved from fresh: in order, from 1 to below the clock, each above all before it. So the clock never falls.
 use Prim.Native.Nat.{ℕ, zero, suc, _+_, _≤_, _<_}
 use mathlib.Core.Path.{_≡_, refl, sym, _∙_, ap}
 use mathlib.Core.Logic.{_⊎_, inl, inr}
@@ -12,6 +12,7 @@ use Rattle.kinds.specs.declared.SlotNo.{SlotNo}
 use Rattle.kinds.specs.declared.Txid.{Txid}
 use Rattle.kinds.specs.declared.refusal.Refusal.{Refusal}
 use Rattle.settled.specs.Settled.{listed}
+use Rattle.settled.proofs.Listed.{listed-none, listed-head, listed-cases}
 use Rattle.kinds.specs.Refusals.{consumed}
 use Rattle.rules.specs.declared.Table.{Table}
 use Rattle.rules.specs.Tables.{freshTable}
@@ -19,9 +20,10 @@ use Rattle.rules.specs.Calls.{Call, begin, end, snap, own, oldest, vacuu
 use Rattle.rules.specs.Accepted.{Acceptable}
 use Rattle.rules.specs.History.{run, reached, Accepts}
 use Rattle.rules.specs.Reservations.{reservesAccepted, reservesBy, reservationsFrom, reservations}
-use Rattle.rules.proofs.Tallies.{listed-none, listed-cases, listed-head}
-use Rattle.rules.proofs.Tests.{accepted-acceptable}
-use Rattle.rules.proofs.Refused.{Refused, stays, spends, by-verdict}
+use Rattle.rules.proofs.Accepted.{accepted-acceptable}
+use Rattle.rules.proofs.Refused.{Refused, stays, spends}
+use Rattle.rules.proofs.Calls.{by-verdict}
+use Rattle.rules.proofs.History.{run-append}
 
 -- what one call reserves: nothing, or one number from the clock on, which the clock then passes by one
 pub data Step (clock : ℕ) (ids : List ℕ) (clock′ : ℕ) : Type 0 where
@@ -113,6 +115,12 @@ pub reserved-in-range :
 reserved-in-range n cs x e =
     let (a, b, c) = order-listed _ (reservations n cs) _ x (reserved-in-order n (freshTable n) cs) e in
     (b, c)
+
+-- so the clock never falls
+pub clock-never-falls : (n : ℕ) (before later : List Call) → reached n before .clock ≤ reached n (before ++ later) .clock
+clock-never-falls n before later =
+    rw run-append
+    (order-high _ (reservationsFrom n (reached n before) later) _ (reserved-in-order n (reached n before) later))
 
 -- a history's numbers go on those of each of its beginnings: upstream's `extends`
 pub reservations-append :

@@ -1,40 +1,23 @@
 -- Each call, accepted or refused, on any arguments, keeps the facts of the table check.
-use Prim.Native.Nat.{ℕ, _≤_, _<_}
-use mathlib.Core.Path.{_≡_, refl, sym, _∙_, ap}
+use Prim.Native.Nat.{ℕ, _≤_}
+use mathlib.Core.Path.{refl}
 use mathlib.Core.Logic.{_≢_}
-use mathlib.Core.List.{List, [], _∷_, _++_}
+use mathlib.Core.List.{List, [], _∷_}
 use native.Mathlib.Omega.{arith}
 use Rattle.kinds.specs.declared.SlotNo.{SlotNo}
 use Rattle.kinds.specs.declared.Txid.{Txid}
-use Rattle.kinds.specs.declared.refusal.Refusal.{Refusal}
-use Rattle.kinds.specs.declared.refusal.Verdict.{Verdict}
-use Rattle.kinds.specs.Refusals.{consumed}
 use Rattle.rules.specs.declared.Table.{Table}
 use Rattle.rules.specs.Tally.{active, retained, xminOf, oldestOf}
-use Rattle.rules.specs.Tables.{freshTable, txidAt, xminAt, withClock, observed}
-use Rattle.rules.specs.Calls.{Call, begin, end, snap, own, oldest, vacuum, stamp, finish, afterAccepted, spent, afterRefused, afterBy, after}
+use Rattle.rules.specs.Tables.{freshTable, txidAt, xminAt, observed}
+use Rattle.rules.specs.Calls.{Call, begin, end, snap, own, oldest, vacuum, stamp, finish, afterAccepted, after}
 use Rattle.rules.specs.Accepted.{Owns, Acceptable}
 use Rattle.rules.specs.Facts.{empty, taken, Good}
-use Rattle.rules.specs.History.{run, reached, Accepts}
-use Rattle.rules.proofs.Tallies.{minimum-start, minimum-member, minimum-bound, taken-active, active-taken, taken-retained}
-use Rattle.rules.proofs.Tests.{accepted-acceptable}
-use Rattle.rules.proofs.Refused.{Refused, stays, spends, by-verdict}
-use Rattle.rules.proofs.Moves.{is-taken, good-clock, good-observed, good-slot, good-xmin, good-line, new-number, good-fresh}
-
--- a fact of the table after a call: of the accepted call's table, of the table as it was, and of a table whose clock alone rose
-pub after-cases :
-    (n : ℕ) (t : Table) (c : Call) (P : Table → Type 0) → (Accepts n t c → P (afterAccepted t c)) → P t →
-    ((clock : ℕ) → t .clock < clock → P (withClock clock t)) → P (after n t c)
-unfolding consumed spent afterRefused
-after-cases n t c P a s w = by-verdict n t c (λ v u. P u) a other
-  where
-    other : (r : Refusal) → Refused n t c r → P (afterRefused t r)
-    other r (stays p) = rw p s
-    other r (spends number p q h f) = rw q (w _ (omega arith))
-
-pub after-accepted : (n : ℕ) (t : Table) (c : Call) → Accepts n t c → after n t c ≡ afterAccepted t c
-unfolding after
-after-accepted n t c e = ap (λ (v : Verdict). afterBy v t c) e
+use Rattle.rules.specs.History.{run, reached}
+use Rattle.rules.proofs.Tally.{minimum-start, minimum-member, minimum-bound, taken-active, active-taken, taken-retained}
+use Rattle.rules.proofs.Accepted.{accepted-acceptable}
+use Rattle.rules.proofs.Transactions.{registered-taken}
+use Rattle.rules.proofs.Calls.{after-cases}
+use Rattle.rules.proofs.Moves.{equally-long, is-taken, good-clock, good-observed, good-slot, good-xmin, good-line, new-number, good-fresh}
 
 -- an own xmin is from 1 to the owner's txid
 own-low : (txids : List ℕ) (sample : ℕ) → 1 ≤ sample → 1 ≤ xminOf sample (active txids)
@@ -48,7 +31,7 @@ own-high :
     xminOf sample (active (t .txids)) ≤ txidAt t (slot .0)
 own-high n t slot id sample o =
     minimum-member sample (active (t .txids)) (txidAt t (slot .0))
-    (taken-active (t .txids) (slot .0) (λ z. o .named (sym (o .holds) ∙ z)))
+    (taken-active (t .txids) (slot .0) (registered-taken t slot id (o .registered)))
 
 -- the oldest xmin is at most the sample, and at most the snapshot_xmin of each taken slot
 pub oldest-sample : (t : Table) (sample : ℕ) → oldestOf (t .txids) (t .«snapshot_xmins») sample ≤ sample
@@ -59,7 +42,7 @@ pub oldest-taken :
     oldestOf (t .txids) (t .«snapshot_xmins») sample ≤ xminAt t i
 oldest-taken n t sample i g h =
     minimum-member sample (retained (t .txids) (t .«snapshot_xmins»)) (xminAt t i)
-    (taken-retained (t .txids) (t .«snapshot_xmins») i (g .txid-column ∙ sym (g .xmin-column)) h)
+    (taken-retained (t .txids) (t .«snapshot_xmins») i (equally-long n t g) h)
 
 good-accepted : (n : ℕ) (t : Table) (c : Call) → Good n t → Acceptable n t c → Good n (afterAccepted t c)
 unfolding afterAccepted
@@ -69,7 +52,7 @@ good-accepted n t (begin number) g (r, f) =
 good-accepted n t (end slot id) g o = good-slot n t g (slot .0) _ _ (empty refl refl) (λ h. absurd (h refl))
 good-accepted n t (snap clock sample) g o = good-observed n t g clock sample o
 good-accepted n t (own slot id clock sample) g (o, v) =
-    let k = is-taken (g .each (slot .0)) (λ z. o .named (sym (o .holds) ∙ z)) in
+    let k = is-taken (g .each (slot .0)) (registered-taken t slot id (o .registered)) in
     good-xmin n (observed clock sample t) (good-observed n t g clock sample v) (slot .0) _
     (taken (omega (arith, own-low (t .txids) sample (v .positive))) (omega (arith, own-high n t slot id sample o))
     (omega arith) (k .over))
@@ -97,14 +80,3 @@ good-run n t (c ∷ cs) g = good-run n (after n t c) cs (good-after n t c g)
 
 pub good-reached : (n : ℕ) (cs : List Call) → Good n (reached n cs)
 good-reached n cs = good-run n (freshTable n) cs (good-fresh n)
-
--- two parts of a history, one after the other
-pub run-append : (n : ℕ) (t : Table) (before later : List Call) → run n t (before ++ later) ≡ run n (run n t before) later
-unfolding run
-run-append n t [] later = refl
-run-append n t (c ∷ before) later = run-append n (after n t c) before later
-
--- the last call of a history makes the step that the call's contract cites
-pub run-snoc : (n : ℕ) (t : Table) (cs : List Call) (c : Call) → run n t (cs ++ c ∷ []) ≡ after n (run n t cs) c
-unfolding run
-run-snoc n t cs c = run-append n t cs (c ∷ [])
