@@ -38,6 +38,9 @@ write-start-requires c κs = search needs
 returns : tie.Need-returns Inv-loop μ-loop
 returns c = search needs
 
+returns-2 : tie.Need-returns-2 Inv-loop μ-loop
+returns-2 c = search needs
+
 loop-less : tie.Need-loop-less Inv-loop μ-loop
 loop-less c = search needs
 
@@ -56,8 +59,8 @@ slice-aggregate-write-replayed c = search needs
 write-replayed-requires : tie.Need-write-replayed-requires Inv-loop μ-loop
 write-replayed-requires c κs = search needs
 
-returns-2 : tie.Need-returns-2 Inv-loop μ-loop
-returns-2 c = search needs
+returns-3 : tie.Need-returns-3 Inv-loop μ-loop
+returns-3 c = search needs
 
 pub run-to-spec : {M : Type 1} → statement M
 run-to-spec =
@@ -74,10 +77,11 @@ run-to-spec =
     slice-aggregate-write-start
     write-start-requires
     returns
+    returns-2
     loop-less
     loop-again
     slice-aggregate-put-records
     put-records-requires
     slice-aggregate-write-replayed
     write-replayed-requires
-    returns-2)
+    returns-3)
