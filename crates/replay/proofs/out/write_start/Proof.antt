@@ -5,10 +5,13 @@ use Rattle.replay.proofs.out.write_start.Statement.{statement}
 use Rattle.replay.proofs.out.write_start.Tie as tie
 
 slice-aggregate-write-all : tie.Need-slice-aggregate-write-all
-slice-aggregate-write-all c = sym (length-take-le _ _ (c .before .if1 .taken))
+slice-aggregate-write-all c = sym (length-take-le _ _ (c .before .before .pre .0))
 
 write-all-requires : tie.Need-write-all-requires
 write-all-requires c κs = search needs
+
+add-t10 : tie.Need-add-t10
+add-t10 c = search needs
 
 returns : tie.Need-returns
 returns c = search needs
@@ -18,4 +21,4 @@ returns-2 c = search needs
 
 pub write-start-spec : {M : Type 1} → statement M
 write-start-spec =
-    tie.close (tie.spec slice-aggregate-write-all write-all-requires returns returns-2)
+    tie.close (tie.spec slice-aggregate-write-all write-all-requires add-t10 returns returns-2)
