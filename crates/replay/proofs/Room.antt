@@ -1,4 +1,4 @@
--- A record has room in an empty buffer that holds a full table's ids, so a part of a run goes on.
+-- A record has room where a full table's ids would have it, so a part of a run in an empty buffer goes on.
 use Prim.Native.Nat.{ℕ, _+_, _-_, _≤_}
 use mathlib.Core.Path.{_≡_, refl}
 use mathlib.Core.Bool.{Bool, true, false, cond}
@@ -38,12 +38,13 @@ answer-few n t c = go (refusal n t c)
     go Pass = accepted-few t c
     go (Refuse r) = omega arith
 
-empty-fits : (n size : ℕ) (t : Table) (c : Call) → Good n t → need n ≤ size → fits n size 0 (length (answer n t c .ids)) ≡ true
-empty-fits n size t c g h =
+pub room-fits :
+    (n size at : ℕ) (t : Table) (c : Call) → Good n t → at + need n ≤ size → fits n size at (length (answer n t c .ids)) ≡ true
+room-fits n size at t c g h =
     let many = length (answer n t c .ids) in
     let few : many ≤ n = omega (arith, answer-few n t c, g .txid-column) in
-    let room : need many ≤ size - 0 = omega arith in
-    rw (le-leb many n few, le-leb (need many) (size - 0) room)
+    let room : need many ≤ size - at = omega arith in
+    rw (le-leb many n few, le-leb (need many) (size - at) room)
 
 module _ (n size : ℕ) where
   -- a part leaves no more records than there were, and a table with the facts of the check
@@ -75,5 +76,5 @@ module _ (n size : ℕ) where
       (t : Table) (r : Record) (rs : List Record) → Good n t → need n ≤ size → length (partOf n size 0 t (r ∷ rs) .left) ≤ length rs
   unfolding partOf
   part-goes-on t r rs g h =
-      rw (empty-fits n size t (callOf r) g h)
+      rw (room-fits n size 0 t (callOf r) g (omega arith))
       (part-left (0 + length (outputOf n t (callOf r))) (after n t (callOf r)) rs (good-after n t (callOf r) g) .few)
