@@ -2,10 +2,12 @@
 use Prim.Native.Nat.{ℕ, _+_, _*_, _≤_, _<_, _^_}
 use mathlib.Core.Path.{_≡_, refl, sym, ap, _∙_}
 use mathlib.Core.Bool.{Bool, true, false}
-use mathlib.Core.List.{List, [], _∷_, _++_}
+use mathlib.Core.List.{List, [], _∷_, _++_, append-assoc}
+use native.Mathlib.Nat.{zero-add}
 use native.Mathlib.Omega.{arith}
 use lib.Dec.{leb}
-use lib.ListN.{length, length-append}
+use lib.ListN.{length, take, drop, length-append, length-drop}
+use lib.Seq.{take-length, take-append-seam, drop-append-seam, drop-drop}
 use borrow.Author.Tests.{leb-true}
 use Rattle.rules.specs.declared.Table.{Table}
 use Rattle.rules.specs.Tables.{freshTable}
@@ -13,7 +15,7 @@ use Rattle.rules.specs.Facts.{Good}
 use Rattle.rules.proofs.Moves.{good-fresh}
 use Rattle.text.specs.Keys.{recordsKey}
 use Rattle.text.specs.Line.{lineText}
-use Rattle.text.specs.Write.{spliced}
+use Rattle.text.specs.Write.{spliced, written}
 use Rattle.trace.specs.declared.Record.{Record}
 use Rattle.trace.specs.declared.Reading.the-variants as reads
 use Rattle.trace.specs.Trace.{Breaks, traceOf, reading, recordsFrom, firstRecord, Boundary}
@@ -23,14 +25,14 @@ use Rattle.trace.proofs.Walk.{At, ended, broke, went, look, no-records}
 use Rattle.trace.proofs.Loop.{next-record, none-left, end-only}
 use Rattle.render.specs.Output.{need}
 use Rattle.replay.specs.Replay.{textOf, brokenText, replayOf}
-use Rattle.replay.specs.Part.{Part, partOf, PartFits}
+use Rattle.replay.specs.Part.{partOf, PartFits}
 use Rattle.replay.specs.Into.{BrokenFits, EndFits}
 use Rattle.replay.specs.declared.into.Replayed.{Replayed}
 use Rattle.replay.specs.declared.into.Replayed.the-variants.{Written, NoRoom}
 use Rattle.replay.specs.declared.out.Sent.{Sent}
 use Rattle.replay.specs.declared.out.Sent.the-variants.{All}
 use Rattle.replay.specs.declared.part.Progress.{Progress}
-use Rattle.replay.specs.Sent.{SentOf}
+use Rattle.replay.specs.Sent.{SentOf, SentFits, StandsNext}
 use Rattle.replay.proofs.Parts.{parts-join}
 use Rattle.replay.proofs.Room.{part-good, part-goes-on}
 use Rattle.replay.proofs.Running.{inside-of}
@@ -52,12 +54,25 @@ records-inside s (r ∷ rs) at h e = go (look s at 0) (records-inside s rs)
         let same : recordsFrom s i ≡ rs = cc in
         omega (arith, ih i (m .again) same, m .further)
 
+-- what a part prints, and what is to come after it
+abbrev partText : ℕ → List ℕ → Table → ℕ → List ℕ → List ℕ
+partText n s t at xs = partOf n (length xs) 0 t (recordsFrom s at) .text
+
+abbrev restText : ℕ → List ℕ → ℕ → Table → ℕ → List ℕ
+restText n s count t at = textOf n t (recordsFrom s at) ++ lineText recordsKey count
+
+-- a buffer with a text put at its start begins with it
+begins-with : (xs t : List ℕ) {ys : List ℕ} → ys ≡ spliced xs 0 t → take (length t) ys ≡ t
+unfolding spliced
+begins-with xs t e = rw e (take-append-seam t (drop (0 + length t) xs))
+
 pub record Sending (n : ℕ) (s : List ℕ) (count : ℕ) (t : Table) (at sent : ℕ) : Type 0 where
   pub boundary : Boundary s at
   pub good : Good n t
   -- a part is at most a buffer's worth, so the count stays a machine number
   pub bounded : sent + 65536 * length (recordsFrom s at) ≤ 65536 * 65536
-  pub rest : sent + length (textOf n t (recordsFrom s at)) + length (lineText recordsKey count) ≡ length (replayOf n s)
+  pub inside : sent ≤ length (replayOf n s)
+  pub rest : drop sent (replayOf n s) ≡ restText n s count t at
 
 -- all went: then it is so many
 pub all-sent : {most total : ℕ} {r : Sent} → SentOf most r → r ≡ All total → total ≡ most
@@ -85,65 +100,89 @@ module _ (n : ℕ) (s : List ℕ) (count : ℕ) where
       let b = opened s count e in
       let short = accepted s (recordsFrom s firstRecord) (b .records) .short in
       let few = records-inside s (recordsFrom s firstRecord) firstRecord (b .boundary) refl in
-      let text = textOf n (freshTable n) (recordsFrom s firstRecord) in
-      let whole : replayOf n s ≡ text ++ lineText recordsKey count = rw (b .records) (rw (b .many)) in
       record {
         boundary = b .boundary;
         good = good-fresh n;
         bounded = omega (arith, short, few);
-        rest = omega (arith, ap length whole, length-append text (lineText recordsKey count));
+        inside = omega arith;
+        rest = rw (b .records) (rw (b .many));
       }
 
   module _ {t : Table} {at sent : ℕ} (w : Sending n s count t at sent) where
-    -- one part more
-    pub sending-part :
-        {xs ys : List ℕ} {r : Progress} → PartFits n s at t xs ys r → length xs ≡ 65536 → need n ≤ 65536 → (at ≡ length s → ⊥) →
-        (length (recordsFrom s (r .at)) < length (recordsFrom s at)) × Sending n s count (r .table) (r .at) (sent + r .filled)
-    sending-part {xs} {ys} {r} p size room h = go (recordsFrom s at) refl
-      where
-        part : Part
-        part = partOf n (length xs) 0 t (recordsFrom s at)
+    module _ {xs ys : List ℕ} {r : Progress} (p : PartFits n s at t xs ys r) where
+      split : drop sent (replayOf n s) ≡ partText n s t at xs ++ restText n s count (r .table) (r .at)
+      split =
+          let join = parts-join n (length xs) 0 t (recordsFrom s at) .text in
+          let more : textOf n t (recordsFrom s at) ≡ partText n s t at xs ++ textOf n (r .table) (recordsFrom s (r .at)) =
+          rw (p .left, p .table) join in
+          w .rest ∙ rw (more, append-assoc)
 
-        go :
-            (rs : List Record) → recordsFrom s at ≡ rs →
-            (length (recordsFrom s (r .at)) < length (recordsFrom s at)) × Sending n s count (r .table) (r .at) (sent + r .filled)
-        go [] e = absurd (h (end-only s at (w .boundary) e))
-        go (q ∷ rs) e =
-            let on = part-goes-on n (length xs) t q rs (w .good) (omega arith) in
-            let less : length (recordsFrom s (r .at)) < length (recordsFrom s at) =
-            rw (p .left, e) (omega (arith, on)) in
-            let join = parts-join n (length xs) 0 t (recordsFrom s at) .text in
-            let more : textOf n t (recordsFrom s at) ≡ partOf n (length xs) 0 t (recordsFrom s at) .text ++ textOf n (r .table) (recordsFrom s (r .at)) =
-            rw (p .left, p .table) join in
-            let long = ap length more ∙ length-append (partOf n (length xs) 0 t (recordsFrom s at) .text) (textOf n (r .table) (recordsFrom s (r .at))) in (
-              less,
-              record {
-                boundary = p .boundary;
-                good = rw (p .table) (part-good n (length xs) t (recordsFrom s at) (w .good));
-                bounded = omega (arith, less, size, p .inside, w .bounded);
-                rest = omega (arith, long, p .filled, w .rest);
-              },
-            )
+      -- a part is what stands next in the text
+      pub part-next : StandsNext n s sent (r .filled) ys
+      part-next =
+          let text = partText n s t at xs in
+          let there = take-append-seam text (restText n s count (r .table) (r .at)) in
+          record { bytes = rw (p .filled) (begins-with xs text (p .text) ∙ sym (rw split there)) }
+
+      -- one part more
+      pub sending-part :
+          length xs ≡ 65536 → need n ≤ 65536 → (at ≡ length s → ⊥) →
+          (length (recordsFrom s (r .at)) < length (recordsFrom s at)) × Sending n s count (r .table) (r .at) (sent + r .filled)
+      sending-part size room h = go (recordsFrom s at) refl
+        where
+          go :
+              (rs : List Record) → recordsFrom s at ≡ rs →
+              (length (recordsFrom s (r .at)) < length (recordsFrom s at)) × Sending n s count (r .table) (r .at) (sent + r .filled)
+          go [] e = absurd (h (end-only s at (w .boundary) e))
+          go (q ∷ rs) e =
+              let on = part-goes-on n (length xs) t q rs (w .good) (omega arith) in
+              let less : length (recordsFrom s (r .at)) < length (recordsFrom s at) = rw (p .left, e) (omega (arith, on)) in
+              let text = partText n s t at xs in
+              let rest = restText n s count (r .table) (r .at) in
+              let long = sym (length-drop sent (replayOf n s)) ∙ ap length split ∙ length-append text rest in (
+                less,
+                record {
+                  boundary = p .boundary;
+                  good = rw (p .table) (part-good n (length xs) t (recordsFrom s at) (w .good));
+                  bounded = omega (arith, less, size, p .inside, w .bounded);
+                  inside = omega (arith, long, p .filled, w .inside);
+                  rest = sym (drop-drop (r .filled) sent (replayOf n s)) ∙ rw (p .filled, split) (drop-append-seam text rest);
+                },
+              )
 
     -- no record is left: the last line is
-    pub sending-over : at ≡ length s → sent + length (lineText recordsKey count) ≡ length (replayOf n s)
+    pub sending-over : at ≡ length s → drop sent (replayOf n s) ≡ lineText recordsKey count
     unfolding textOf
-    sending-over h = let none = none-left s at h in omega (arith, rw none at (w .rest))
+    sending-over h = w .rest ∙ rw (none-left s at h)
 
-    pub sending-most : sent ≤ length (replayOf n s)
-    sending-most = omega (arith, w .rest)
+    pub sending-whole : at ≡ length s → sent + length (lineText recordsKey count) ≡ length (replayOf n s)
+    sending-whole h = omega (arith, sym (length-drop sent (replayOf n s)) ∙ ap length (sending-over h), w .inside)
 
--- what was put at a buffer's start is inside it
+-- a text was put at a buffer's start
+pub record PutNext (t xs ys : List ℕ) (end : ℕ) : Type 0 where
+  pub size : end ≡ length t
+  pub inside : end ≤ length xs
+  pub text : take (length t) ys ≡ t
+
+-- and is what stands next
+pub put-next :
+    {n : ℕ} {s : List ℕ} {sent : ℕ} {t xs ys : List ℕ} {k : ℕ} → PutNext t xs ys k → drop sent (replayOf n s) ≡ t →
+    StandsNext n s sent k ys
+put-next {t = t} p e = record { bytes = rw (p .size, e) (p .text ∙ sym (take-length t)) }
+
 pub end-is :
     (count : ℕ) {xs ys : List ℕ} {r : Replayed} {end : ℕ} → EndFits count 0 xs ys r → r ≡ Written end →
-    (end ≡ length (lineText recordsKey count)) × (end ≤ length xs)
+    PutNext (lineText recordsKey count) xs ys end
+unfolding written
 end-is count {xs} {ys} {r} {end} f e = go (leb (0 + length (lineText recordsKey count)) (length xs)) refl
   where
-    go : (b : Bool) → leb (0 + length (lineText recordsKey count)) (length xs) ≡ b → (end ≡ length (lineText recordsKey count)) × (end ≤ length xs)
+    go : (b : Bool) → leb (0 + length (lineText recordsKey count)) (length xs) ≡ b → PutNext (lineText recordsKey count) xs ys end
     go true q =
         let h : Written end ≡ Written (0 + length (lineText recordsKey count)) = sym e ∙ (rw q at (f .says)) in
         let same : end ≡ 0 + length (lineText recordsKey count) = cc in
-        (omega (arith, same), omega (arith, same, leb-true (0 + length (lineText recordsKey count)) (length xs) q))
+        let fit = leb-true (0 + length (lineText recordsKey count)) (length xs) q in
+        let left : ys ≡ spliced xs 0 (lineText recordsKey count) = rw q at (f .text) in
+        record { size = omega (arith, same); inside = omega (arith, same, fit); text = begins-with xs (lineText recordsKey count) left }
     go false q =
         let h : Written end ≡ NoRoom 0 = sym e ∙ (rw q at (f .says)) in
         let z : _≡_ {A = ℕ} 0 1 = cc in
@@ -151,20 +190,31 @@ end-is count {xs} {ys} {r} {end} f e = go (leb (0 + length (lineText recordsKey 
 
 pub broken-is :
     (line : ℕ) {xs ys : List ℕ} {r : Replayed} {end : ℕ} → BrokenFits line xs ys r → r ≡ Written end → length ys ≡ length xs →
-    (end ≡ length (brokenText line)) × (end ≤ length xs)
+    PutNext (brokenText line) xs ys end
 broken-is line {xs} {ys} {r} {end} f e k = go (leb 33 (length xs)) refl
   where
-    go : (b : Bool) → leb 33 (length xs) ≡ b → (end ≡ length (brokenText line)) × (end ≤ length xs)
+    go : (b : Bool) → leb 33 (length xs) ≡ b → PutNext (brokenText line) xs ys end
     go true q =
         let h : Written end ≡ Written (length (brokenText line)) = sym e ∙ (rw q at (f .says)) in
         let same : end ≡ length (brokenText line) = cc in
-        let text : ys ≡ spliced xs 0 (brokenText line) = rw q at (f .text) in
-        (same, omega (arith, same, inside-of xs 0 (brokenText line) (omega arith) (ap length (sym text) ∙ k)))
+        let left : ys ≡ spliced xs 0 (brokenText line) = rw q at (f .text) in
+        let fit = inside-of xs 0 (brokenText line) (omega arith) (ap length (sym left) ∙ k) in
+        record { size = same; inside = omega (arith, same, fit); text = begins-with xs (brokenText line) left }
     go false q =
         let h : Written end ≡ NoRoom 0 = sym e ∙ (rw q at (f .says)) in
         let z : _≡_ {A = ℕ} 0 1 = cc in
         absurd (omega arith)
 
-pub broken-replay : (n : ℕ) (s : List ℕ) (line : ℕ) → reading s ≡ reads.Broken line → replayOf n s ≡ brokenText line
+broken-replay : (n : ℕ) (s : List ℕ) (line : ℕ) → reading s ≡ reads.Broken line → replayOf n s ≡ brokenText line
 unfolding reading replayOf
 broken-replay n s line e = rw (trace-breaks (traceOf s) line e)
+
+pub broken-next :
+    {n : ℕ} {s : List ℕ} {line : ℕ} {xs ys : List ℕ} {k : ℕ} → reading s ≡ reads.Broken line → PutNext (brokenText line) xs ys k →
+    StandsNext n s 0 k ys
+broken-next {n} {s} {line} e p = put-next p (broken-replay n s line e)
+
+pub broken-sent :
+    {n : ℕ} {s : List ℕ} {line : ℕ} {xs ys : List ℕ} {k : ℕ} {r : Sent} → reading s ≡ reads.Broken line →
+    PutNext (brokenText line) xs ys k → SentOf (0 + k) r → SentFits n s r
+broken-sent {n} {s} {line} e p h = record { went = rw (broken-replay n s line e, ← p .size) (rw zero-add at h) }

@@ -7,10 +7,9 @@ use trace::Reading;
 ghost use Prim.Native.Nat.{_+_, _≤_, _<_, _^_};
 ghost use mathlib.Core.Path.{_≡_};
 ghost use lib.ListN.{length};
-ghost use Rattle.trace.specs.declared.Reading.the-variants.{Whole};
+ghost use Rattle.trace.specs.declared.Reading.the-variants.{Whole, Broken};
 ghost use Rattle.trace.specs.Trace.{reading};
-ghost use Rattle.replay.specs.Replay.{brokenText};
-ghost use Rattle.replay.specs.Sent.{SentOf, SentFits};
+ghost use Rattle.replay.specs.Sent.{SentOf, SentFits, StandsNext};
 
 // How many bytes went: all of the text, or those before the first write that failed.
 pub enum Sent {
@@ -19,9 +18,11 @@ pub enum Sent {
 }
 
 // Writes the first `more` bytes of a buffer, after `sent` that went before.
-fn write_start(fd: i32, buf: &[u8], sent: usize, more: usize) -> Sent
+// It takes the trace so that the contract can say which bytes those are.
+fn write_next(s: &[u8], fd: i32, buf: &[u8], sent: usize, more: usize) -> Sent
     requires { ⌜ more ≤ length (now buf) ⌝ }
     requires { ⌜ sent + more < 2 ^ 64 ⌝ }
+    requires { do ⌜ StandsNext (← ⟦kinds::SLOTS⟧) (now s) sent more (now buf) ⌝ }
     ensures { λ r. ⌜ SentOf (sent + more) r ⌝ }
 {
     let went = io::write_all(fd, &buf[..more]);
@@ -33,13 +34,14 @@ fn write_start(fd: i32, buf: &[u8], sent: usize, more: usize) -> Sent
 }
 
 // Refusal 9 of a trace that breaks a rule.
-fn broken_to(line: usize, fd: i32) -> Sent
-    ensures { λ r. ⌜ SentOf (length (brokenText line)) r ⌝ }
+fn broken_to(s: &[u8], line: usize, fd: i32) -> Sent
+    requires { ⌜ reading (now s) ≡ Broken line ⌝ }
+    ensures { λ r. do ⌜ SentFits (← ⟦kinds::SLOTS⟧ .entry) (now (s .entry)) r ⌝ }
 {
     let mut buf = [0u8; 64];
     let said = put_broken(&mut buf, line);
     match said {
-        Replayed::Written(end) => write_start(fd, &buf, 0, end),
+        Replayed::Written(end) => write_next(s, fd, &buf, 0, end),
         Replayed::NoRoom(_) => Sent::Failed(0),
     }
 }
@@ -56,7 +58,7 @@ fn run_to(s: &[u8], count: usize, fd: i32) -> Sent
     let mut sent: usize = 0;
     while at != s.len() {
         let part = run_part(s, at, table, &mut buf);
-        let wrote = write_start(fd, &buf, sent, part.filled);
+        let wrote = write_next(s, fd, &buf, sent, part.filled);
         let Sent::All(total) = wrote else {
             return Sent::Failed(sent);
         };
@@ -66,7 +68,7 @@ fn run_to(s: &[u8], count: usize, fd: i32) -> Sent
     }
     let said = put_records(&mut buf, 0, count);
     match said {
-        Replayed::Written(end) => write_start(fd, &buf, sent, end),
+        Replayed::Written(end) => write_next(s, fd, &buf, sent, end),
         Replayed::NoRoom(_) => Sent::Failed(sent),
     }
 }
@@ -77,7 +79,7 @@ pub fn replay_to(s: &[u8], fd: i32) -> Sent
 {
     let reading = trace::read_trace(s);
     match reading {
-        Reading::Broken(line) => broken_to(line, fd),
+        Reading::Broken(line) => broken_to(s, line, fd),
         Reading::Whole(count) => run_to(s, count, fd),
     }
 }

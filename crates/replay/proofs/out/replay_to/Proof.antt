@@ -1,5 +1,4 @@
 use mathlib.Core.Path.{sym, _∙_}
-use Rattle.replay.proofs.Sending.{broken-replay}
 use borrow.Author.Needs.{needs}
 use Rattle.replay.proofs.out.replay_to.Statement.{statement}
 use Rattle.replay.proofs.out.replay_to.Tie as tie
@@ -11,7 +10,7 @@ enum-known-reading : tie.Need-enum-known-reading
 enum-known-reading c = search needs
 
 broken-to-requires : tie.Need-broken-to-requires
-broken-to-requires c κs = search needs
+broken-to-requires c κs = sym (c .before .before .before .read-trace .ensures) ∙ c .before .reading .given .1
 
 enum-known-reading-2 : tie.Need-enum-known-reading-2
 enum-known-reading-2 c = search needs
@@ -20,9 +19,7 @@ run-to-requires : tie.Need-run-to-requires
 run-to-requires c κs = sym (c .before .before .before .read-trace .ensures) ∙ c .before .reading2 .given .1
 
 returns : tie.Need-returns
-returns c =
-    let e = sym (c .before .before .before .before .read-trace .ensures) ∙ c .before .before .reading .given .1 in
-    rw (broken-replay _ _ _ e) (c .broken-to .ensures)
+returns c = search needs
 
 returns-2 : tie.Need-returns-2
 returns-2 c = search needs

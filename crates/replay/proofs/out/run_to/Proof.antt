@@ -3,7 +3,7 @@ use native.Mathlib.Omega.{arith}
 use lib.ListN.{length}
 use borrow.Author.Needs.{needs}
 use Rattle.trace.specs.Trace.{recordsFrom}
-use Rattle.replay.proofs.Sending.{Sending, from-fresh, to-fresh, all-sent, sending-start, sending-part, sending-over, sending-most, end-is}
+use Rattle.replay.proofs.Sending.{Sending, from-fresh, to-fresh, all-sent, sending-start, sending-part, sending-over, sending-whole, part-next, put-next, end-is}
 use Rattle.replay.proofs.out.run_to.Statement.{statement}
 use Rattle.replay.proofs.out.run_to.Tie as tie
 
@@ -35,18 +35,18 @@ slice-aggregate-run-part c = search needs
 run-part-requires : tie.Need-run-part-requires Inv-loop μ-loop
 run-part-requires c κs = search needs
 
-slice-aggregate-write-start : tie.Need-slice-aggregate-write-start Inv-loop μ-loop
-slice-aggregate-write-start c = search needs
+slice-aggregate-write-next : tie.Need-slice-aggregate-write-next Inv-loop μ-loop
+slice-aggregate-write-next c = search needs
 
-write-start-requires : tie.Need-write-start-requires Inv-loop μ-loop
-write-start-requires c κs =
+write-next-requires : tie.Need-write-next-requires Inv-loop μ-loop
+write-next-requires c κs =
     let l = c .before .before .before .before .before in
     let part = c .before .before .run-part in
     let w = from-fresh (l .before .before .fresh .ensures) (l .loop .inv .1) in
     let p = part .ensures (w .boundary) in
     let size = l .before .before .before .large-buffer .ensures in (
       omega (arith, p .inside, part .kept .1 .1 .1 .0),
-      omega (arith, p .inside, w .bounded, l .loop .inv .0, size),
+      (omega (arith, p .inside, w .bounded, l .loop .inv .0, size), part-next _ _ _ w p),
     )
 
 enum-known-wrote : tie.Need-enum-known-wrote Inv-loop μ-loop
@@ -58,7 +58,7 @@ enum-told c = search needs
 returns : tie.Need-returns Inv-loop μ-loop
 returns c =
     let l = c .before .before .before .before .before .before .before .before in
-    sending-most _ _ _ (from-fresh (l .before .before .fresh .ensures) (l .loop .inv .1))
+    record { went = from-fresh (l .before .before .fresh .ensures) (l .loop .inv .1) .inside }
 
 loop-less : tie.Need-loop-less Inv-loop μ-loop
 loop-less c =
@@ -78,7 +78,7 @@ loop-again c =
     let w = from-fresh fresh (l .loop .inv .1) in
     let size = l .loop .inv .0 ∙ sym (l .before .before .before .large-buffer .ensures) in
     let more = sending-part _ _ _ w (part .ensures (w .boundary)) size (omega arith) (c .before .before .before .before .before .before .before .before .before .loop-test .taken) in
-    let total = all-sent (c .before .before .before .before .write-start .ensures) (c .before .before .wrote .given .1) in
+    let total = all-sent (c .before .before .before .before .write-next .ensures) (c .before .before .wrote .given .1) in
     (part .kept .1 .1 .1 .0 ∙ l .loop .inv .0, to-fresh fresh (rw total (more .1)))
 
 slice-aggregate-put-records : tie.Need-slice-aggregate-put-records Inv-loop μ-loop
@@ -90,17 +90,18 @@ put-records-requires c κs = search needs
 enum-known-said : tie.Need-enum-known-said Inv-loop μ-loop
 enum-known-said c = search needs
 
-slice-aggregate-write-start-2 : tie.Need-slice-aggregate-write-start-2 Inv-loop μ-loop
-slice-aggregate-write-start-2 c = search needs
+slice-aggregate-write-next-2 : tie.Need-slice-aggregate-write-next-2 Inv-loop μ-loop
+slice-aggregate-write-next-2 c = search needs
 
-write-start-requires-2 : tie.Need-write-start-requires-2 Inv-loop μ-loop
-write-start-requires-2 c κs =
+write-next-requires-2 : tie.Need-write-next-requires-2 Inv-loop μ-loop
+write-next-requires-2 c κs =
     let l = c .before .before .before .before .before .before .before .before in
     let w = from-fresh (l .before .before .fresh .ensures) (l .loop .inv .1) in
     let put = c .before .before .before .before .before .put-records in
     let is = end-is _ (put .ensures) (c .before .before .said .given .1) in
     let size = l .loop .inv .0 ∙ sym (l .before .before .before .large-buffer .ensures) in
-    (omega (arith, is .1, put .kept .0), omega (arith, is .1, w .bounded, size))
+    let over = sending-over _ _ _ w (c .before .before .before .before .before .before .before .loop-test .left) in
+    (omega (arith, is .inside, put .kept .0), (omega (arith, is .inside, w .bounded, size), put-next is over))
 
 enum-told-2 : tie.Need-enum-told-2 Inv-loop μ-loop
 enum-told-2 c = search needs
@@ -110,13 +111,13 @@ returns-2 c =
     let l = c .before .before .before .before .before .before .before .before .before in
     let w = from-fresh (l .before .before .fresh .ensures) (l .loop .inv .1) in
     let is = end-is _ (c .before .before .before .before .before .before .put-records .ensures) (c .before .before .before .said .given .1) in
-    let over = sending-over _ _ _ w (c .before .before .before .before .before .before .before .before .loop-test .left) in
-    rw (← over, ← is .0) (c .write-start2 .ensures)
+    let over = sending-whole _ _ _ w (c .before .before .before .before .before .before .before .before .loop-test .left) in
+    record { went = rw (← over, ← is .size) (c .write-next2 .ensures) }
 
 returns-3 : tie.Need-returns-3 Inv-loop μ-loop
 returns-3 c =
     let l = c .before .before .before .before .before .before in
-    sending-most _ _ _ (from-fresh (l .before .before .fresh .ensures) (l .loop .inv .1))
+    record { went = from-fresh (l .before .before .fresh .ensures) (l .loop .inv .1) .inside }
 
 pub run-to-spec : {M : Type 1} → statement M
 run-to-spec =
@@ -130,8 +131,8 @@ run-to-spec =
     loop-holds
     slice-aggregate-run-part
     run-part-requires
-    slice-aggregate-write-start
-    write-start-requires
+    slice-aggregate-write-next
+    write-next-requires
     enum-known-wrote
     enum-told
     returns
@@ -140,8 +141,8 @@ run-to-spec =
     slice-aggregate-put-records
     put-records-requires
     enum-known-said
-    slice-aggregate-write-start-2
-    write-start-requires-2
+    slice-aggregate-write-next-2
+    write-next-requires-2
     enum-told-2
     returns-2
     returns-3)
