@@ -3,3 +3,5 @@ pub mod Ends
 pub mod Unique
 pub mod Whole
 pub mod Parts
+pub mod Room
+pub mod Sending

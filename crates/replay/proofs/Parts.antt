@@ -1,23 +1,28 @@
 -- Parts of a run, one after the other, are the run; and a replay that went in whole is what the trace prints.
-use Prim.Native.Nat.{ℕ, _+_}
+use Prim.Native.Nat.{ℕ, _+_, _≤_}
 use mathlib.Core.Path.{_≡_, refl, sym, ap, _∙_}
 use mathlib.Core.Bool.{Bool, true, false, cond}
 use mathlib.Core.List.{List, [], _∷_, _++_, append-assoc, append-nil}
 use native.Mathlib.Omega.{arith}
 use lib.Dec.{leb}
-use lib.ListN.{length}
+use lib.ListN.{length, length-append}
+use borrow.Author.Tests.{le-leb}
 use Rattle.rules.specs.declared.Table.{Table}
 use Rattle.rules.specs.Calls.{after, answer}
 use Rattle.rules.specs.Tables.{freshTable}
+use Rattle.rules.specs.Facts.{Good}
+use Rattle.rules.proofs.Moves.{good-fresh}
+use Rattle.rules.proofs.Steps.{good-after}
 use Rattle.text.specs.Keys.{recordsKey}
 use Rattle.text.specs.Line.{lineText}
 use Rattle.trace.specs.declared.Record.{Record}
 use Rattle.trace.specs.Trace.{Found, Records, Breaks, traceOf}
-use Rattle.render.specs.Output.{fits}
+use Rattle.render.specs.Output.{need, fits}
 use Rattle.step.specs.Named.{callOf, outputOf}
 use Rattle.replay.specs.Replay.{tableAfter, textOf, brokenText, replayBy, replayOf}
 use Rattle.replay.specs.Part.{Part, withText, partOf}
-use Rattle.replay.specs.Into.{whole, cut, intoEnd, intoBy, intoOf}
+use Rattle.replay.proofs.Room.{room-fits}
+use Rattle.replay.specs.Into.{whole, cut, textIn, intoEnd, intoBy, intoOf}
 
 -- what a part printed, and then what its table prints for the records it left, is what all the records print
 pub record Joins (n : ℕ) (t : Table) (rs : List Record) (p : Part) : Type 0 where
@@ -72,3 +77,70 @@ whole-is-replay n size s {text} e = go (traceOf s) e
     go (Records rs) h =
         let w = end-whole size (length rs) (partOf n size 0 (freshTable n) rs .left) (partOf n size 0 (freshTable n) rs .text) h in
         w .1 ∙ ap (λ (t : List ℕ). t ++ lineText recordsKey (length rs)) (part-whole n size (freshTable n) rs (w .0))
+
+-- and any replay into a buffer leaves a beginning of that text
+pub record Beginning (t whole : List ℕ) : Type 0 where
+  pub rest : List ℕ
+  pub joined : whole ≡ t ++ rest
+
+end-begins :
+    (n size count : ℕ) (rs : List Record) (p : Part) → Joins n (freshTable n) rs p →
+    Beginning (textIn (intoEnd size count (p .left) (p .text))) (textOf n (freshTable n) rs ++ lineText recordsKey count)
+unfolding textOf
+end-begins n size count rs p j = go (p .left) refl
+  where
+    more : Beginning (p .text) (textOf n (freshTable n) rs ++ lineText recordsKey count)
+    more = record { rest = textOf n (p .table) (p .left) ++ lineText recordsKey count; joined = rw (j .text, append-assoc) }
+
+    go :
+        (l : List Record) → p .left ≡ l →
+        Beginning (textIn (intoEnd size count l (p .text))) (textOf n (freshTable n) rs ++ lineText recordsKey count)
+    go (r ∷ ls) e = more
+    go [] e = ends (leb (length (p .text) + length (lineText recordsKey count)) size)
+      where
+        ends :
+            (b : Bool) →
+            Beginning (textIn (cond b (whole (p .text ++ lineText recordsKey count)) (cut (p .text))))
+            (textOf n (freshTable n) rs ++ lineText recordsKey count)
+        ends true = record { rest = []; joined = rw (j .text, e, append-nil, append-nil) }
+        ends false = more
+
+pub into-begins : (n size : ℕ) (s : List ℕ) → Beginning (textIn (intoOf n size s)) (replayOf n s)
+unfolding intoOf replayOf
+into-begins n size s = go (traceOf s)
+  where
+    broken : (b : Bool) (line : ℕ) → Beginning (textIn (cond b (whole (brokenText line)) (cut []))) (brokenText line)
+    broken true line = record { rest = []; joined = rw append-nil }
+    broken false line = record { rest = brokenText line; joined = refl }
+
+    go : (f : Found) → Beginning (textIn (intoBy n size f)) (replayBy n f)
+    go (Breaks line) = broken (leb 33 size) line
+    go (Records rs) =
+        end-begins n size (length rs) rs (partOf n size 0 (freshTable n) rs) (parts-join n size 0 (freshTable n) rs)
+
+-- with room for the whole text and for one record of the most ids, every record goes in
+all-fit :
+    (n size at : ℕ) (t : Table) (rs : List Record) → Good n t → at + length (textOf n t rs) + need n ≤ size →
+    partOf n size at t rs .left ≡ []
+unfolding partOf textOf
+all-fit n size at t [] g h = refl
+all-fit n size at t (r ∷ rs) g h =
+    let out = outputOf n t (callOf r) in
+    let next = after n t (callOf r) in
+    let long = length-append out (textOf n next rs) in
+    rw (room-fits n size at t (callOf r) g (omega arith))
+    (all-fit n size (at + length out) next rs (good-after n t (callOf r) g) (omega (arith, long)))
+
+pub room-is-whole : (n size : ℕ) (s : List ℕ) → length (replayOf n s) + need n ≤ size → intoOf n size s ≡ whole (replayOf n s)
+unfolding intoOf replayOf
+room-is-whole n size s = go (traceOf s)
+  where
+    go : (f : Found) → length (replayBy n f) + need n ≤ size → intoBy n size f ≡ whole (replayBy n f)
+    go (Breaks line) h = rw (le-leb 33 size (omega arith))
+    go (Records rs) h =
+        let text = textOf n (freshTable n) rs in
+        let line = lineText recordsKey (length rs) in
+        let long = length-append text line in
+        let none = all-fit n size 0 (freshTable n) rs (good-fresh n) (omega (arith, long)) in
+        let same = part-whole n size (freshTable n) rs none in
+        rw (none, same, le-leb (length text + length line) size (omega (arith, long)))

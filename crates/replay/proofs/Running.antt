@@ -24,7 +24,7 @@ use Rattle.replay.specs.Part.{withText, partOf, PartFits}
 use Rattle.step.specs.declared.Outcome.{Outcome}
 
 -- a text that leaves the length as it was ends inside
-inside-of : (xs : List ℕ) (at : ℕ) (t : List ℕ) → at ≤ length xs → length (spliced xs at t) ≡ length xs → at + length t ≤ length xs
+pub inside-of : (xs : List ℕ) (at : ℕ) (t : List ℕ) → at ≤ length xs → length (spliced xs at t) ≡ length xs → at + length t ≤ length xs
 unfolding spliced
 inside-of xs at t h e = omega (arith, simp (length-append, length-take, length-drop) at e)
 

@@ -1,3 +1,4 @@
 pub mod Replay
 pub mod Part
 pub mod Into
+pub mod Sent

@@ -5,5 +5,6 @@ mod part;
 
 pub use into::Replayed;
 pub use into::replay_into;
+pub use out::Sent;
 pub use out::replay_to;
 pub use trace::LONGEST;

@@ -4,51 +4,82 @@ use crate::into::put_broken;
 use crate::into::put_records;
 use crate::part::run_part;
 use trace::Reading;
+ghost use Prim.Native.Nat.{_+_, _≤_, _<_, _^_};
+ghost use mathlib.Core.Path.{_≡_};
+ghost use lib.ListN.{length};
+ghost use Rattle.trace.specs.declared.Reading.the-variants.{Whole, Broken};
+ghost use Rattle.trace.specs.Trace.{reading};
+ghost use Rattle.replay.specs.Sent.{SentOf, SentFits, StandsNext};
 
-// Writes the first `length` bytes of a buffer that has them.
-fn write_start(fd: i32, buf: &[u8], length: usize) {
-    if length <= buf.len() {
-        io::write_all(fd, &buf[..length]);
+// How many bytes went: all of the text, or those before the first write that failed.
+pub enum Sent {
+    All(usize),
+    Failed(usize),
+}
+
+// Writes the first `more` bytes of a buffer, after `sent` that went before.
+// It takes the trace so that the contract can say which bytes those are.
+fn write_next(s: &[u8], fd: i32, buf: &[u8], sent: usize, more: usize) -> Sent
+    requires { ⌜ more ≤ length (now buf) ⌝ }
+    requires { ⌜ sent + more < 2 ^ 64 ⌝ }
+    requires { do ⌜ StandsNext (← ⟦kinds::SLOTS⟧) (now s) sent more (now buf) ⌝ }
+    ensures { λ r. ⌜ SentOf (sent + more) r ⌝ }
+{
+    let went = io::write_all(fd, &buf[..more]);
+    if went {
+        Sent::All(sent + more)
+    } else {
+        Sent::Failed(sent)
     }
 }
 
-// Writes what a replay says that it put at the buffer's start.
-fn write_replayed(fd: i32, buf: &[u8], said: Replayed) {
+// Refusal 9 of a trace that breaks a rule.
+fn broken_to(s: &[u8], line: usize, fd: i32) -> Sent
+    requires { ⌜ reading (now s) ≡ Broken line ⌝ }
+    ensures { λ r. do ⌜ SentFits (← ⟦kinds::SLOTS⟧ .entry) (now (s .entry)) r ⌝ }
+{
+    let mut buf = [0u8; 64];
+    let said = put_broken(&mut buf, line);
     match said {
-        Replayed::Written(length) => write_start(fd, buf, length),
-        Replayed::NoRoom(length) => write_start(fd, buf, length),
+        Replayed::Written(end) => write_next(s, fd, &buf, 0, end),
+        Replayed::NoRoom(_) => Sent::Failed(0),
     }
 }
 
 // Runs the records of a trace that was read, a buffer's worth at a time, and says how many there are.
-fn run_to(s: &[u8], count: usize, fd: i32) {
+// It stops at the first write that fails: the output is then a beginning of the right one, without the last line.
+fn run_to(s: &[u8], count: usize, fd: i32) -> Sent
+    requires { ⌜ reading (now s) ≡ Whole count ⌝ }
+    ensures { λ r. do ⌜ SentFits (← ⟦kinds::SLOTS⟧ .entry) (now (s .entry)) r ⌝ }
+{
     let mut buf = io::large_buffer();
     let mut table = table::fresh();
     let mut at = trace::first_record();
-    while at < s.len() {
+    let mut sent: usize = 0;
+    while at != s.len() {
         let part = run_part(s, at, table, &mut buf);
-        write_start(fd, &buf, part.filled);
-        // A record always has room in an empty buffer, so a part always goes on.
-        let next = part.at;
-        if next <= at {
-            return;
-        }
-        at = next;
+        let wrote = write_next(s, fd, &buf, sent, part.filled);
+        let Sent::All(total) = wrote else {
+            return Sent::Failed(sent);
+        };
+        sent = total;
+        at = part.at;
         table = part.table;
     }
-    let end = put_records(&mut buf, 0, count);
-    write_replayed(fd, &buf, end);
+    let said = put_records(&mut buf, 0, count);
+    match said {
+        Replayed::Written(end) => write_next(s, fd, &buf, sent, end),
+        Replayed::NoRoom(_) => Sent::Failed(sent),
+    }
 }
 
 // The text that a trace prints, to a file descriptor.
-pub fn replay_to(s: &[u8], fd: i32) {
+pub fn replay_to(s: &[u8], fd: i32) -> Sent
+    ensures { λ r. do ⌜ SentFits (← ⟦kinds::SLOTS⟧ .entry) (now (s .entry)) r ⌝ }
+{
     let reading = trace::read_trace(s);
     match reading {
-        Reading::Broken(line) => {
-            let mut buf = [0u8; 64];
-            let said = put_broken(&mut buf, line);
-            write_replayed(fd, &buf, said);
-        }
+        Reading::Broken(line) => broken_to(s, line, fd),
         Reading::Whole(count) => run_to(s, count, fd),
     }
 }

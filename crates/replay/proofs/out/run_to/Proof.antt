@@ -1,15 +1,18 @@
-use Prim.Native.Nat.{_-_}
-use mathlib.Core.Path.{_≡_}
+use mathlib.Core.Path.{_≡_, refl, sym, _∙_}
+use native.Mathlib.Omega.{arith}
 use lib.ListN.{length}
 use borrow.Author.Needs.{needs}
+use Rattle.trace.specs.Trace.{recordsFrom}
+use Rattle.replay.proofs.Sending.{Sending, from-fresh, to-fresh, all-sent, sending-start, sending-part, sending-over, sending-whole, part-next, put-next, end-is}
 use Rattle.replay.proofs.out.run_to.Statement.{statement}
 use Rattle.replay.proofs.out.run_to.Tie as tie
 
 abbrev Inv-loop : tie.InvT-loop
-Inv-loop s count fd buf₀ table₀ at₀ buf table at = length buf ≡ length buf₀
+Inv-loop s count fd buf₀ table₀ at₀ sent₀ buf table at sent =
+    (length buf ≡ length buf₀) × Sending (length (table₀ .txids)) s count table at sent
 
 abbrev μ-loop : tie.MeasureT-loop
-μ-loop s count fd buf₀ table₀ at₀ buf table at = length s - at
+μ-loop s count fd buf₀ table₀ at₀ sent₀ buf table at sent = length (recordsFrom s at)
 
 large-buffer-requires : tie.Need-large-buffer-requires Inv-loop μ-loop
 large-buffer-requires c κs = search needs
@@ -21,7 +24,10 @@ first-record-requires : tie.Need-first-record-requires Inv-loop μ-loop
 first-record-requires c κs = search needs
 
 loop-holds : tie.Need-loop-holds Inv-loop μ-loop
-loop-holds c = search needs
+loop-holds c =
+    let first = c .first-record .ensures in
+    let fresh = c .before .fresh .ensures in
+    (refl, to-fresh fresh (rw (first, fresh) (sending-start _ _ _ (c .before .before .before .before .pre))))
 
 slice-aggregate-run-part : tie.Need-slice-aggregate-run-part Inv-loop μ-loop
 slice-aggregate-run-part c = search needs
@@ -29,20 +35,51 @@ slice-aggregate-run-part c = search needs
 run-part-requires : tie.Need-run-part-requires Inv-loop μ-loop
 run-part-requires c κs = search needs
 
-slice-aggregate-write-start : tie.Need-slice-aggregate-write-start Inv-loop μ-loop
-slice-aggregate-write-start c = search needs
+slice-aggregate-write-next : tie.Need-slice-aggregate-write-next Inv-loop μ-loop
+slice-aggregate-write-next c = search needs
 
-write-start-requires : tie.Need-write-start-requires Inv-loop μ-loop
-write-start-requires c κs = search needs
+write-next-requires : tie.Need-write-next-requires Inv-loop μ-loop
+write-next-requires c κs =
+    let l = c .before .before .before .before .before in
+    let part = c .before .before .run-part in
+    let w = from-fresh (l .before .before .fresh .ensures) (l .loop .inv .1) in
+    let p = part .ensures (w .boundary) in
+    let size = l .before .before .before .large-buffer .ensures in (
+      omega (arith, p .inside, part .kept .1 .1 .1 .0),
+      (omega (arith, p .inside, w .bounded, l .loop .inv .0, size), part-next _ _ _ w p),
+    )
+
+enum-known-wrote : tie.Need-enum-known-wrote Inv-loop μ-loop
+enum-known-wrote c = search needs
+
+enum-told : tie.Need-enum-told Inv-loop μ-loop
+enum-told c = search needs
 
 returns : tie.Need-returns Inv-loop μ-loop
-returns c = search needs
+returns c =
+    let l = c .before .before .before .before .before .before .before .before in
+    record { went = from-fresh (l .before .before .fresh .ensures) (l .loop .inv .1) .inside }
 
 loop-less : tie.Need-loop-less Inv-loop μ-loop
-loop-less c = search needs
+loop-less c =
+    let l = c .before .before .before .before .before .before .before .before .before .before in
+    let part = c .before .before .before .before .before .before .before .run-part in
+    let fresh = l .before .before .fresh .ensures in
+    let w = from-fresh fresh (l .loop .inv .1) in
+    let size = l .loop .inv .0 ∙ sym (l .before .before .before .large-buffer .ensures) in
+    let more = sending-part _ _ _ w (part .ensures (w .boundary)) size (omega arith) (c .before .before .before .before .before .before .before .before .before .loop-test .taken) in
+    more .0
 
 loop-again : tie.Need-loop-again Inv-loop μ-loop
-loop-again c = search needs
+loop-again c =
+    let l = c .before .before .before .before .before .before .before .before .before .before in
+    let part = c .before .before .before .before .before .before .before .run-part in
+    let fresh = l .before .before .fresh .ensures in
+    let w = from-fresh fresh (l .loop .inv .1) in
+    let size = l .loop .inv .0 ∙ sym (l .before .before .before .large-buffer .ensures) in
+    let more = sending-part _ _ _ w (part .ensures (w .boundary)) size (omega arith) (c .before .before .before .before .before .before .before .before .before .loop-test .taken) in
+    let total = all-sent (c .before .before .before .before .write-next .ensures) (c .before .before .wrote .given .1) in
+    (part .kept .1 .1 .1 .0 ∙ l .loop .inv .0, to-fresh fresh (rw total (more .1)))
 
 slice-aggregate-put-records : tie.Need-slice-aggregate-put-records Inv-loop μ-loop
 slice-aggregate-put-records c = search needs
@@ -50,14 +87,37 @@ slice-aggregate-put-records c = search needs
 put-records-requires : tie.Need-put-records-requires Inv-loop μ-loop
 put-records-requires c κs = search needs
 
-slice-aggregate-write-replayed : tie.Need-slice-aggregate-write-replayed Inv-loop μ-loop
-slice-aggregate-write-replayed c = search needs
+enum-known-said : tie.Need-enum-known-said Inv-loop μ-loop
+enum-known-said c = search needs
 
-write-replayed-requires : tie.Need-write-replayed-requires Inv-loop μ-loop
-write-replayed-requires c κs = search needs
+slice-aggregate-write-next-2 : tie.Need-slice-aggregate-write-next-2 Inv-loop μ-loop
+slice-aggregate-write-next-2 c = search needs
+
+write-next-requires-2 : tie.Need-write-next-requires-2 Inv-loop μ-loop
+write-next-requires-2 c κs =
+    let l = c .before .before .before .before .before .before .before .before in
+    let w = from-fresh (l .before .before .fresh .ensures) (l .loop .inv .1) in
+    let put = c .before .before .before .before .before .put-records in
+    let is = end-is _ (put .ensures) (c .before .before .said .given .1) in
+    let size = l .loop .inv .0 ∙ sym (l .before .before .before .large-buffer .ensures) in
+    let over = sending-over _ _ _ w (c .before .before .before .before .before .before .before .loop-test .left) in
+    (omega (arith, is .inside, put .kept .0), (omega (arith, is .inside, w .bounded, size), put-next is over))
+
+enum-told-2 : tie.Need-enum-told-2 Inv-loop μ-loop
+enum-told-2 c = search needs
 
 returns-2 : tie.Need-returns-2 Inv-loop μ-loop
-returns-2 c = search needs
+returns-2 c =
+    let l = c .before .before .before .before .before .before .before .before .before in
+    let w = from-fresh (l .before .before .fresh .ensures) (l .loop .inv .1) in
+    let is = end-is _ (c .before .before .before .before .before .before .put-records .ensures) (c .before .before .before .said .given .1) in
+    let over = sending-whole _ _ _ w (c .before .before .before .before .before .before .before .before .loop-test .left) in
+    record { went = rw (← over, ← is .size) (c .write-next2 .ensures) }
+
+returns-3 : tie.Need-returns-3 Inv-loop μ-loop
+returns-3 c =
+    let l = c .before .before .before .before .before .before in
+    record { went = from-fresh (l .before .before .fresh .ensures) (l .loop .inv .1) .inside }
 
 pub run-to-spec : {M : Type 1} → statement M
 run-to-spec =
@@ -71,13 +131,18 @@ run-to-spec =
     loop-holds
     slice-aggregate-run-part
     run-part-requires
-    slice-aggregate-write-start
-    write-start-requires
+    slice-aggregate-write-next
+    write-next-requires
+    enum-known-wrote
+    enum-told
     returns
     loop-less
     loop-again
     slice-aggregate-put-records
     put-records-requires
-    slice-aggregate-write-replayed
-    write-replayed-requires
-    returns-2)
+    enum-known-said
+    slice-aggregate-write-next-2
+    write-next-requires-2
+    enum-told-2
+    returns-2
+    returns-3)

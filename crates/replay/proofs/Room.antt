@@ -1,0 +1,80 @@
+-- A record has room where a full table's ids would have it, so a part of a run in an empty buffer goes on.
+use Prim.Native.Nat.{ℕ, _+_, _-_, _≤_}
+use mathlib.Core.Path.{_≡_, refl}
+use mathlib.Core.Bool.{Bool, true, false, cond}
+use mathlib.Core.List.{List, [], _∷_}
+use native.Mathlib.Omega.{arith}
+use lib.ListN.{length}
+use borrow.Author.Tests.{le-leb}
+use Rattle.kinds.specs.declared.refusal.Verdict.{Verdict}
+use Rattle.kinds.specs.declared.refusal.Verdict.the-variants.{Pass, Refuse}
+use Rattle.rules.specs.declared.Table.{Table}
+use Rattle.rules.specs.Calls.{Call, begin, end, snap, own, oldest, vacuum, stamp, finish, refusal, after, answerAccepted, answerBy, answer}
+use Rattle.rules.specs.Facts.{Good}
+use Rattle.rules.proofs.Tallies.{active-length}
+use Rattle.rules.proofs.Steps.{good-after}
+use Rattle.trace.specs.declared.Record.{Record}
+use Rattle.render.specs.Output.{need, fits}
+use Rattle.step.specs.Named.{callOf, outputOf}
+use Rattle.replay.specs.Part.{Part, withText, partOf}
+
+-- an answer lists no more ids than the table has slots
+accepted-few : (t : Table) (c : Call) → length (answerAccepted t c .ids) ≤ length (t .txids)
+unfolding answerAccepted
+accepted-few t (begin number) = omega arith
+accepted-few t (end slot id) = omega arith
+accepted-few t (snap clock sample) = active-length (t .txids)
+accepted-few t (own slot id clock sample) = active-length (t .txids)
+accepted-few t (oldest clock sample) = omega arith
+accepted-few t (vacuum clock sample) = omega arith
+accepted-few t (stamp number) = omega arith
+accepted-few t (finish slot id number) = omega arith
+
+answer-few : (n : ℕ) (t : Table) (c : Call) → length (answer n t c .ids) ≤ length (t .txids)
+unfolding answer
+answer-few n t c = go (refusal n t c)
+  where
+    go : (v : Verdict) → length (answerBy v t c .ids) ≤ length (t .txids)
+    go Pass = accepted-few t c
+    go (Refuse r) = omega arith
+
+pub room-fits :
+    (n size at : ℕ) (t : Table) (c : Call) → Good n t → at + need n ≤ size → fits n size at (length (answer n t c .ids)) ≡ true
+room-fits n size at t c g h =
+    let many = length (answer n t c .ids) in
+    let few : many ≤ n = omega (arith, answer-few n t c, g .txid-column) in
+    let room : need many ≤ size - at = omega arith in
+    rw (le-leb many n few, le-leb (need many) (size - at) room)
+
+module _ (n size : ℕ) where
+  -- a part leaves no more records than there were, and a table with the facts of the check
+  record Left (rs : List Record) (p : Part) : Type 0 where
+    few : length (p .left) ≤ length rs
+    good : Good n (p .table)
+
+  part-left : (at : ℕ) (t : Table) (rs : List Record) → Good n t → Left rs (partOf n size at t rs)
+  unfolding partOf
+  part-left at t [] g = record { few = omega arith; good = g }
+  part-left at t (r ∷ rs) g =
+      go (fits n size at (length (answer n t (callOf r) .ids)))
+      (part-left (at + length (outputOf n t (callOf r))) (after n t (callOf r)) rs (good-after n t (callOf r) g))
+    where
+      go :
+          (b : Bool) → Left rs (partOf n size (at + length (outputOf n t (callOf r))) (after n t (callOf r)) rs) →
+          Left (r ∷ rs)
+          (cond b
+          (withText (outputOf n t (callOf r)) (partOf n size (at + length (outputOf n t (callOf r))) (after n t (callOf r)) rs))
+          (record { text = []; table = t; left = r ∷ rs }))
+      go true l = record { few = omega (arith, l .few); good = l .good }
+      go false l = record { few = omega arith; good = g }
+
+  pub part-good : (t : Table) (rs : List Record) → Good n t → Good n (partOf n size 0 t rs .table)
+  part-good t rs g = part-left 0 t rs g .good
+
+  -- and fewer from an empty buffer
+  pub part-goes-on :
+      (t : Table) (r : Record) (rs : List Record) → Good n t → need n ≤ size → length (partOf n size 0 t (r ∷ rs) .left) ≤ length rs
+  unfolding partOf
+  part-goes-on t r rs g h =
+      rw (room-fits n size 0 t (callOf r) g (omega arith))
+      (part-left (0 + length (outputOf n t (callOf r))) (after n t (callOf r)) rs (good-after n t (callOf r) g) .few)

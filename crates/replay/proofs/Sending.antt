@@ -1,0 +1,220 @@
+-- Where a run to a file descriptor stands: what went and what is still to come are the whole text.
+use Prim.Native.Nat.{ℕ, _+_, _*_, _≤_, _<_, _^_}
+use mathlib.Core.Path.{_≡_, refl, sym, ap, _∙_}
+use mathlib.Core.Bool.{Bool, true, false}
+use mathlib.Core.List.{List, [], _∷_, _++_, append-assoc}
+use native.Mathlib.Nat.{zero-add}
+use native.Mathlib.Omega.{arith}
+use lib.Dec.{leb}
+use lib.ListN.{length, take, drop, length-append, length-drop}
+use lib.Seq.{take-length, take-append-seam, drop-append-seam, drop-drop}
+use borrow.Author.Tests.{leb-true}
+use Rattle.rules.specs.declared.Table.{Table}
+use Rattle.rules.specs.Tables.{freshTable}
+use Rattle.rules.specs.Facts.{Good}
+use Rattle.rules.proofs.Moves.{good-fresh}
+use Rattle.text.specs.Keys.{recordsKey}
+use Rattle.text.specs.Line.{lineText}
+use Rattle.text.specs.Write.{spliced, written}
+use Rattle.trace.specs.declared.Record.{Record}
+use Rattle.trace.specs.declared.Reading.the-variants as reads
+use Rattle.trace.specs.Trace.{Breaks, traceOf, reading, recordsFrom, firstRecord, Boundary}
+use Rattle.trace.proofs.Grammar.{accepted, opened}
+use Rattle.trace.proofs.Refusal.{trace-breaks}
+use Rattle.trace.proofs.Walk.{At, ended, broke, went, look, no-records}
+use Rattle.trace.proofs.Loop.{next-record, none-left, end-only}
+use Rattle.render.specs.Output.{need}
+use Rattle.replay.specs.Replay.{textOf, brokenText, replayOf}
+use Rattle.replay.specs.Part.{partOf, PartFits}
+use Rattle.replay.specs.Into.{BrokenFits, EndFits}
+use Rattle.replay.specs.declared.into.Replayed.{Replayed}
+use Rattle.replay.specs.declared.into.Replayed.the-variants.{Written, NoRoom}
+use Rattle.replay.specs.declared.out.Sent.{Sent}
+use Rattle.replay.specs.declared.out.Sent.the-variants.{All}
+use Rattle.replay.specs.declared.part.Progress.{Progress}
+use Rattle.replay.specs.Sent.{SentOf, SentFits, StandsNext}
+use Rattle.replay.proofs.Parts.{parts-join}
+use Rattle.replay.proofs.Room.{part-good, part-goes-on}
+use Rattle.replay.proofs.Running.{inside-of}
+
+-- no more records are left than bytes
+records-inside : (s : List ℕ) (rs : List Record) (at : ℕ) → Boundary s at → recordsFrom s at ≡ rs → at + length rs ≤ length s
+records-inside s [] at h e = omega (arith, end-only s at h e)
+records-inside s (r ∷ rs) at h e = go (look s at 0) (records-inside s rs)
+  where
+    go : At s at 0 → ((i : ℕ) → Boundary s i → recordsFrom s i ≡ rs → i + length rs ≤ length s) → at + length (r ∷ rs) ≤ length s
+    go (ended p f) ih =
+        let none = none-left s at p in
+        let z : _≡_ {A = ℕ} 0 1 = cc in
+        absurd (omega arith)
+    go (broke k q f) ih = absurd (no-records (0 + k) (recordsFrom s at) (sym f ∙ h))
+    go (went q i x f) ih =
+        let m = next-record s at q i h x in
+        let first = m .first in
+        let same : recordsFrom s i ≡ rs = cc in
+        omega (arith, ih i (m .again) same, m .further)
+
+-- what a part prints, and what is to come after it
+abbrev partText : ℕ → List ℕ → Table → ℕ → List ℕ → List ℕ
+partText n s t at xs = partOf n (length xs) 0 t (recordsFrom s at) .text
+
+abbrev restText : ℕ → List ℕ → ℕ → Table → ℕ → List ℕ
+restText n s count t at = textOf n t (recordsFrom s at) ++ lineText recordsKey count
+
+-- a buffer with a text put at its start begins with it
+begins-with : (xs t : List ℕ) {ys : List ℕ} → ys ≡ spliced xs 0 t → take (length t) ys ≡ t
+unfolding spliced
+begins-with xs t e = rw e (take-append-seam t (drop (0 + length t) xs))
+
+pub record Sending (n : ℕ) (s : List ℕ) (count : ℕ) (t : Table) (at sent : ℕ) : Type 0 where
+  pub boundary : Boundary s at
+  pub good : Good n t
+  -- a part is at most a buffer's worth, so the count stays a machine number
+  pub bounded : sent + 65536 * length (recordsFrom s at) ≤ 65536 * 65536
+  pub inside : sent ≤ length (replayOf n s)
+  pub rest : drop sent (replayOf n s) ≡ restText n s count t at
+
+-- all went: then it is so many
+pub all-sent : {most total : ℕ} {r : Sent} → SentOf most r → r ≡ All total → total ≡ most
+all-sent h e = rw e at h
+
+-- the slots of the table that a run begins with
+pub from-fresh :
+    {n : ℕ} {t₀ : Table} {s : List ℕ} {count : ℕ} {t : Table} {at sent : ℕ} → t₀ ≡ freshTable n →
+    Sending (length (t₀ .txids)) s count t at sent → Sending n s count t at sent
+from-fresh {n} {t₀} e w =
+    let size = ap (λ (t : Table). length (t .txids)) e ∙ good-fresh n .txid-column in
+    rw size at w
+
+pub to-fresh :
+    {n : ℕ} {t₀ : Table} {s : List ℕ} {count : ℕ} {t : Table} {at sent : ℕ} → t₀ ≡ freshTable n → Sending n s count t at sent →
+    Sending (length (t₀ .txids)) s count t at sent
+to-fresh {n} {t₀} e w =
+    let size = ap (λ (t : Table). length (t .txids)) e ∙ good-fresh n .txid-column in
+    rw size w
+
+module _ (n : ℕ) (s : List ℕ) (count : ℕ) where
+  pub sending-start : reading s ≡ reads.Whole count → Sending n s count (freshTable n) firstRecord 0
+  unfolding replayOf
+  sending-start e =
+      let b = opened s count e in
+      let short = accepted s (recordsFrom s firstRecord) (b .records) .short in
+      let few = records-inside s (recordsFrom s firstRecord) firstRecord (b .boundary) refl in
+      record {
+        boundary = b .boundary;
+        good = good-fresh n;
+        bounded = omega (arith, short, few);
+        inside = omega arith;
+        rest = rw (b .records) (rw (b .many));
+      }
+
+  module _ {t : Table} {at sent : ℕ} (w : Sending n s count t at sent) where
+    module _ {xs ys : List ℕ} {r : Progress} (p : PartFits n s at t xs ys r) where
+      split : drop sent (replayOf n s) ≡ partText n s t at xs ++ restText n s count (r .table) (r .at)
+      split =
+          let join = parts-join n (length xs) 0 t (recordsFrom s at) .text in
+          let more : textOf n t (recordsFrom s at) ≡ partText n s t at xs ++ textOf n (r .table) (recordsFrom s (r .at)) =
+          rw (p .left, p .table) join in
+          w .rest ∙ rw (more, append-assoc)
+
+      -- a part is what stands next in the text
+      pub part-next : StandsNext n s sent (r .filled) ys
+      part-next =
+          let text = partText n s t at xs in
+          let there = take-append-seam text (restText n s count (r .table) (r .at)) in
+          record { bytes = rw (p .filled) (begins-with xs text (p .text) ∙ sym (rw split there)) }
+
+      -- one part more
+      pub sending-part :
+          length xs ≡ 65536 → need n ≤ 65536 → (at ≡ length s → ⊥) →
+          (length (recordsFrom s (r .at)) < length (recordsFrom s at)) × Sending n s count (r .table) (r .at) (sent + r .filled)
+      sending-part size room h = go (recordsFrom s at) refl
+        where
+          go :
+              (rs : List Record) → recordsFrom s at ≡ rs →
+              (length (recordsFrom s (r .at)) < length (recordsFrom s at)) × Sending n s count (r .table) (r .at) (sent + r .filled)
+          go [] e = absurd (h (end-only s at (w .boundary) e))
+          go (q ∷ rs) e =
+              let on = part-goes-on n (length xs) t q rs (w .good) (omega arith) in
+              let less : length (recordsFrom s (r .at)) < length (recordsFrom s at) = rw (p .left, e) (omega (arith, on)) in
+              let text = partText n s t at xs in
+              let rest = restText n s count (r .table) (r .at) in
+              let long = sym (length-drop sent (replayOf n s)) ∙ ap length split ∙ length-append text rest in (
+                less,
+                record {
+                  boundary = p .boundary;
+                  good = rw (p .table) (part-good n (length xs) t (recordsFrom s at) (w .good));
+                  bounded = omega (arith, less, size, p .inside, w .bounded);
+                  inside = omega (arith, long, p .filled, w .inside);
+                  rest = sym (drop-drop (r .filled) sent (replayOf n s)) ∙ rw (p .filled, split) (drop-append-seam text rest);
+                },
+              )
+
+    -- no record is left: the last line is
+    pub sending-over : at ≡ length s → drop sent (replayOf n s) ≡ lineText recordsKey count
+    unfolding textOf
+    sending-over h = w .rest ∙ rw (none-left s at h)
+
+    pub sending-whole : at ≡ length s → sent + length (lineText recordsKey count) ≡ length (replayOf n s)
+    sending-whole h = omega (arith, sym (length-drop sent (replayOf n s)) ∙ ap length (sending-over h), w .inside)
+
+-- a text was put at a buffer's start
+pub record PutNext (t xs ys : List ℕ) (end : ℕ) : Type 0 where
+  pub size : end ≡ length t
+  pub inside : end ≤ length xs
+  pub text : take (length t) ys ≡ t
+
+-- and is what stands next
+pub put-next :
+    {n : ℕ} {s : List ℕ} {sent : ℕ} {t xs ys : List ℕ} {k : ℕ} → PutNext t xs ys k → drop sent (replayOf n s) ≡ t →
+    StandsNext n s sent k ys
+put-next {t = t} p e = record { bytes = rw (p .size, e) (p .text ∙ sym (take-length t)) }
+
+pub end-is :
+    (count : ℕ) {xs ys : List ℕ} {r : Replayed} {end : ℕ} → EndFits count 0 xs ys r → r ≡ Written end →
+    PutNext (lineText recordsKey count) xs ys end
+unfolding written
+end-is count {xs} {ys} {r} {end} f e = go (leb (0 + length (lineText recordsKey count)) (length xs)) refl
+  where
+    go : (b : Bool) → leb (0 + length (lineText recordsKey count)) (length xs) ≡ b → PutNext (lineText recordsKey count) xs ys end
+    go true q =
+        let h : Written end ≡ Written (0 + length (lineText recordsKey count)) = sym e ∙ (rw q at (f .says)) in
+        let same : end ≡ 0 + length (lineText recordsKey count) = cc in
+        let fit = leb-true (0 + length (lineText recordsKey count)) (length xs) q in
+        let left : ys ≡ spliced xs 0 (lineText recordsKey count) = rw q at (f .text) in
+        record { size = omega (arith, same); inside = omega (arith, same, fit); text = begins-with xs (lineText recordsKey count) left }
+    go false q =
+        let h : Written end ≡ NoRoom 0 = sym e ∙ (rw q at (f .says)) in
+        let z : _≡_ {A = ℕ} 0 1 = cc in
+        absurd (omega arith)
+
+pub broken-is :
+    (line : ℕ) {xs ys : List ℕ} {r : Replayed} {end : ℕ} → BrokenFits line xs ys r → r ≡ Written end → length ys ≡ length xs →
+    PutNext (brokenText line) xs ys end
+broken-is line {xs} {ys} {r} {end} f e k = go (leb 33 (length xs)) refl
+  where
+    go : (b : Bool) → leb 33 (length xs) ≡ b → PutNext (brokenText line) xs ys end
+    go true q =
+        let h : Written end ≡ Written (length (brokenText line)) = sym e ∙ (rw q at (f .says)) in
+        let same : end ≡ length (brokenText line) = cc in
+        let left : ys ≡ spliced xs 0 (brokenText line) = rw q at (f .text) in
+        let fit = inside-of xs 0 (brokenText line) (omega arith) (ap length (sym left) ∙ k) in
+        record { size = same; inside = omega (arith, same, fit); text = begins-with xs (brokenText line) left }
+    go false q =
+        let h : Written end ≡ NoRoom 0 = sym e ∙ (rw q at (f .says)) in
+        let z : _≡_ {A = ℕ} 0 1 = cc in
+        absurd (omega arith)
+
+broken-replay : (n : ℕ) (s : List ℕ) (line : ℕ) → reading s ≡ reads.Broken line → replayOf n s ≡ brokenText line
+unfolding reading replayOf
+broken-replay n s line e = rw (trace-breaks (traceOf s) line e)
+
+pub broken-next :
+    {n : ℕ} {s : List ℕ} {line : ℕ} {xs ys : List ℕ} {k : ℕ} → reading s ≡ reads.Broken line → PutNext (brokenText line) xs ys k →
+    StandsNext n s 0 k ys
+broken-next {n} {s} {line} e p = put-next p (broken-replay n s line e)
+
+pub broken-sent :
+    {n : ℕ} {s : List ℕ} {line : ℕ} {xs ys : List ℕ} {k : ℕ} {r : Sent} → reading s ≡ reads.Broken line →
+    PutNext (brokenText line) xs ys k → SentOf (0 + k) r → SentFits n s r
+broken-sent {n} {s} {line} e p h = record { went = rw (broken-replay n s line e, ← p .size) (rw zero-add at h) }

@@ -1,0 +1,37 @@
+use mathlib.Core.Path.{sym, _∙_}
+use borrow.Author.Needs.{needs}
+use Rattle.replay.proofs.out.replay_to.Statement.{statement}
+use Rattle.replay.proofs.out.replay_to.Tie as tie
+
+read-trace-requires : tie.Need-read-trace-requires
+read-trace-requires c κs = search needs
+
+enum-known-reading : tie.Need-enum-known-reading
+enum-known-reading c = search needs
+
+broken-to-requires : tie.Need-broken-to-requires
+broken-to-requires c κs = sym (c .before .before .before .read-trace .ensures) ∙ c .before .reading .given .1
+
+enum-known-reading-2 : tie.Need-enum-known-reading-2
+enum-known-reading-2 c = search needs
+
+run-to-requires : tie.Need-run-to-requires
+run-to-requires c κs = sym (c .before .before .before .read-trace .ensures) ∙ c .before .reading2 .given .1
+
+returns : tie.Need-returns
+returns c = search needs
+
+returns-2 : tie.Need-returns-2
+returns-2 c = search needs
+
+pub replay-to-spec : {M : Type 1} → statement M
+replay-to-spec =
+    tie.close
+    (tie.spec
+    read-trace-requires
+    enum-known-reading
+    broken-to-requires
+    enum-known-reading-2
+    run-to-requires
+    returns
+    returns-2)
