@@ -12,7 +12,7 @@ use Rattle.rules.specs.Calls.{after, answer}
 use Rattle.rules.specs.Tables.{freshTable}
 use Rattle.rules.specs.Facts.{Good}
 use Rattle.rules.proofs.Moves.{good-fresh}
-use Rattle.rules.proofs.Steps.{good-after}
+use Rattle.rules.proofs.Facts.{good-after}
 use Rattle.text.specs.Keys.{recordsKey}
 use Rattle.text.specs.Line.{lineText}
 use Rattle.trace.specs.declared.Record.{Record}

@@ -10,7 +10,7 @@ use Rattle.kinds.specs.declared.refusal.Verdict.the-variants.{Pass, Refuse}
 use Rattle.settled.specs.Snapshots.{noSnapshot}
 use Rattle.rules.specs.Tally.{active, snapshotOf}
 use Rattle.rules.specs.Tests.{observationTest}
-use Rattle.rules.proofs.Tallies.{used-places}
+use Rattle.rules.proofs.Tally.{used-places}
 use Rattle.changes.specs.declared.Counters.{Counters}
 use Rattle.snapshots.specs.declared.taken.SnapshotDecision.{SnapshotDecision}
 use Rattle.snapshots.specs.Answers.{paperTaken, snapshotRefused}

@@ -1,6 +1,7 @@
 -- The call that a record names, and what it prints.
 use Prim.Native.Nat.{ℕ}
 use mathlib.Core.List.{List}
+use Rattle.kinds.specs.Kinds.{number, slot, txid}
 use Rattle.rules.specs.declared.Table.{Table}
 use Rattle.rules.specs.Calls.{Call, begin, end, snap, own, oldest, vacuum, stamp, finish, after, answer}
 use Rattle.trace.specs.declared.Op.{Op}
@@ -10,14 +11,14 @@ use Rattle.render.specs.Output.{answerText}
 
 -- the call with the fields that its op reads
 abbrev pub callBy : Op → Record → Call
-callBy Begin r = begin (record { 0 = r .stamp })
-callBy End r = end (record { 0 = r .slot }) (record { 0 = r .id })
+callBy Begin r = begin (number (r .stamp))
+callBy End r = end (slot (r .slot)) (txid (r .id))
 callBy Snap r = snap (r .clock) (r .sample)
-callBy Own r = own (record { 0 = r .slot }) (record { 0 = r .id }) (r .clock) (r .sample)
+callBy Own r = own (slot (r .slot)) (txid (r .id)) (r .clock) (r .sample)
 callBy Oldest r = oldest (r .clock) (r .sample)
 callBy Vacuum r = vacuum (r .clock) (r .sample)
-callBy Stamp r = stamp (record { 0 = r .stamp })
-callBy Finish r = finish (record { 0 = r .slot }) (record { 0 = r .id }) (record { 0 = r .stamp })
+callBy Stamp r = stamp (number (r .stamp))
+callBy Finish r = finish (slot (r .slot)) (txid (r .id)) (number (r .stamp))
 
 unfoldable pub callOf : Record → Call
 callOf r = callBy (r .op) r
