@@ -21,14 +21,14 @@ use denote.Plain.{uint-lawful}
 use Rattle.rules.specs.Check.{passes}
 use Rattle.segment.specs.declared.Columns.{Columns}
 use Rattle.segment.proofs.Columns as S
-use Rattle.segment.proofs.Steps.{count, word}
+use Rattle.segment.proofs.Types.{count, word-type}
 
 -- an array with a number for each slot
 abbrev pub numbers : RattleType
 numbers = Array u64 count
 
 abbrev pub arr : Ty
-arr = tyArray word count
+arr = tyArray word-type count
 
 pub typed : {M : Type 1} (𝓤 : URA M) (H : Heap 𝓤) (A : Atoms 𝓤) (W : Given 𝓤 H A) (xs : List ℕ) (u : Val) → Is numbers xs (u ∷ []) → Holds (hasTy arr u) × WT u
 typed 𝓤 H A W xs u is = array-lawful 𝓤 H A W u64 (uint-lawful 𝓤 H A W w64) count .typed xs (u ∷ []) is .0

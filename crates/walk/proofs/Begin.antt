@@ -1,6 +1,7 @@
 -- How a walk begins: a block of memory is made for each local of the function, and the arguments are stored. The context is then
 --     [what was there; _0; _1; ..; that they all die]
 -- so that local i stands d + i places from the head, where d entries stand in front of the locals.
+--     frame ls         the environment that the locals make: a type and a block of memory for each
 use mathlib.Core.Path.{refl}
 use mathlib.Core.List.{List, [], _∷_, _++_}
 use Prim.Native.Nat.{ℕ, zero}
@@ -20,6 +21,14 @@ use types.Run.{init, pass1}
 abbrev pub Over {ℓ} : List Local → (List (Ty × ℕ) → Type ℓ) → Type ℓ
 Over [] P = P []
 Over (local τ h ∷ ls) P = (b : ℕ) → Over ls (λ E. P ((τ, b) ∷ E))
+
+-- the locals with their blocks
+abbrev frame-from : (ls : List Local) → (List (Ty × ℕ) → List (Ty × ℕ)) → Over ls (λ E. List (Ty × ℕ))
+frame-from [] k = k []
+frame-from (local τ h ∷ ls) k = λ b. frame-from ls (λ E. k ((τ, b) ∷ E))
+
+abbrev pub frame : (ls : List Local) → Over ls (λ E. List (Ty × ℕ))
+frame ls = frame-from ls (λ E. E)
 
 over-all {ℓ} : (ls : List Local) {P : List (Ty × ℕ) → Type ℓ} → ((E : List (Ty × ℕ)) → P E) → Over ls P
 over-all [] f = f []

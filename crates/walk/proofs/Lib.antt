@@ -1,8 +1,13 @@
 pub mod World
 pub mod Begin
+pub mod Entries
 pub mod Leave
+pub mod Plains
 pub mod Params
 pub mod Locals
 pub mod Meets
 pub mod Calls
 pub mod Words
+pub mod Lent
+pub mod Arrays
+pub mod Constants
