@@ -20,7 +20,7 @@ pub use denote.RattleType.{RattleType}
 pub use denote.Laws.{Is, shows}
 pub use denote.Builtin.{u8, u64, usize}
 pub use denote.Ref.{RefT, now}
-pub use denote.Slice.{ShrSlice, sliceVal, sliceTy}
+pub use denote.Slice.{ShrSlice, Room, sliceVal, sliceTy}
 pub use Rattle.walk.proofs.World.{World, Promise, Keeps, world, known, proves}
 pub use Rattle.walk.proofs.Meets.{Call, Tokens, Reached, Walk, ends, ends-as, walks, walks-if}
 pub use Rattle.walk.proofs.Params.{by-value, number, lent, struct}
@@ -30,6 +30,6 @@ pub use Rattle.walk.proofs.Begin.{Typed, frame, deaths, cells}
 pub use Rattle.walk.proofs.Leave.{leaves}
 pub use Rattle.walk.proofs.Locals.{local, member, through, locals, sets, sets-last, resets, resets-last, lands, lands-last}
 pub use Rattle.walk.proofs.Calls.{Handed, hands-on, hands, hands-none, calls, calls-as, calls-last}
-pub use Rattle.walk.proofs.Lent.{looks, shuts}
+pub use Rattle.walk.proofs.Lent.{looks, shuts, run, lends, returns}
 pub use Rattle.walk.proofs.Arrays.{array, spreads, gathers, cuts, joins, takes, puts}
 pub use Rattle.walk.proofs.Constants.{constant}
