@@ -35,9 +35,11 @@ module _ {M : Type 1} {𝓤 : URA M} {H : Heap 𝓤} {A : Atoms 𝓤} {K : Type 
 
   by-form : K → (x : Operand) (n : ℕ) → n < 2 ^ 64 → Constant x n → Opd K W Γ E x (vint w64 n)
   by-form t (int w m) n fits e =
-      subst (λ (w′ : Width). Opd K W Γ E (int w′ m) (vint w64 n)) (sym (e .0)) (subst (λ (m′ : ℕ). Opd K W Γ E (int w64 m′) (vint w64 n)) (sym (e .1)) (small t n fits))
+      subst (λ (w′ : Width). Opd K W Γ E (int w′ m) (vint w64 n)) (sym (e .0))
+      (subst (λ (m′ : ℕ). Opd K W Γ E (int w64 m′) (vint w64 n)) (sym (e .1)) (small t n fits))
   by-form t (intBig w m) n fits e =
-      subst (λ (w′ : Width). Opd K W Γ E (intBig w′ m) (vint w64 n)) (sym (e .0)) (subst (λ (m′ : ℕ). Opd K W Γ E (intBig w64 m′) (vint w64 n)) (sym (e .1)) (large t n fits))
+      subst (λ (w′ : Width). Opd K W Γ E (intBig w′ m) (vint w64 n)) (sym (e .0))
+      (subst (λ (m′ : ℕ). Opd K W Γ E (intBig w64 m′) (vint w64 n)) (sym (e .1)) (large t n fits))
   by-form t (copy p) n fits e = absurd e
   by-form t (intNeg w k) n fits e = absurd e
   by-form t (float f k) n fits e = absurd e

@@ -1,7 +1,9 @@
 -- A lent run, a `&[R]`: an element is read where it lies, and a row of elements in a local is lent.
---     looks r κ q x i d l k     [the token of κ; what the run x owns; ..] becomes [element i, at some share; what shuts the run; ..]. The code adds the element's place, in bytes, to the run's pointer
+--     looks r κ q x i d l k     [the token of κ; what the run x owns; ..] becomes [element i, at some share; what shuts the run; ..].
+--                               It lies i times its size past the run's pointer, as the code computes it
 --     shuts r κ q s x i d l     and back to [the token; ..]
---     lends r xs b room k       [the elements xs in block b; ..] becomes [the token of a lifetime that is made here; what a run of xs owns; what gives xs back; ..]
+--     lends r xs b room k       [the elements xs in block b; ..] becomes [the token; what a run of xs owns; what gives xs back; ..],
+--                               at a lifetime that is made for it
 --     returns r α xs b          [the token; what gives xs back; ..] becomes [the elements; ..]: the lifetime is ended
 use mathlib.Core.Path.{refl, sym}
 use mathlib.Core.List.{List, [], _∷_}
@@ -14,7 +16,8 @@ use package.mir.Val.{Val}
 use base.Logic.{SProp, ent, sep, emp, id⊢}
 use base.Fml.{Lft, GName, Share, Fml, ftrue, fsep, flft, flent, fobor}
 use prog.Wp.{Heap}
-use types.Kit.{Goal, Soaks, Item, Seq, Step, step, ‵, raw, _⊛_, some, later, _$_, move, drop, use1, use2, split, pick, await, rewrite, fsplit, fjoin, feqI}
+use types.Kit.{Goal, Soaks, Item, Seq, Step, step, ‵, raw, _⊛_, some, later}
+use types.Kit.{_$_, move, drop, use1, use2, split, pick, await, rewrite, fsplit, fjoin, feqI}
 use types.Share.{arr-parts}
 use types.Tokens.{lft-new, lft-end, lent-back}
 use denote.RattleType.{RattleType}
@@ -38,8 +41,8 @@ module _ {M : Type 1} {𝓤 : URA M} {H : Heap 𝓤} (w : World 𝓤 H) {R : Rat
     Element = cellAt s (R .mir) (r .vals (getD (now x) i d)) (ptr x .0) (i * mem R .size + ptr x .1)
 
     abbrev Shut : Fml
-    Shut = fsep (R .own (getD (now x) i d) (r .vals (getD (now x) i d)))
-        (fsep (others (shares R) s (now x) i (ptr x .0) (ptr x .1)) (fobor κ q (arr-parts (shares R) (length (now x)) .part s (now x) (ptr x .0) (ptr x .1))))
+    Shut = fsep (R .own (getD (now x) i d) (r .vals (getD (now x) i d))) (fsep (others (shares R) s (now x) i (ptr x .0) (ptr x .1))
+        (fobor κ q (arr-parts (shares R) (length (now x)) .part s (now x) (ptr x .0) (ptr x .1))))
 
   module _ {K : Type 0} {Γ : List (Item 𝓤)} {G : Goal 𝓤 H} where
     pub looks : K → Soaks G → (x : RefT (List (R .Denot))) {vs : List Val} (i : ℕ) (d : R .Denot) → i < length (now x)
@@ -57,7 +60,8 @@ module _ {M : Type 1} {𝓤 : URA M} {H : Heap 𝓤} (w : World 𝓤 H) {R : Rat
         -- [the element; what it owns; the others; the open borrow; the borrow]
         move t (4 ∷ []) $ drop t $ move t (2 ∷ 3 ∷ []) $ fjoin t $ move t (2 ∷ 0 ∷ []) $ fjoin t $ move t (1 ∷ 0 ∷ []) $ k s is))
 
-    pub shuts : K → Soaks G → (s : Share) (x : RefT (List (R .Denot))) (i : ℕ) (d : R .Denot) → i < length (now x) → Step K (w .given) (raw Token ∷ Γ) G (‵ (Element s x i d) ∷ ‵ (Shut s x i d) ∷ Γ) G
+    pub shuts : K → Soaks G → (s : Share) (x : RefT (List (R .Denot))) (i : ℕ) (d : R .Denot) → i < length (now x)
+        → Step K (w .given) (raw Token ∷ Γ) G (‵ (Element s x i d) ∷ ‵ (Shut s x i d) ∷ Γ) G
     shuts t z s x i d l = step (λ k.
         let b = ptr x .0 in
         let o = ptr x .1 in
@@ -71,16 +75,19 @@ module _ {M : Type 1} {𝓤 : URA M} {H : Heap 𝓤} (w : World 𝓤 H) {R : Rat
   abbrev pub run : GName → RefT (List (R .Denot))
   run γ = record { ptr = (b, 0); name = γ; now = xs }
 
+  abbrev Own : ℕ → GName → Fml
+  Own α γ = ShrSlice erased (α ∷ []) R .own (run γ) (slice-vals (run γ))
+
   abbrev Back : ℕ → Fml
   Back α = flent (α ∷ []) (arr-parts (shares R) (length xs) .part fullShare xs b 0)
 
   module _ {K : Type 0} {Γ : List (Item 𝓤)} {G : Goal 𝓤 H} where
     pub lends : K → Soaks G → Room R (length xs)
-        → ((α : ℕ) (γ : GName) → Seq K (w .given) (raw (Token w r (α ∷ []) fullShare) ∷ ‵ (ShrSlice erased (α ∷ []) R .own (run γ) (slice-vals (run γ))) ∷ ‵ (Back α) ∷ Γ) G)
+        → ((α : ℕ) (γ : GName) → Seq K (w .given) (raw (Token w r (α ∷ []) fullShare) ∷ ‵ (Own α γ) ∷ ‵ (Back α) ∷ Γ) G)
         → Seq K (w .given) (‵ (row R fullShare xs b 0) ∷ Γ) G
     lends t z room k =
         feqI t ℕ (length xs) (length xs) refl $ fjoin t $ lft-new t z (λ α. move t (1 ∷ []) $
-        use1 (w .given) (later (some (λ (γ : GName). ‵ (ShrSlice erased (α ∷ []) R .own (run γ) (slice-vals (run γ))) ⊛ ‵ (Back α))))
+        use1 (w .given) (later (some (λ (γ : GName). ‵ (Own α γ) ⊛ ‵ (Back α))))
         (lends-shr-slice 𝓤 H (w .atoms) (w .given) R erased (α ∷ []) fullShare xs b 0 room) $ await t z $ pick t (λ γ. split t $
         -- [what the run owns; what gives back; the token]
         nothing t $ move t (3 ∷ 0 ∷ []) $ use2 (w .given) (raw (Token w r (α ∷ []) fullShare)) (id⊢ 𝓤 (Token w r (α ∷ []) fullShare)) $ k α γ))

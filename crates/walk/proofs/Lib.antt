@@ -7,7 +7,8 @@ pub mod Params
 pub mod Locals
 pub mod Meets
 pub mod Calls
-pub mod Words
 pub mod Lent
 pub mod Arrays
 pub mod Constants
+pub mod Loops
+pub mod Words

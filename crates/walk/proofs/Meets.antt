@@ -1,7 +1,8 @@
 -- From a walk of a function's MIR to its contract.
 --     Call w P         what a call chooses: the lifetimes, the shares of their tokens, the arguments, their machine values
---     Walk w P f y     what a walk shows of the call y: from [the tokens; what the arguments own; _0; _1; ..; that they die] the body runs, and reaches what it has to
---     walks            the function keeps its promise, from a walk for each call.        walks-if      the same where the `requires` is the fact φ: it is in hand
+--     Walk w P f y     what a walk shows of the call y: from [the tokens; what the arguments own; _0; _1; ..; that they die]
+--                      the body runs, and reaches what it has to
+--     walks            the function keeps its promise, from a walk for each call.        walks-if      where the `requires` is the fact φ, in hand
 --     ends             the last step: what the result owns, and the tokens, are what a walk has to reach, once the `ensures` is shown
 --     ends-as          the same where the `ensures` stands in the context: [what the result owns; the tokens; the `ensures`]
 use mathlib.Core.List.{List, [], _∷_}
@@ -25,7 +26,7 @@ use denote.Triple.Clauses.{Lasts, atExit}
 use denote.Triple.End.{Kepts, Fins}
 use denote.Triple.Entry.{Args, Res, alive, onEntry}
 use denote.Triple.Walked.{Stays, fitsOf, hasOf, Ending, walkOf, ends-at, walked, walk-meets}
-use Rattle.walk.proofs.World.{World, Promise, Keeps}
+use Rattle.walk.proofs.World.{World, Promise, Proved}
 use Rattle.walk.proofs.Begin.{Over, Stored, entered, begins}
 use Rattle.walk.proofs.Params.{Params, spells, all-tell, all-lawful, dropped, all-go}
 
@@ -71,7 +72,8 @@ module _ {M : Type 1} {𝓤 : URA M} {H : Heap 𝓤} (w : World 𝓤 H) (P : Pro
     Reached v = walkOf 𝓤 H (w .atoms) (P .0) none (P .1) .post y v
 
   module _ (κs : Lfts (S .lifetimes)) where
-    no-fit : (ss : List (Slot (S .lifetimes))) (ks : Kepts ss) (a : Denots (typesAt ss κs)) (ws : Fins κs ss ks a) → fitsOf κs ss ks (dropped w ss ks) a ws
+    no-fit : (ss : List (Slot (S .lifetimes))) (ks : Kepts ss) (a : Denots (typesAt ss κs)) (ws : Fins κs ss ks a)
+        → fitsOf κs ss ks (dropped w ss ks) a ws
     no-fit [] ks a ws = tt
     no-fit (s ∷ ss) ks a ws = (tt, no-fit ss (ks .1) (a .1) (ws .1))
 
@@ -79,7 +81,8 @@ module _ {M : Type 1} {𝓤 : URA M} {H : Heap 𝓤} (w : World 𝓤 H) (P : Pro
         → ent 𝓤 (emp 𝓤) (sem 𝓤 H (w .atoms) (hasOf κs ss ks (dropped w ss ks) a ws vss))
     none-had [] ks a ws vss = id⊢ 𝓤 (emp 𝓤)
     none-had (s ∷ ss) ks a ws vss =
-        beside 𝓤 (sem 𝓤 H (w .atoms) (hasOf κs ss (ks .1) (dropped w ss (ks .1)) (a .1) (ws .1) (vss .1))) (emp 𝓤) (none-had ss (ks .1) (a .1) (ws .1) (vss .1))
+        beside 𝓤 (sem 𝓤 H (w .atoms) (hasOf κs ss (ks .1) (dropped w ss (ks .1)) (a .1) (ws .1) (vss .1))) (emp 𝓤)
+        (none-had ss (ks .1) (a .1) (ws .1) (vss .1))
 
   module _ (y : Call) (v : Val) (r : Answer y) (ws : Last y) where
     abbrev Own : SProp 𝓤
@@ -90,7 +93,8 @@ module _ {M : Type 1} {𝓤 : URA M} {H : Heap 𝓤} (w : World 𝓤 H) (P : Pro
         let had = hasOf (y .0 .0) (S .params) (P .0 .kept) (none y) (y .0 .3) ws (y .0 .4) in
         let fits = no-fit (y .0 .0) (S .params) (P .0 .kept) (y .0 .3) ws in
         qed (w .given) (‵ (Result y r v) ∷ raw (Tokens y) ∷ raw (Said y r ws) ∷ []) ∵
-        suffices ! (Ending 𝓤 H (w .atoms) (P .0) (none y) (P .1) y v r ws) (ends-at 𝓤 H (w .atoms) (P .0) (none y) (P .1) (w .given) y v r ws fits) $
+        suffices ! (Ending 𝓤 H (w .atoms) (P .0) (none y) (P .1) y v r ws)
+        (ends-at 𝓤 H (w .atoms) (P .0) (none y) (P .1) (w .given) y v r ws fits) $
         nothing ! $ use1 (w .given) (‵ had) (none-had (y .0 .0) (S .params) (P .0 .kept) (y .0 .3) ws (y .0 .4)) $
         move ! (0 ∷ 1 ∷ []) $ join ! $ move ! (1 ∷ 0 ∷ []) $ join ! $ done !
 
@@ -99,7 +103,8 @@ module _ {M : Type 1} {𝓤 : URA M} {H : Heap 𝓤} (w : World 𝓤 H) (P : Pro
 
   module _ (f : Fn) where
     abbrev pub Walk : Call → Type 1
-    Walk y = Over (f .locals) (λ E. Sq (w .given) (raw (Tokens y) ∷ ‵ (Owned y) ∷ entered 𝓤 H (w .atoms) (w .given) E (passed 𝓤 H (w .atoms) S (y .0)))
+    Walk y = Over (f .locals) (λ E.
+        Sq (w .given) (raw (Tokens y) ∷ ‵ (Owned y) ∷ entered 𝓤 H (w .atoms) (w .given) E (passed 𝓤 H (w .atoms) S (y .0)))
         (runs (w .tables .C) (w .tables .Λ) E (f .body) (atRet E (Reached y))))
 
     module _ (ps : Params w (S .params) (P .0 .kept)) where
@@ -114,27 +119,32 @@ module _ {M : Type 1} {𝓤 : URA M} {H : Heap 𝓤} (w : World 𝓤 H) (P : Pro
       abbrev Fit : Type 0
       Fit = (κs : Lfts (S .lifetimes)) (a : Args S κs) → Typed (mirs (Ts κs)) (flat (Ts κs) (Vs κs a)) → Stored (f .locals) (flat (Ts κs) (Vs κs a))
 
-      pub walks-if : Fit → (φ : (κs : Lfts (S .lifetimes)) (a : Args S κs) → P .1 κs a .ghost → Type 0)
+      -- a fact of the arguments, and a walk for all of which it holds: what is known of them is that they are spelled so, and have their types
+      abbrev Fact : Type 1
+      Fact = (κs : Lfts (S .lifetimes)) (a : Args S κs) → P .1 κs a .ghost → Type 0
+
+      abbrev Walks : Fact → Type 1
+      Walks φ = (κs : Lfts (S .lifetimes)) (qs : Shares (S .lifetimes)) (bounds : AllOutlive (S .lifetimes) (S .outlives) κs)
+          (a : Args S κs) (g : P .1 κs a .ghost) → Are (Ts κs) (Ises (Ts κs)) a (Vs κs a) → Stored (f .locals) (flat (Ts κs) (Vs κs a))
+          → φ κs a g → Walk ((κs, qs, bounds, a, Vs κs a), g)
+
+      pub walks-if : Fit → (φ : Fact)
           → ((κs : Lfts (S .lifetimes)) (a : Args S κs) (g : P .1 κs a .ghost) → ent 𝓤 (P .1 κs a .requires g) (fact 𝓤 (φ κs a g)))
-          → ((κs : Lfts (S .lifetimes)) (qs : Shares (S .lifetimes)) (bounds : AllOutlive (S .lifetimes) (S .outlives) κs) (a : Args S κs) (g : P .1 κs a .ghost)
-              → Are (Ts κs) (Ises (Ts κs)) a (Vs κs a) → Stored (f .locals) (flat (Ts κs) (Vs κs a)) → φ κs a g → Walk ((κs, qs, bounds, a, Vs κs a), g))
-          → Keeps w P (WpFn 𝓤 H (w .tables .C) (w .tables .Λ) f)
+          → Walks φ → Proved w P f
       walks-if fit φ asked walk =
           let run = WpFn 𝓤 H (w .tables .C) (w .tables .Λ) f in
           let none = dropped w (S .params) (P .0 .kept) in
-          walk-meets 𝓤 H (w .atoms) (P .0) none (w .given) (all-go w (S .params) (P .0 .kept) ps) (P .1) run (WpFn-mono 𝓤 H (w .given .laws) (w .tables) f)
-          (walked 𝓤 H (w .atoms) (P .0) none (P .1) run (spells w (S .params) (P .0 .kept) ps) (all-tell w (S .params) (P .0 .kept) ps)
-          (λ κs qs bounds a g are.
+          let spelled = spells w (S .params) (P .0 .kept) ps in
+          let mono = WpFn-mono 𝓤 H (w .given .laws) (w .tables) f in
+          walk-meets 𝓤 H (w .atoms) (P .0) none (w .given) (all-go w (S .params) (P .0 .kept) ps) (P .1) run mono
+          (walked 𝓤 H (w .atoms) (P .0) none (P .1) run spelled (all-tell w (S .params) (P .0 .kept) ps) (λ κs qs bounds a g are.
           let y : Call = ((κs, qs, bounds, a, Vs κs a), g) in
           let entry : SProp 𝓤 = onEntry 𝓤 H (w .atoms) S κs qs a (Vs κs a) in
           let typed = fit κs a (all-typed 𝓤 H (w .atoms) (Ts κs) (all-lawful w (S .params) (P .0 .kept) ps κs) a (Vs κs a) are) in
           fact-use 𝓤 (φ κs a g) (via 𝓤 (Asked y) (snd∗ 𝓤 entry (Asked y)) (asked κs a g)) (λ h.
           via 𝓤 entry (fst∗ 𝓤 entry (Asked y))
-          (begins 𝓤 H (w .atoms) (w .given) f (passed 𝓤 H (w .atoms) S (y .0)) (w .tables .C) (w .tables .Λ) (Reached y) (raw (Tokens y) ∷ ‵ (Owned y) ∷ [])
-          typed (walk κs qs bounds a g are typed h)))))
+          (begins 𝓤 H (w .atoms) (w .given) f (passed 𝓤 H (w .atoms) S (y .0)) (w .tables .C) (w .tables .Λ) (Reached y)
+          (raw (Tokens y) ∷ ‵ (Owned y) ∷ []) typed (walk κs qs bounds a g are typed h)))))
 
-      pub walks : Fit
-          → ((κs : Lfts (S .lifetimes)) (qs : Shares (S .lifetimes)) (bounds : AllOutlive (S .lifetimes) (S .outlives) κs) (a : Args S κs) (g : P .1 κs a .ghost)
-              → Are (Ts κs) (Ises (Ts κs)) a (Vs κs a) → Stored (f .locals) (flat (Ts κs) (Vs κs a)) → Walk ((κs, qs, bounds, a, Vs κs a), g))
-          → Keeps w P (WpFn 𝓤 H (w .tables .C) (w .tables .Λ) f)
-      walks fit walk = walks-if fit (λ κs a g. Unit {0}) (λ κs a g. factI 𝓤 (Unit {0}) (P .1 κs a .requires g) tt) (λ κs qs bounds a g are typed h. walk κs qs bounds a g are typed)
+      pub walks : Fit → Walks (λ κs a g. Unit {0}) → Proved w P f
+      walks fit walk = walks-if fit (λ κs a g. Unit {0}) (λ κs a g. factI 𝓤 (Unit {0}) (P .1 κs a .requires g) tt) walk

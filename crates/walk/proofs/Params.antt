@@ -1,4 +1,5 @@
--- What a walk has to know of a parameter's type: that a contract says nothing of it at exit, how a value of it is spelled as machine values, and that these have the parameter's type.
+-- What a walk has to know of a parameter's type: that a contract says nothing of it at exit,
+-- how a value of it is spelled as machine values, and that these have the parameter's type.
 -- So a parameter is plain data, a `&`, or a struct of such. Of a `&mut` something is said at exit: for one this does not serve.
 --     by-value r q     plain data; q is `λ κs x f. refl`.        number      a u64 or a usize
 --     lent j ok R      a `&'j [R]`
@@ -42,7 +43,8 @@ module _ {M : Type 1} {𝓤 : URA M} {H : Heap 𝓤} (w : World 𝓤 H) {n : ℕ
   spells [] ks ps κs = tt
   spells (s ∷ ss) ks ps κs = (ps .0 .vals κs, spells ss (ks .1) (ps .1) κs)
 
-  pub all-tell : (ss : List (Slot n)) (ks : Kepts ss) (ps : Params ss ks) (κs : Lfts n) → Tellss (typesAt ss κs) (Ises (typesAt ss κs)) (spells ss ks ps κs)
+  pub all-tell : (ss : List (Slot n)) (ks : Kepts ss) (ps : Params ss ks) (κs : Lfts n)
+      → Tellss (typesAt ss κs) (Ises (typesAt ss κs)) (spells ss ks ps κs)
   all-tell [] ks ps κs = tt
   all-tell (s ∷ ss) ks ps κs = (ps .0 .tells κs, all-tell ss (ks .1) (ps .1) κs)
 
@@ -73,7 +75,8 @@ module _ {M : Type 1} {𝓤 : URA M} {H : Heap 𝓤} (w : World 𝓤 H) {n : ℕ
     lawful = λ κs. shr-slice-lawful 𝓤 H (w .atoms) (w .given) (named j) (lftAt n j ok κs) R;
   }
 
-  abbrev pub struct : (D : Lfts n → Declared) (L : (κs : Lfts n) → LL.Laws (D κs)) → Unsaid (plain (λ κs. row (D κs))) yes → Param (plain (λ κs. row (D κs))) yes
+  abbrev pub struct : (D : Lfts n → Declared) (L : (κs : Lfts n) → LL.Laws (D κs)) → Unsaid (plain (λ κs. row (D κs))) yes
+      → Param (plain (λ κs. row (D κs))) yes
   struct D L q = record {
     silent = q;
     vals = λ κs. LL.vals (D κs) (L κs);

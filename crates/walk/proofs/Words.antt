@@ -21,7 +21,7 @@ pub use denote.Laws.{Is, shows}
 pub use denote.Builtin.{u8, u64, usize}
 pub use denote.Ref.{RefT, now}
 pub use denote.Slice.{ShrSlice, Room, sliceVal, sliceTy}
-pub use Rattle.walk.proofs.World.{World, Promise, Keeps, world, known, proves}
+pub use Rattle.walk.proofs.World.{World, Promise, promise, Callee, Proved, world, known, proves}
 pub use Rattle.walk.proofs.Meets.{Call, Tokens, Reached, Walk, ends, ends-as, walks, walks-if}
 pub use Rattle.walk.proofs.Params.{by-value, number, lent, struct}
 pub use Rattle.walk.proofs.Plains.{Plain, word, truth, row-of, record-of, owned, made}
@@ -33,3 +33,4 @@ pub use Rattle.walk.proofs.Calls.{Handed, hands-on, hands, hands-none, 
 pub use Rattle.walk.proofs.Lent.{looks, shuts, run, lends, returns}
 pub use Rattle.walk.proofs.Arrays.{array, spreads, gathers, cuts, joins, takes, puts}
 pub use Rattle.walk.proofs.Constants.{constant}
+pub use Rattle.walk.proofs.Loops.{Turn, goes-on, rounds}

@@ -1,6 +1,6 @@
--- `reader::at_place` meets its contract: a walk of its MIR, by hand. A reader is made of the text and the place passed.
-use Rattle.walk.proofs.Words.{refl, ℕ, _<_, _^_, List, [], _∷_, URA, Heap, WpFn, Lfts, Shares, RefT, u8, named, w64, vint, Val, Typed, emp, factI}
-use Rattle.walk.proofs.Words.{World, Promise, Keeps, Call, Walk, world, proves, walks, ends, leaves, number, lent}
+-- A walk of `at_place`: a reader is made of the text and the place passed.
+use Rattle.walk.proofs.Words.{refl, ℕ, List, [], _∷_, URA, Heap, Lfts, Shares, RefT, u8, named, w64, vint, Val, Typed, emp, factI}
+use Rattle.walk.proofs.Words.{World, Promise, promise, Proved, Call, Walk, world, proves, walks, ends, leaves, number, lent}
 use Rattle.walk.proofs.Words.{_$_, !, ‵, by, move, use1, sets, local, agg, and-then, no-more}
 use Rattle.reader.specs.Reader.{standing}
 use Rattle.reader.proofs.Reader.Laws as T′
@@ -9,13 +9,13 @@ use Rattle.reader.proofs.at_place as f
 
 module _ {M : Type 1} {𝓤 : URA M} {H : Heap 𝓤} (w : World 𝓤 H) where
   abbrev P : Promise 𝓤
-  P = (f.ended, f.clauses 𝓤 H (w .atoms) (w .memory) (w .run))
+  P = promise w f.ended (f.clauses 𝓤 H)
 
   module _ (κs : Lfts 1) (qs : Shares 1) (s : RefT (List ℕ)) (n : ℕ) where
     abbrev y : Call w P
     y = ((κs, qs, tt, (s, (n, tt)), (spelled s ∷ [], (vint w64 n ∷ [], tt))), tt)
 
-    -- the reader, and its machine value
+    -- the reader's machine value
     abbrev v : Val
     v = T′.lowered (standing s n)
 
@@ -27,12 +27,12 @@ module _ {M : Type 1} {𝓤 : URA M} {H : Heap 𝓤} (w : World 𝓤 H) where
         use1 (w .given) (‵ (Held (κs .0) .own (standing s n) (v ∷ []))) (together w (κs .0) s n) $
         by ! (ends w P y v (standing s n) (tt, (tt, tt)) (factI 𝓤 _ (emp 𝓤) refl))
 
-  meets : Keeps w P (WpFn 𝓤 H (w .tables .C) (w .tables .Λ) f.Code.function)
+  meets : Proved w P f.Code.function
   meets = walks w P f.Code.function (lent w 0 tt u8, (number w, tt)) (λ κs a t. t)
-      (λ κs qs bounds a g are typed. walk κs qs (a .0) (a .1 .0) (tt, (typed .0 .1, (typed .1 .0 .1, tt))))
+      (λ κs qs bounds a g are typed h. walk κs qs (a .0) (a .1 .0) (tt, (typed .0 .1, (typed .1 .0 .1, tt))))
 
 pub at-place-spec : {M : Type 1} → f.Statement.statement M
 unfolding f.Code.routine
 at-place-spec 𝓤 H 𝓜 𝓖 𝓡 =
-    let w = world 𝓤 H 𝓜 𝓖 𝓡 f.Code.env in
-    proves 𝓤 H 𝓜 𝓖 𝓡 f.Code.env (P w) f.Key.name f.Code.function (f.Code.unfolded 𝓤 H 𝓜 𝓡) (meets w)
+    let w = world 𝓜 𝓖 𝓡 f.Code.env in
+    proves 𝓜 𝓖 𝓡 f.Code.env (P w) f.Key.name f.Code.function (f.Code.unfolded 𝓤 H 𝓜 𝓡) (meets w)

@@ -1,4 +1,5 @@
--- A walk of `check_first`: the array is copied into a local, its first records are lent for the call, and when they are back the local is whole again.
+-- A walk of `check_first`: the array is copied into a local, its first records are lent for the call,
+-- and when they are back the local is whole again.
 -- The clause of `check_run` is kept as it stands, and is what this contract says.
 use native.Mathlib.Omega.{arith}
 use lib.ListN.{length, take}
@@ -8,9 +9,9 @@ use denote.Ask.Asked.{asked}
 use denote.Memory.{pointee}
 use denote.Array.{Array}
 use borrow.Table.Elements.{length-take-le}
-use Rattle.walk.proofs.Words.{_≡_, refl, sym, subst, ℕ, _+_, _*_, _<_, _≤_, _^_, List, [], _∷_, Bool, URA, Heap, WpFn, SProp, emp, fact, id⊢}
-use Rattle.walk.proofs.Words.{Ty, erased, u64, w64, vint, Val, fat, fullShare, Room, sliceVal, sliceTy, Is}
-use Rattle.walk.proofs.Words.{World, Promise, Keeps, Call, Walk, world, known, proves, walks-if, ends-as, leaves, by-value, number, Plain, word, truth, row-of, owned, made}
+use Rattle.walk.proofs.Words.{_≡_, refl, sym, subst, ℕ, _+_, _*_, _<_, _≤_, _^_, List, [], _∷_, Bool, URA, Heap, SProp, emp, fact, id⊢}
+use Rattle.walk.proofs.Words.{Ty, erased, u64, w64, vint, Val, fat, fullShare, Room, sliceVal, sliceTy, Is, Plain, word, truth, row-of, owned, made}
+use Rattle.walk.proofs.Words.{World, Promise, promise, Callee, Proved, Call, Walk, world, known, proves, walks-if, ends-as, leaves, by-value, number}
 use Rattle.walk.proofs.Words.{_$_, !, ‵, by, move, keep, drop, rewrite, back, sets, local, locals, of-opd, agg, addr, and-then, no-more, from, stop}
 use Rattle.walk.proofs.Words.{hands, calls-as, lands, spreads, gathers, cuts, joins, run, lends, returns}
 use Rattle.segment.specs.Run.{runPasses}
@@ -34,17 +35,18 @@ has-room n m l r = (omega arith, omega arith)
 
 module _ {M : Type 1} {𝓤 : URA M} {H : Heap 𝓤} (w : World 𝓤 H) where
   abbrev P : Promise 𝓤
-  P = (f.ended, f.clauses 𝓤 H (w .atoms) (w .memory) (w .run))
+  P = promise w f.ended (f.clauses 𝓤 H)
 
   abbrev Check : Promise 𝓤
-  Check = (g.ended, g.clauses 𝓤 H (w .atoms) (w .memory) (w .run))
+  Check = promise w g.ended (g.clauses 𝓤 H)
 
   abbrev records : Plain w (Array T.the-row room)
   records = row-of w (slot w) room
 
-  module _ (check : Keeps w Check (w .tables .C g.Symbol.name)) (ys : List Slot) (k clock sample line : ℕ) where
+  module _ (check : Callee w Check g.Symbol.name) (ys : List Slot) (k clock sample line : ℕ) where
     abbrev y : Call w P
-    y = ((tt, tt, tt, (ys, (k, (clock, (sample, (line, tt))))), (records .vals ys, (vint w64 k ∷ [], (vint w64 clock ∷ [], (vint w64 sample ∷ [], (vint w64 line ∷ [], tt)))))), tt)
+    y = ((tt, tt, tt, (ys, (k, (clock, (sample, (line, tt))))),
+        (records .vals ys, (vint w64 k ∷ [], (vint w64 clock ∷ [], (vint w64 sample ∷ [], (vint w64 line ∷ [], tt)))))), tt)
 
     abbrev front : List Slot
     front = take k ys
@@ -55,9 +57,11 @@ module _ {M : Type 1} {𝓤 : URA M} {H : Heap 𝓤} (w : World 𝓤 H) where
 
     -- what `check_run` is passed: a reference to the first records, in block b, at the lifetime α
     abbrev to : ℕ → ℕ → ℕ → Call w Check
-    to b α γ = (((α ∷ [], tt), (fullShare, tt), tt, (run w (slot w) front b γ, (clock, (sample, (line, tt)))), (sliceVal (b, 0) (length front) ∷ [], (vint w64 clock ∷ [], (vint w64 sample ∷ [], (vint w64 line ∷ [], tt))))), tt)
+    to b α γ = (((α ∷ [], tt), (fullShare, tt), tt, (run w (slot w) front b γ, (clock, (sample, (line, tt)))),
+        (sliceVal (b, 0) (length front) ∷ [], (vint w64 clock ∷ [], (vint w64 sample ∷ [], (vint w64 line ∷ [], tt))))), tt)
 
-    walk : Is (Array T.the-row room) ys (records .vals ys) → k < 2 ^ 64 → clock < 2 ^ 64 → sample < 2 ^ 64 → line < 2 ^ 64 → k ≤ length ys → Walk w P f.Code.function y
+    walk : Is (Array T.the-row room) ys (records .vals ys) → k < 2 ^ 64 → clock < 2 ^ 64 → sample < 2 ^ 64 → line < 2 ^ 64 → k ≤ length ys
+        → Walk w P f.Code.function y
     walk is k-fits clock-fits sample-fits line-fits there = λ l₀ l₁ l₂ l₃ l₄ l₅ l₆ l₇ l₈.
         -- [the tokens; what the arguments own; _0; ..; _8; ..]
         sets ! 2 (of-opd ! (local ! 2 refl)) refl (records .lawful .typed ys (records .vals ys) is .0) $
@@ -68,8 +72,8 @@ module _ {M : Type 1} {𝓤 : URA M} {H : Heap 𝓤} (w : World 𝓤 H) where
         move ! (8 ∷ []) $ spreads w (slot w) ! tt room ys l₆ _ is $ cuts w (slot w) ! ys k l₆ $ move ! (1 ∷ []) $ back ! 9 $
         lends w (slot w) front l₆ ! tt front-room (λ α γ.
         -- [the token; what the lent records own; what gives them back; the tokens; what the arguments own; _0; ..]
-        hands w ! Check (to l₆ α γ) refl (made w (u64 ∷ u64 ∷ u64 ∷ []) (word w, (word w, (word w, tt))) (clock, (sample, (line, tt)))
-        (vint w64 clock ∷ [], (vint w64 sample ∷ [], (vint w64 line ∷ [], tt))) ((refl, clock-fits), ((refl, sample-fits), ((refl, line-fits), tt)))) $
+        hands w ! Check (to l₆ α γ) refl (made w (u64 ∷ u64 ∷ u64 ∷ []) (word w, (word w, (word w, tt))) (to l₆ α γ .0 .3 .1) (to l₆ α γ .0 .4 .1)
+        ((refl, clock-fits), ((refl, sample-fits), ((refl, line-fits), tt)))) $
         calls-as w ! Check check (to l₆ α γ) (id⊢ 𝓤 (emp 𝓤)) Says (λ r ws. id⊢ 𝓤 _) (locals ! 4 (refl, (refl, (refl, (refl, tt))))) (λ v r ris.
         drop ! $ lands ! 5 refl (truth w .lawful .typed r (v ∷ []) ris .0) $
         -- [the token; the clause; what gives them back; the tokens; what the arguments own; _0; ..]
@@ -78,17 +82,20 @@ module _ {M : Type 1} {𝓤 : URA M} {H : Heap 𝓤} (w : World 𝓤 H) where
         leaves ! 3 refl refl $ keep ! (1 ∷ 0 ∷ []) $ owned w ! (truth w) r v ris $ by ! (ends-as w P y v r (tt, (tt, (tt, (tt, (tt, tt)))))))))
       where
         front-room : Room T.the-row (length front)
-        front-room = has-room (length front) room (subst (λ (m : ℕ). m ≤ room) (sym (length-take-le k ys there)) (subst (λ (m : ℕ). k ≤ m) (is .1 .0 .1) there)) (lit< tt)
+        front-room =
+            has-room (length front) room
+            (subst (λ (m : ℕ). m ≤ room) (sym (length-take-le k ys there)) (subst (λ (m : ℕ). k ≤ m) (is .1 .0 .1) there)) (lit< tt)
 
-  meets : Keeps w Check (w .tables .C g.Symbol.name) → Keeps w P (WpFn 𝓤 H (w .tables .C) (w .tables .Λ) f.Code.function)
+  meets : Callee w Check g.Symbol.name → Proved w P f.Code.function
   meets check =
-      walks-if w P f.Code.function (by-value w records (λ κs x f. refl), (number w, (number w, (number w, (number w, tt))))) (λ κs a t. t) (λ κs a g. a .1 .0 ≤ length (a .0)) (λ κs a g. id⊢ 𝓤 _)
+      walks-if w P f.Code.function (by-value w records (λ κs x f. refl), (number w, (number w, (number w, (number w, tt))))) (λ κs a t. t)
+      (λ κs a g. a .1 .0 ≤ length (a .0)) (λ κs a g. id⊢ 𝓤 _)
       (λ κs qs bounds a g are typed there. walk check (a .0) (a .1 .0) (a .1 .1 .0) (a .1 .1 .1 .0) (a .1 .1 .1 .1 .0)
       (are .0) (are .1 .0 .1) (are .1 .1 .0 .1) (are .1 .1 .1 .0 .1) (are .1 .1 .1 .1 .0 .1) there)
 
 pub check-first-spec : {M : Type 1} → f.Statement.statement M
 unfolding f.Code.routine
 check-first-spec 𝓤 H 𝓜 𝓖 𝓡 =
-    let w = world 𝓤 H 𝓜 𝓖 𝓡 f.Code.env in
-    let check = known 𝓤 H 𝓜 𝓖 𝓡 f.Code.env (Check w) g.Symbol.name g.Symbol.routine f.Code.calls-segment·check-run (g.Met.met 𝓤 H 𝓜 𝓖 𝓡) in
-    proves 𝓤 H 𝓜 𝓖 𝓡 f.Code.env (P w) f.Key.name f.Code.function (f.Code.unfolded 𝓤 H 𝓜 𝓡) (meets w check)
+    let w = world 𝓜 𝓖 𝓡 f.Code.env in
+    let check = known 𝓜 𝓖 𝓡 f.Code.env (Check w) g.Symbol.name f.Code.calls-segment·check-run (g.Met.met 𝓤 H 𝓜 𝓖 𝓡) in
+    proves 𝓜 𝓖 𝓡 f.Code.env (P w) f.Key.name f.Code.function (f.Code.unfolded 𝓤 H 𝓜 𝓡) (meets w check)
