@@ -4,7 +4,8 @@ use denote.Array.{Array}
 use denote.Memory.{pointee}
 use denote.Struct.Laws as LL
 use Rattle.kinds.proofs.zeros.⟦SLOTS⟧-asked.Lts as asked
-use Rattle.walk.proofs.Words.{ℕ, _<_, _^_, [], _∷_, URA, Heap, World, RattleType, Ty, Val, u64, w64, named, sliceTy, Is, Plain, word, row-of, record-of}
+use Rattle.walk.proofs.Words.{ℕ, _<_, _^_, [], _∷_, URA, Heap, World, RattleType, Ty, Val, u64, w64, named, sliceTy, Is}
+use Rattle.walk.proofs.Words.{Plain, word, row-of, record-of}
 use Rattle.segment.specs.declared.Slot.{Slot}
 use Rattle.segment.proofs.Slot as T
 use Rattle.segment.proofs.Slot.Laws as T′

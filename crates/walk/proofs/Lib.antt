@@ -4,11 +4,11 @@ pub mod Entries
 pub mod Leave
 pub mod Plains
 pub mod Params
-pub mod Locals
 pub mod Meets
+pub mod Locals
+pub mod Constants
 pub mod Calls
 pub mod Lent
 pub mod Arrays
-pub mod Constants
 pub mod Loops
 pub mod Words

@@ -16,7 +16,7 @@ use package.mir.Syntax.{Sym, Ty, Tys, tyStruct, Body, deref, field, place, Rv as
 use package.mir.Syntax.{Opd as Operand, copy, int, intNeg, intBig, float, opdTrue, opdFalse, opdUnit, ptrConst}
 use package.mir.Val.{Val, Vals, vptr, vstruct}
 use package.mir.Fields.{getV, setV}
-use base.Fml.{Share, fat, froom}
+use base.Fml.{fat, froom}
 use prog.Memory.{fieldOf, fieldAt}
 use prog.Wp.{Heap, Env, Calls, Loops, next, spotOf}
 use ghost.Atoms.{Atoms}

@@ -13,7 +13,7 @@ use package.mir.Syntax.{Body, seq, block, loop}
 use package.mir.Val.{Val}
 use base.Logic.{SProp}
 use prog.Wp.{Heap, Env, Wp, afterSeq, afterBlock, afterTurn, atReturn}
-use types.Kit.{Item, Post, Seq, Sq, prop, post, runs, anyQ, atRet, _$_, !}
+use types.Kit.{Item, Post, Seq, Sq, prop, post, runs, anyQ, atRet, _$_, ! }
 use types.Run.{Below, again, loops, first, blocks}
 use Rattle.walk.proofs.World.{World}
 

@@ -2,16 +2,15 @@
 -- else the answer is no, and no record is read.
 use lib.ListN.{length, length-map}
 use lib.Dec.{eqb→eq, lit<}
-use types.Kit.{atRet}
-use types.Run.{false-lit, first, branches}
 use denote.Ask.Bracket.{ask-in}
 use denote.Ask.Quote.{gives}
 use denote.Plain.{Boolean}
 use Rattle.walk.proofs.Words.{_≡_, refl, sym, _∙_, ap, ℕ, _<_, _^_, List, [], _∷_, Bool, false, URA, Heap, Lfts, Shares, Lft, RefT, now}
 use Rattle.walk.proofs.Words.{u64, w64, vint, vbool, Val, Room, sliceVal, Is, emp, via, ent, fact, factI, id⊢}
 use Rattle.walk.proofs.Words.{World, Promise, promise, Callee, Proved, Call, Tokens, Reached, Walk, world, known, proves, walks, ends, leaves, frame}
-use Rattle.walk.proofs.Words.{number, lent, word, truth, owned, made, _$_, _∵_, !, raw, qed, by, drop, move, first-only, exec, constant}
-use Rattle.walk.proofs.Words.{sets, sets-last, local, member, locals, of-opd, bin, no-more, hands, hands-none, calls, calls-last, lands, lands-last}
+use Rattle.walk.proofs.Words.{number, lent, word, truth, owned, made, _$_, _∵_, !, raw, qed, by, drop, move, first-only, atRet, exec}
+use Rattle.walk.proofs.Words.{sets, sets-last, local, member, locals, of-opd, bin, constant, false-lit, no-more, first, branches}
+use Rattle.walk.proofs.Words.{hands, hands-none, calls, calls-last, lands, lands-last}
 use Rattle.rules.specs.Check.{passes}
 use Rattle.segment.specs.Run.{txidsOf, xminsOf, columnsOf, runPasses}
 use Rattle.segment.specs.declared.Slot.{Slot}
@@ -101,14 +100,15 @@ module _ {M : Type 1} {𝓤 : URA M} {H : Heap 𝓤} (w : World 𝓤 H) where
           drop ! $ drop ! $ lands ! 2 refl (columns w .lawful .typed t₀ (u₀ ∷ []) is₀ .0) $
           -- [the tokens; what the run owns; _0; ..]
           hands w ! Gather (to-gather t₀ u₀) refl (made w (S.the-row ∷ []) (columns w, tt) (t₀, tt) (u₀ ∷ [], tt) (is₀, tt)) $
-          calls w ! Gather known-gather (to-gather t₀ u₀) (factI 𝓤 _ (emp 𝓤) (n ∙ sym (long t₀ (u₀ ∷ []) is₀))) (λ t. t ≡ columnsOf ys) (λ t ws. id⊢ 𝓤 _)
-          (locals ! 1 (refl, (refl, tt))) (λ u t e is.
+          calls w ! Gather known-gather (to-gather t₀ u₀) (factI 𝓤 _ (emp 𝓤) (n ∙ sym (long t₀ (u₀ ∷ []) is₀)))
+          (λ t. t ≡ columnsOf ys) (λ t ws. id⊢ 𝓤 _) (locals ! 1 (refl, (refl, tt))) (λ u t e is.
           drop ! $ lands ! 1 refl (columns w .lawful .typed t (u ∷ []) is .0) $
           -- [the tokens; _0; ..]
           hands-none w ! Core (to-core t u) (id⊢ 𝓤 (emp 𝓤))
           (made w (S.the-row ∷ u64 ∷ u64 ∷ u64 ∷ []) (columns w, (word w, (word w, (word w, tt)))) (to-core t u .0 .3) (to-core t u .0 .4)
           (is, ((refl, clock-fits), ((refl, sample-fits), ((refl, line-fits), tt))))) $
-          calls-last w ! Core known-core (to-core t u) (id⊢ 𝓤 (emp 𝓤)) (Passed t) (λ r ws. id⊢ 𝓤 _) (locals ! 2 (refl, (refl, (refl, (refl, tt))))) (λ a r said ris.
+          calls-last w ! Core known-core (to-core t u) (id⊢ 𝓤 (emp 𝓤)) (Passed t) (λ r ws. id⊢ 𝓤 _)
+          (locals ! 2 (refl, (refl, (refl, (refl, tt))))) (λ a r said ris.
           let typed = truth w .lawful .typed r (a ∷ []) ris .0 in
           drop ! $ drop ! $ lands-last ! 1 refl typed $ exec ! (w .tables .C) (w .tables .Λ) E f.Code.Mir.t-4 (atRet E (Reached w P y)) $
           sets ! 1 (of-opd ! (local ! 1 refl)) refl typed $ leaves ! 1 refl refl $ by ! (exits r a ris (as-run r t n e said))))))

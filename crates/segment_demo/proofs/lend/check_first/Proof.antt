@@ -10,7 +10,7 @@ use denote.Memory.{pointee}
 use denote.Array.{Array}
 use borrow.Table.Elements.{length-take-le}
 use Rattle.walk.proofs.Words.{_≡_, refl, sym, subst, ℕ, _+_, _*_, _<_, _≤_, _^_, List, [], _∷_, Bool, URA, Heap, SProp, emp, fact, id⊢}
-use Rattle.walk.proofs.Words.{Ty, erased, u64, w64, vint, Val, fat, fullShare, Room, sliceVal, sliceTy, Is, Plain, word, truth, row-of, owned, made}
+use Rattle.walk.proofs.Words.{Ty, erased, u64, w64, vint, fat, fullShare, Room, sliceVal, sliceTy, Is, Plain, word, truth, row-of, owned, made}
 use Rattle.walk.proofs.Words.{World, Promise, promise, Callee, Proved, Call, Walk, world, known, proves, walks-if, ends-as, leaves, by-value, number}
 use Rattle.walk.proofs.Words.{_$_, !, ‵, by, move, keep, drop, rewrite, back, sets, local, locals, of-opd, agg, addr, and-then, no-more, from, stop}
 use Rattle.walk.proofs.Words.{hands, calls-as, lands, spreads, gathers, cuts, joins, run, lends, returns}
@@ -45,8 +45,16 @@ module _ {M : Type 1} {𝓤 : URA M} {H : Heap 𝓤} (w : World 𝓤 H) where
 
   module _ (check : Callee w Check g.Symbol.name) (ys : List Slot) (k clock sample line : ℕ) where
     abbrev y : Call w P
-    y = ((tt, tt, tt, (ys, (k, (clock, (sample, (line, tt))))),
-        (records .vals ys, (vint w64 k ∷ [], (vint w64 clock ∷ [], (vint w64 sample ∷ [], (vint w64 line ∷ [], tt)))))), tt)
+    y = (
+      (
+        tt,
+        tt,
+        tt,
+        (ys, (k, (clock, (sample, (line, tt))))),
+        (records .vals ys, (vint w64 k ∷ [], (vint w64 clock ∷ [], (vint w64 sample ∷ [], (vint w64 line ∷ [], tt))))),
+      ),
+      tt,
+    )
 
     abbrev front : List Slot
     front = take k ys
@@ -57,8 +65,16 @@ module _ {M : Type 1} {𝓤 : URA M} {H : Heap 𝓤} (w : World 𝓤 H) where
 
     -- what `check_run` is passed: a reference to the first records, in block b, at the lifetime α
     abbrev to : ℕ → ℕ → ℕ → Call w Check
-    to b α γ = (((α ∷ [], tt), (fullShare, tt), tt, (run w (slot w) front b γ, (clock, (sample, (line, tt)))),
-        (sliceVal (b, 0) (length front) ∷ [], (vint w64 clock ∷ [], (vint w64 sample ∷ [], (vint w64 line ∷ [], tt))))), tt)
+    to b α γ = (
+      (
+        (α ∷ [], tt),
+        (fullShare, tt),
+        tt,
+        (run w (slot w) front b γ, (clock, (sample, (line, tt)))),
+        (sliceVal (b, 0) (length front) ∷ [], (vint w64 clock ∷ [], (vint w64 sample ∷ [], (vint w64 line ∷ [], tt)))),
+      ),
+      tt,
+    )
 
     walk : Is (Array T.the-row room) ys (records .vals ys) → k < 2 ^ 64 → clock < 2 ^ 64 → sample < 2 ^ 64 → line < 2 ^ 64 → k ≤ length ys
         → Walk w P f.Code.function y
