@@ -1,9 +1,8 @@
-// A trace reader: it holds the lent trace and its position. Each function over it takes it apart
-// and asks the line parser, or makes one; who has a text and a place calls `next_record` or `first`.
+// A trace reader: it holds the lent trace and its position. Whoever has a text and a place calls
+// `next_record`, which makes a reader and asks it.
 use trace::RecordAt;
 ghost use mathlib.Core.Path.{_≡_};
 ghost use Rattle.trace.specs.Record.{recordAt};
-ghost use Rattle.trace.specs.Trace.{firstRecord};
 ghost use Rattle.reader.specs.Reader.{standing};
 
 // The lent trace, and the place in it that is read next.
@@ -19,13 +18,6 @@ pub fn at_place<'a>(text: &'a [u8], at: usize) -> Reader<'a>
     Reader { text, at }
 }
 
-// A reader that stands at the first record, past the header.
-pub fn open<'a>(text: &'a [u8]) -> Reader<'a>
-    ensures { λ r. ⌜ r ≡ standing (text .entry) firstRecord ⌝ }
-{
-    at_place(text, trace::first_record())
-}
-
 // The record at which the reader stands, and the place past it.
 pub fn next<'a>(r: Reader<'a>) -> RecordAt
     ensures { λ x. ⌜ x ≡ recordAt (now (r .entry .text)) (r .entry .at) ⌝ }
@@ -38,11 +30,4 @@ pub fn next_record(text: &[u8], at: usize) -> RecordAt
     ensures { λ x. ⌜ x ≡ recordAt (now (text .entry)) at ⌝ }
 {
     next(at_place(text, at))
-}
-
-// The first record of a text, and the place past it.
-pub fn first(text: &[u8]) -> RecordAt
-    ensures { λ x. ⌜ x ≡ recordAt (now (text .entry)) firstRecord ⌝ }
-{
-    next(open(text))
 }

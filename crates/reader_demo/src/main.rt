@@ -4,7 +4,8 @@ use trace::Op;
 use trace::Record;
 use trace::RecordAt;
 
-fn op_line(op: Op) {
+// An op's line; the answer, whether it was written, is not used.
+fn op_line(op: Op) -> bool {
     match op {
         Op::Begin => io::write_all(1, b"op=begin\n"),
         Op::End => io::write_all(1, b"op=end\n"),
@@ -15,7 +16,6 @@ fn op_line(op: Op) {
         Op::Stamp => io::write_all(1, b"op=stamp\n"),
         Op::Finish => io::write_all(1, b"op=finish\n"),
     }
-    ;
 }
 
 fn line(key: &[u8], n: u64) {
@@ -50,7 +50,8 @@ fn show(found: RecordAt, at: usize) -> usize {
 }
 
 fn walk(text: &[u8]) {
-    let second = show(reader::first(text), 0);
+    let first = trace::first_record();
+    let second = show(reader::next_record(text, first), first);
     let end = show(reader::next_record(text, second), second);
     show(reader::next_record(text, end), end);
 }
@@ -59,5 +60,6 @@ fn main() {
     walk(
         b"trace=proc-1\nop=begin\nslot=0\nid=0\nstamp=5\nclock=0\nsample=0\nop=snap\nslot=0\nid=0\nstamp=0\nclock=9\nsample=3\n",
     );
-    show(reader::first(b"trace=proc-1\nop=begin\nslot=9\n"), 0);
+    let broken = b"trace=proc-1\nop=begin\nslot=9\n";
+    show(reader::next_record(broken, trace::first_record()), 0);
 }

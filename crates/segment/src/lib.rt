@@ -59,7 +59,7 @@ fn gather(slots: &[Slot], into: Columns) -> Columns
     }
 }
 
-// The core, by value.
+// The check on gathered columns, by value: `audit::check_columns` on both arrays.
 fn check_gathered(columns: Columns, clock: u64, sample: u64, line: u64) -> bool
     ensures { λ r. ⌜ r ≡ passes (length (columns .txids)) (columns .txids) (columns .«snapshot_xmins») clock sample line ⌝ }
 {

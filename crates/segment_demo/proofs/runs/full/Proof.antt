@@ -1,7 +1,7 @@
 -- The loop stays within the array.
 use Prim.Native.Nat.{_≤_, _-_}
 use borrow.Author.Needs.{needs}
-use Rattle.segment.proofs.Steps.{count}
+use Rattle.segment.proofs.Types.{count}
 use Rattle.segment_demo.proofs.runs.full.Statement.{statement}
 use Rattle.segment_demo.proofs.runs.full.Tie as tie
 

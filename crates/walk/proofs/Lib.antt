@@ -1,0 +1,14 @@
+pub mod World
+pub mod Begin
+pub mod Entries
+pub mod Leave
+pub mod Plains
+pub mod Params
+pub mod Meets
+pub mod Locals
+pub mod Constants
+pub mod Calls
+pub mod Lent
+pub mod Arrays
+pub mod Loops
+pub mod Words
