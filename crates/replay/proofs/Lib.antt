@@ -4,4 +4,5 @@ pub mod Unique
 pub mod Whole
 pub mod Parts
 pub mod Room
+pub mod Next
 pub mod Sending

@@ -102,7 +102,7 @@ end-begins n size count rs p j = go (p .left) refl
             (b : Bool) →
             Beginning (textIn (cond b (whole (p .text ++ lineText recordsKey count)) (cut (p .text))))
             (textOf n (freshTable n) rs ++ lineText recordsKey count)
-        ends true = record { rest = []; joined = rw (j .text, e, append-nil, append-nil) }
+        ends true = record { rest = []; joined = rw (j .text, e, append-nil (p .text), append-nil (p .text ++ lineText recordsKey count)) }
         ends false = more
 
 pub into-begins : (n size : ℕ) (s : List ℕ) → Beginning (textIn (intoOf n size s)) (replayOf n s)

@@ -1,41 +1,32 @@
 -- Where a run to a file descriptor stands: what went and what is still to come are the whole text.
-use Prim.Native.Nat.{ℕ, _+_, _*_, _≤_, _<_, _^_}
+use Prim.Native.Nat.{ℕ, _+_, _*_, _≤_, _<_}
 use mathlib.Core.Path.{_≡_, refl, sym, ap, _∙_}
-use mathlib.Core.Bool.{Bool, true, false}
 use mathlib.Core.List.{List, [], _∷_, _++_, append-assoc}
-use native.Mathlib.Nat.{zero-add}
 use native.Mathlib.Omega.{arith}
-use lib.Dec.{leb}
 use lib.ListN.{length, take, drop, length-append, length-drop}
-use lib.Seq.{take-length, take-append-seam, drop-append-seam, drop-drop}
-use borrow.Author.Tests.{leb-true}
+use lib.Seq.{take-append-seam, drop-append-seam, drop-drop}
 use Rattle.rules.specs.declared.Table.{Table}
 use Rattle.rules.specs.Tables.{freshTable}
 use Rattle.rules.specs.Facts.{Good}
 use Rattle.rules.proofs.Moves.{good-fresh}
 use Rattle.text.specs.Keys.{recordsKey}
 use Rattle.text.specs.Line.{lineText}
-use Rattle.text.specs.Write.{spliced, written}
 use Rattle.trace.specs.declared.Record.{Record}
-use Rattle.trace.specs.declared.Reading.the-variants as reads
-use Rattle.trace.specs.Trace.{Breaks, traceOf, reading, recordsFrom, firstRecord, Boundary}
+use Rattle.trace.specs.declared.Reading.the-variants.{Whole}
+use Rattle.trace.specs.Trace.{reading, recordsFrom, firstRecord, Boundary}
 use Rattle.trace.proofs.Grammar.{accepted, opened}
-use Rattle.trace.proofs.Refusal.{trace-breaks}
 use Rattle.trace.proofs.Walk.{At, ended, broke, went, look, no-records}
 use Rattle.trace.proofs.Loop.{next-record, none-left, end-only}
 use Rattle.render.specs.Output.{need}
-use Rattle.replay.specs.Replay.{textOf, brokenText, replayOf}
+use Rattle.replay.specs.Replay.{textOf, replayOf}
 use Rattle.replay.specs.Part.{partOf, PartFits}
-use Rattle.replay.specs.Into.{BrokenFits, EndFits}
-use Rattle.replay.specs.declared.into.Replayed.{Replayed}
-use Rattle.replay.specs.declared.into.Replayed.the-variants.{Written, NoRoom}
 use Rattle.replay.specs.declared.out.Sent.{Sent}
 use Rattle.replay.specs.declared.out.Sent.the-variants.{All}
 use Rattle.replay.specs.declared.part.Progress.{Progress}
-use Rattle.replay.specs.Sent.{SentOf, SentFits, StandsNext}
+use Rattle.replay.specs.Sent.{SentOf, StandsNext}
 use Rattle.replay.proofs.Parts.{parts-join}
 use Rattle.replay.proofs.Room.{part-good, part-goes-on}
-use Rattle.replay.proofs.Running.{inside-of}
+use Rattle.replay.proofs.Next.{begins-with}
 
 -- no more records are left than bytes
 records-inside : (s : List ℕ) (rs : List Record) (at : ℕ) → Boundary s at → recordsFrom s at ≡ rs → at + length rs ≤ length s
@@ -61,11 +52,6 @@ partText n s t at xs = partOf n (length xs) 0 t (recordsFrom s at) .text
 abbrev restText : ℕ → List ℕ → ℕ → Table → ℕ → List ℕ
 restText n s count t at = textOf n t (recordsFrom s at) ++ lineText recordsKey count
 
--- a buffer with a text put at its start begins with it
-begins-with : (xs t : List ℕ) {ys : List ℕ} → ys ≡ spliced xs 0 t → take (length t) ys ≡ t
-unfolding spliced
-begins-with xs t e = rw e (take-append-seam t (drop (0 + length t) xs))
-
 pub record Sending (n : ℕ) (s : List ℕ) (count : ℕ) (t : Table) (at sent : ℕ) : Type 0 where
   pub boundary : Boundary s at
   pub good : Good n t
@@ -74,11 +60,11 @@ pub record Sending (n : ℕ) (s : List ℕ) (count : ℕ) (t : Table) (at sent :
   pub inside : sent ≤ length (replayOf n s)
   pub rest : drop sent (replayOf n s) ≡ restText n s count t at
 
--- all went: then it is so many
+-- what all writes took is the sum
 pub all-sent : {most total : ℕ} {r : Sent} → SentOf most r → r ≡ All total → total ≡ most
 all-sent h e = rw e at h
 
--- the slots of the table that a run begins with
+-- n is the number of slots of the table that a run begins with
 pub from-fresh :
     {n : ℕ} {t₀ : Table} {s : List ℕ} {count : ℕ} {t : Table} {at sent : ℕ} → t₀ ≡ freshTable n →
     Sending (length (t₀ .txids)) s count t at sent → Sending n s count t at sent
@@ -94,7 +80,7 @@ to-fresh {n} {t₀} e w =
     rw size w
 
 module _ (n : ℕ) (s : List ℕ) (count : ℕ) where
-  pub sending-start : reading s ≡ reads.Whole count → Sending n s count (freshTable n) firstRecord 0
+  pub sending-start : reading s ≡ Whole count → Sending n s count (freshTable n) firstRecord 0
   unfolding replayOf
   sending-start e =
       let b = opened s count e in
@@ -157,64 +143,3 @@ module _ (n : ℕ) (s : List ℕ) (count : ℕ) where
 
     pub sending-whole : at ≡ length s → sent + length (lineText recordsKey count) ≡ length (replayOf n s)
     sending-whole h = omega (arith, sym (length-drop sent (replayOf n s)) ∙ ap length (sending-over h), w .inside)
-
--- a text was put at a buffer's start
-pub record PutNext (t xs ys : List ℕ) (end : ℕ) : Type 0 where
-  pub size : end ≡ length t
-  pub inside : end ≤ length xs
-  pub text : take (length t) ys ≡ t
-
--- and is what stands next
-pub put-next :
-    {n : ℕ} {s : List ℕ} {sent : ℕ} {t xs ys : List ℕ} {k : ℕ} → PutNext t xs ys k → drop sent (replayOf n s) ≡ t →
-    StandsNext n s sent k ys
-put-next {t = t} p e = record { bytes = rw (p .size, e) (p .text ∙ sym (take-length t)) }
-
-pub end-is :
-    (count : ℕ) {xs ys : List ℕ} {r : Replayed} {end : ℕ} → EndFits count 0 xs ys r → r ≡ Written end →
-    PutNext (lineText recordsKey count) xs ys end
-unfolding written
-end-is count {xs} {ys} {r} {end} f e = go (leb (0 + length (lineText recordsKey count)) (length xs)) refl
-  where
-    go : (b : Bool) → leb (0 + length (lineText recordsKey count)) (length xs) ≡ b → PutNext (lineText recordsKey count) xs ys end
-    go true q =
-        let h : Written end ≡ Written (0 + length (lineText recordsKey count)) = sym e ∙ (rw q at (f .says)) in
-        let same : end ≡ 0 + length (lineText recordsKey count) = cc in
-        let fit = leb-true (0 + length (lineText recordsKey count)) (length xs) q in
-        let left : ys ≡ spliced xs 0 (lineText recordsKey count) = rw q at (f .text) in
-        record { size = omega (arith, same); inside = omega (arith, same, fit); text = begins-with xs (lineText recordsKey count) left }
-    go false q =
-        let h : Written end ≡ NoRoom 0 = sym e ∙ (rw q at (f .says)) in
-        let z : _≡_ {A = ℕ} 0 1 = cc in
-        absurd (omega arith)
-
-pub broken-is :
-    (line : ℕ) {xs ys : List ℕ} {r : Replayed} {end : ℕ} → BrokenFits line xs ys r → r ≡ Written end → length ys ≡ length xs →
-    PutNext (brokenText line) xs ys end
-broken-is line {xs} {ys} {r} {end} f e k = go (leb 33 (length xs)) refl
-  where
-    go : (b : Bool) → leb 33 (length xs) ≡ b → PutNext (brokenText line) xs ys end
-    go true q =
-        let h : Written end ≡ Written (length (brokenText line)) = sym e ∙ (rw q at (f .says)) in
-        let same : end ≡ length (brokenText line) = cc in
-        let left : ys ≡ spliced xs 0 (brokenText line) = rw q at (f .text) in
-        let fit = inside-of xs 0 (brokenText line) (omega arith) (ap length (sym left) ∙ k) in
-        record { size = same; inside = omega (arith, same, fit); text = begins-with xs (brokenText line) left }
-    go false q =
-        let h : Written end ≡ NoRoom 0 = sym e ∙ (rw q at (f .says)) in
-        let z : _≡_ {A = ℕ} 0 1 = cc in
-        absurd (omega arith)
-
-broken-replay : (n : ℕ) (s : List ℕ) (line : ℕ) → reading s ≡ reads.Broken line → replayOf n s ≡ brokenText line
-unfolding reading replayOf
-broken-replay n s line e = rw (trace-breaks (traceOf s) line e)
-
-pub broken-next :
-    {n : ℕ} {s : List ℕ} {line : ℕ} {xs ys : List ℕ} {k : ℕ} → reading s ≡ reads.Broken line → PutNext (brokenText line) xs ys k →
-    StandsNext n s 0 k ys
-broken-next {n} {s} {line} e p = put-next p (broken-replay n s line e)
-
-pub broken-sent :
-    {n : ℕ} {s : List ℕ} {line : ℕ} {xs ys : List ℕ} {k : ℕ} {r : Sent} → reading s ≡ reads.Broken line →
-    PutNext (brokenText line) xs ys k → SentOf (0 + k) r → SentFits n s r
-broken-sent {n} {s} {line} e p h = record { went = rw (broken-replay n s line e, ← p .size) (rw zero-add at h) }

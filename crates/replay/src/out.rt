@@ -33,7 +33,7 @@ fn write_next(s: &[u8], fd: i32, buf: &[u8], sent: usize, more: usize) -> Sent
     }
 }
 
-// Refusal 9 of a trace that breaks a rule.
+// Refusal 9 of a trace that breaks a rule. Its two lines have room in 64 bytes.
 fn broken_to(s: &[u8], line: usize, fd: i32) -> Sent
     requires { ⌜ reading (now s) ≡ Broken line ⌝ }
     ensures { λ r. do ⌜ SentFits (← ⟦kinds::SLOTS⟧ .entry) (now (s .entry)) r ⌝ }

@@ -1,5 +1,5 @@
 use native.Mathlib.Omega.{arith}
-use Rattle.replay.proofs.Sending.{broken-is, broken-next, broken-sent}
+use Rattle.replay.proofs.Next.{broken-is, broken-next, broken-sent}
 use borrow.Author.Needs.{needs}
 use Rattle.replay.proofs.out.broken_to.Statement.{statement}
 use Rattle.replay.proofs.out.broken_to.Tie as tie
@@ -20,7 +20,8 @@ write-next-requires : tie.Need-write-next-requires
 write-next-requires c κs =
     let put = c .before .before .before .before .before .put-broken in
     let is = broken-is _ (put .ensures) (c .before .before .said .given .1) (put .kept .0) in
-    (omega (arith, is .inside, put .kept .0), (omega (arith, is .inside, put .kept .0), broken-next (c .before .before .before .before .before .before .before .before .pre) is))
+    let read = c .before .before .before .before .before .before .before .before .pre in
+    (omega (arith, is .inside, put .kept .0), (omega (arith, is .inside, put .kept .0), broken-next read is))
 
 enum-told : tie.Need-enum-told
 enum-told c = search needs

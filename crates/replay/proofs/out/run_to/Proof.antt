@@ -3,7 +3,9 @@ use native.Mathlib.Omega.{arith}
 use lib.ListN.{length}
 use borrow.Author.Needs.{needs}
 use Rattle.trace.specs.Trace.{recordsFrom}
-use Rattle.replay.proofs.Sending.{Sending, from-fresh, to-fresh, all-sent, sending-start, sending-part, sending-over, sending-whole, part-next, put-next, end-is}
+use Rattle.replay.proofs.Next.{put-next, end-is}
+use Rattle.replay.proofs.Sending.{Sending, from-fresh, to-fresh, all-sent, sending-start, part-next}
+use Rattle.replay.proofs.Sending.{sending-part, sending-over, sending-whole}
 use Rattle.replay.proofs.out.run_to.Statement.{statement}
 use Rattle.replay.proofs.out.run_to.Tie as tie
 
@@ -67,7 +69,8 @@ loop-less c =
     let fresh = l .before .before .fresh .ensures in
     let w = from-fresh fresh (l .loop .inv .1) in
     let size = l .loop .inv .0 ∙ sym (l .before .before .before .large-buffer .ensures) in
-    let more = sending-part _ _ _ w (part .ensures (w .boundary)) size (omega arith) (c .before .before .before .before .before .before .before .before .before .loop-test .taken) in
+    let test = c .before .before .before .before .before .before .before .before .before .loop-test .taken in
+    let more = sending-part _ _ _ w (part .ensures (w .boundary)) size (omega arith) test in
     more .0
 
 loop-again : tie.Need-loop-again Inv-loop μ-loop
@@ -77,7 +80,8 @@ loop-again c =
     let fresh = l .before .before .fresh .ensures in
     let w = from-fresh fresh (l .loop .inv .1) in
     let size = l .loop .inv .0 ∙ sym (l .before .before .before .large-buffer .ensures) in
-    let more = sending-part _ _ _ w (part .ensures (w .boundary)) size (omega arith) (c .before .before .before .before .before .before .before .before .before .loop-test .taken) in
+    let test = c .before .before .before .before .before .before .before .before .before .loop-test .taken in
+    let more = sending-part _ _ _ w (part .ensures (w .boundary)) size (omega arith) test in
     let total = all-sent (c .before .before .before .before .write-next .ensures) (c .before .before .wrote .given .1) in
     (part .kept .1 .1 .1 .0 ∙ l .loop .inv .0, to-fresh fresh (rw total (more .1)))
 
