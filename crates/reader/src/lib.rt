@@ -11,7 +11,7 @@ pub struct Reader<'a> {
     pub at: usize,
 }
 
-// A reader that stands at a place.
+// A reader that stands at a place: `trace::first_record()`, where a trace is opened.
 pub fn at_place<'a>(text: &'a [u8], at: usize) -> Reader<'a>
     ensures { λ r. ⌜ r ≡ standing (text .entry) at ⌝ }
 {
