@@ -1,7 +1,6 @@
-// What each call answers, and what is said of the table that comes back beside it.
+// What a call answers, as document 01's number and values: 0 where it has none.
 use crate::say::number;
-use crate::say::slot_number;
-use crate::say::word;
+use crate::say::slot;
 use decide::Begun;
 use decide::Ended;
 use decide::Oldest;
@@ -9,113 +8,90 @@ use decide::Stamped;
 use decide::Taken;
 use decide::Vacuumed;
 use kinds::Refusal;
-use kinds::SlotNo;
-use kinds::Txid;
-use rules::Table;
-use settled::Snapshot;
 
-fn answer(n: u64) {
-    number(b": answer=", n);
+pub struct Told {
+    pub number: u64,
+    pub slot: u64,
+    pub id: u64,
+    pub seen: u64,
+    // The xmin that oldest answers, the line that vacuum answers.
+    pub value: u64,
 }
 
-fn mismatch(slot: SlotNo, expected: Txid, observed: Txid) {
-    slot_number(b": answer=3 slot=", slot.0);
-    number(b" expected=", expected.0);
-    number(b" observed=", observed.0);
+fn tell(number: u64, slot: u64, id: u64, seen: u64, value: u64) -> Told {
+    Told {
+        number,
+        slot,
+        id,
+        seen,
+        value,
+    }
 }
 
-// A refusal's number, and what it carries.
-pub fn refused(r: Refusal) {
+pub fn refusal(r: Refusal) -> Told {
     match r {
-        Refusal::NoFreeSlot(txid) => number(b": answer=1 id=", txid.0),
-        Refusal::InvalidSlot(slot) => slot_number(b": answer=2 slot=", slot.0),
+        Refusal::NoFreeSlot(txid) => tell(1, 0, txid.0, 0, 0),
+        Refusal::InvalidSlot(slot) => tell(2, slot.0 as u64, 0, 0, 0),
         Refusal::SlotOwnershipMismatch {
             slot,
             expected,
             observed,
-        } => mismatch(slot, expected, observed),
-        Refusal::ZeroTxid => answer(4),
-        Refusal::ClockExhausted => answer(5),
-        Refusal::BadReservation => answer(6),
-        Refusal::BadClock => answer(7),
-        Refusal::BadSample => answer(8),
-        Refusal::BadTrace(_) => answer(9),
-        Refusal::BadSnapshot => answer(10),
+        } => tell(3, slot.0 as u64, expected.0, observed.0, 0),
+        Refusal::ZeroTxid => tell(4, 0, 0, 0, 0),
+        Refusal::ClockExhausted => tell(5, 0, 0, 0, 0),
+        Refusal::BadReservation => tell(6, 0, 0, 0, 0),
+        Refusal::BadClock => tell(7, 0, 0, 0, 0),
+        Refusal::BadSample => tell(8, 0, 0, 0, 0),
+        Refusal::BadTrace(_) => tell(9, 0, 0, 0, 0),
+        Refusal::BadSnapshot => tell(10, 0, 0, 0, 0),
     }
 }
 
-pub fn begun(answer: Begun) {
+pub fn begun(answer: Begun) -> Told {
     match answer {
-        Begun::Accepted { slot, txid } => {
-            slot_number(b": answer=0 slot=", slot.0);
-            number(b" id=", txid.0);
-        }
-        Begun::Refused(r) => refused(r),
+        Begun::Accepted { slot, txid } => tell(0, slot.0 as u64, txid.0, 0, 0),
+        Begun::Refused(r) => refusal(r),
     }
 }
 
-pub fn ended(answer: Ended) {
+pub fn ended(answer: Ended) -> Told {
     match answer {
-        Ended::Accepted => word(b": answer=0"),
-        Ended::Refused(r) => refused(r),
+        Ended::Accepted => tell(0, 0, 0, 0, 0),
+        Ended::Refused(r) => refusal(r),
     }
 }
 
-// A snapshot, with three places of its list.
-pub fn shown(s: Snapshot) {
-    let ids = s.ids;
-    number(b" xmin=", s.xmin);
-    number(b" xmax=", s.xmax);
-    number(b" count=", s.count as u64);
-    number(b" ids=", ids[0]);
-    number(b",", ids[1]);
-    number(b",", ids[2]);
-}
-
-pub fn taken(answer: Taken, s: Snapshot) {
+pub fn taken(answer: Taken) -> Told {
     match answer {
-        Taken::Accepted => word(b": answer=0"),
-        Taken::Refused(r) => refused(r),
+        Taken::Accepted => tell(0, 0, 0, 0, 0),
+        Taken::Refused(r) => refusal(r),
     }
-    shown(s);
 }
 
-pub fn oldest(answer: Oldest) {
+pub fn oldest(answer: Oldest) -> Told {
     match answer {
-        Oldest::Xmin(xmin) => number(b": answer=0 oldest=", xmin),
-        Oldest::Refused(r) => refused(r),
+        Oldest::Xmin(xmin) => tell(0, 0, 0, 0, xmin),
+        Oldest::Refused(r) => refusal(r),
     }
 }
 
-pub fn vacuumed(answer: Vacuumed) {
+pub fn vacuumed(answer: Vacuumed) -> Told {
     match answer {
-        Vacuumed::Line(line) => number(b": answer=0 vacuum=", line),
-        Vacuumed::Refused(r) => refused(r),
+        Vacuumed::Line(line) => tell(0, 0, 0, 0, line),
+        Vacuumed::Refused(r) => refusal(r),
     }
 }
 
-pub fn stamped(answer: Stamped) {
+pub fn stamped(answer: Stamped) -> Told {
     match answer {
-        Stamped::Accepted(stamp) => number(b": answer=0 stamp=", stamp.0),
-        Stamped::Refused(r) => refused(r),
+        Stamped::Accepted(stamp) => tell(0, 0, stamp.0, 0, 0),
+        Stamped::Refused(r) => refusal(r),
     }
 }
 
-// A slot as txid/snapshot_xmin.
-fn slot(key: &[u8], txid: u64, snapshot_xmin: u64) {
-    number(key, txid);
-    number(b"/", snapshot_xmin);
-}
-
-// The end of a line: clock, sample, line and the first three slots.
-pub fn after(t: Table) {
-    let txids = t.txids;
-    let xmins = t.snapshot_xmins;
-    number(b" | clock=", t.clock);
-    number(b" sample=", t.sampled_clock);
-    number(b" line=", t.line);
-    slot(b" slots=", txids[0], xmins[0]);
-    slot(b",", txids[1], xmins[1]);
-    slot(b",", txids[2], xmins[2]);
-    word(b"\n");
+pub fn say(t: Told) {
+    number(b": answer=", t.number);
+    slot(b" slot=", t.slot);
+    number(b" id=", t.id);
+    number(b" seen=", t.seen);
 }

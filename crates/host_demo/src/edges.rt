@@ -12,23 +12,20 @@ use kinds::SLOTS;
 
 fn row(n: u64) {
     number(b"P", n);
-    word(b" ");
+    word(b"\n");
 }
 
-fn snapshots() {
+fn snapshots_and_begins() {
     row(1);
     snap(table::fresh(), 1, 1);
     row(2);
     let begun = begin(table::fresh(), 5);
-    row(2);
     snap(begun, 9, 3);
     row(3);
-    snap(three(), 12, 2);
+    let t = three();
+    snap(t, 12, 2);
     row(4);
-    snap(three(), 12, 12);
-}
-
-fn begins() {
+    snap(t, 12, 12);
     row(5);
     begin(full(), 400);
     row(6);
@@ -39,32 +36,24 @@ fn begins() {
     begin(table::fresh(), u64::MAX);
 }
 
-fn ends() {
+fn ends_and_vacuums() {
+    let t = table::fresh();
     row(9);
-    end(table::fresh(), SLOTS as u16, 0);
+    end(t, SLOTS as u16, 0);
     row(10);
-    end(table::fresh(), 0, 0);
+    end(t, 0, 0);
     row(11);
-    let begun = begin(table::fresh(), 5);
-    row(11);
+    let begun = begin(t, 5);
     let ended = end(begun, 0, 5);
-    row(11);
     end(ended, 0, 5);
-}
-
-fn lines() {
     row(12);
-    let first = vacuum(table::fresh(), 100, 100);
-    row(12);
+    let first = vacuum(t, 100, 100);
     let second = vacuum(first, 100, 50);
-    row(12);
     oldest(second, 100, 50);
 }
 
 pub fn rows() {
     word(b"part=edges\n");
-    snapshots();
-    begins();
-    ends();
-    lines();
+    snapshots_and_begins();
+    ends_and_vacuums();
 }

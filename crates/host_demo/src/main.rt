@@ -1,11 +1,11 @@
-// How a host written in this language uses the table (host, story, in_place), and a run of every call by value.
-// A line says a call and what it was handed, its answer, and after `|` the table that came back. Every line of the file
+// How a host written in this language uses the table (story, in_place), and a run of every call by value.
+// A line says a call with what it was handed, `clock/sample` for an observation; what it answers, in the words of
+// document 01's record; and after `|` the table that came back, a slot as txid/snapshot_xmin. Every line of the file
 // `stdout` was worked out by hand from document 01, before the program had been run.
 mod accepted;
 mod answers;
 mod checking;
 mod edges;
-mod host;
 mod in_place;
 mod orders;
 mod refusals;

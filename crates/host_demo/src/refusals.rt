@@ -22,6 +22,14 @@ fn of_begin() {
     begin(t, u64::MAX);
 }
 
+fn of_stamp() {
+    stamp(exhausted(), u64::MAX);
+    let t = one();
+    stamp(t, 0);
+    stamp(t, 8);
+    stamp(t, u64::MAX);
+}
+
 fn of_end() {
     let t = one();
     end(t, SLOTS as u16, 5);
@@ -29,6 +37,18 @@ fn of_end() {
     end(t, 0, 0);
     end(t, 0, 7);
     end(t, 1, 5);
+}
+
+fn of_finish() {
+    finish(exhausted(), 0, u64::MAX - 1, u64::MAX);
+    let t = one();
+    finish(t, SLOTS as u16, 5, 9);
+    finish(t, 0, 0, 9);
+    finish(t, 0, 7, 9);
+    finish(t, 1, 5, 9);
+    finish(t, 0, 5, 0);
+    finish(t, 0, 5, 8);
+    finish(t, 0, 5, u64::MAX);
 }
 
 fn of_own() {
@@ -55,32 +75,12 @@ fn of_observations() {
     vacuum(t, 9, 10);
 }
 
-fn of_stamp() {
-    stamp(exhausted(), u64::MAX);
-    let t = one();
-    stamp(t, 0);
-    stamp(t, 8);
-    stamp(t, u64::MAX);
-}
-
-fn of_finish() {
-    finish(exhausted(), 0, u64::MAX - 1, u64::MAX);
-    let t = one();
-    finish(t, SLOTS as u16, 5, 9);
-    finish(t, 0, 0, 9);
-    finish(t, 0, 7, 9);
-    finish(t, 1, 5, 9);
-    finish(t, 0, 5, 0);
-    finish(t, 0, 5, 8);
-    finish(t, 0, 5, u64::MAX);
-}
-
 pub fn each_call() {
     word(b"part=refusals\n");
     of_begin();
+    of_stamp();
     of_end();
+    of_finish();
     of_own();
     of_observations();
-    of_stamp();
-    of_finish();
 }

@@ -1,6 +1,6 @@
 // The settled test, by value and on a snapshot's parts, lent. The first two snapshots are those of docs/DIFFERENCES.md,
 // D11: PostgreSQL's own example, and one whose listed id is below xmin.
-use crate::answers::refused;
+use crate::answers;
 use crate::say::number;
 use crate::say::word;
 use kinds::SLOTS;
@@ -27,7 +27,10 @@ fn said(answer: Settled) {
     match answer {
         Settled::Yes => word(b": yes"),
         Settled::No => word(b": no"),
-        Settled::Refused(r) => refused(r),
+        Settled::Refused(r) => {
+            let told = answers::refusal(r);
+            number(b": answer=", told.number);
+        }
     }
 }
 
@@ -53,26 +56,18 @@ fn of_the_manual() {
     ask(s, 20);
 }
 
-fn badly_formed() {
+pub fn vectors() {
+    word(b"part=settled\n");
+    of_the_manual();
     word(b"snapshot=12:20:10\n");
     let s = to_20(12, 1);
     ask(s, 10);
     ask(s, 11);
     ask(s, 12);
-}
-
-fn counts() {
     word(b"count=SLOTS\n");
     ask(to_20(10, SLOTS), 0);
     ask(to_20(10, SLOTS), 16);
     word(b"count=SLOTS+1\n");
     ask(to_20(10, SLOTS + 1), 0);
     ask(to_20(10, SLOTS + 1), 9);
-}
-
-pub fn vectors() {
-    word(b"part=settled\n");
-    of_the_manual();
-    badly_formed();
-    counts();
 }

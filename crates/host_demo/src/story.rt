@@ -1,63 +1,107 @@
-// The story of README: a photo is re-encoded while a page reads it. The page asks for the top tile before the re-encode
-// is done and for the bottom tile after.
-use crate::answers;
-use crate::host;
-use crate::host::Page;
-use crate::say::number;
-use crate::say::word;
+// The story of README: a photo of two tiles is re-encoded while a page reads it. Each call is one critical section of the
+// host, which hands in what its atomics gave; the table that comes back is the next one in.
+use crate::say;
+use decide::Begun;
+use decide::Vacuumed;
+use kinds::SlotNo;
 use kinds::Stamp;
 use kinds::Txid;
-use settled::Snapshot;
+use rules::Table;
+use settled::Settled;
 
-fn opened(page: Page) {
-    number(b"page id=", page.id.0);
-    answers::shown(page.shown);
-    answers::after(page.table);
+// By what a transaction's later calls know it.
+struct Registration {
+    slot: SlotNo,
+    id: Txid,
 }
 
-fn top(shown: Snapshot, old: Txid, new: Txid) {
-    let maker = host::read(shown, old, new);
-    number(b"top maker=", maker.0);
-    word(b"\n");
-}
-
-fn bottom(shown: Snapshot, old: Txid, new: Txid) {
-    let maker = host::read(shown, old, new);
-    number(b"bottom maker=", maker.0);
-    word(b"\n");
-}
-
-// The old tiles may go once the id that replaced them is below the line.
-fn line(line: u64, replaced_by: Txid) {
-    number(b"line=", line);
-    if replaced_by.0 < line {
-        word(b" old=goes\n");
-    } else {
-        word(b" old=stays\n");
+// Who is refused has id 0, which every later call refuses.
+fn registered(answer: Begun) -> Registration {
+    match answer {
+        Begun::Accepted { slot, txid } => Registration { slot, id: txid },
+        Begun::Refused(_) => Registration {
+            slot: SlotNo(0),
+            id: Txid(0),
+        },
     }
 }
 
+// A page may use a tile exactly when the tile's maker is settled in the page's snapshot: the new one, or else the old.
+fn read(tile: &[u8], answer: Settled, old: Txid, new: Txid) {
+    say::word(tile);
+    match answer {
+        Settled::Yes => say::number(b" maker=", new.0),
+        Settled::No => say::number(b" maker=", old.0),
+        Settled::Refused(_) => say::word(b" none"),
+    }
+    say::word(b"\n");
+}
+
+// A tile may go once the id that replaced it is below the line.
+fn sweep(answer: Vacuumed, replaced_by: Txid) {
+    match answer {
+        Vacuumed::Line(line) => {
+            say::number(b"line=", line);
+            if replaced_by.0 < line {
+                say::word(b" old=goes\n");
+            } else {
+                say::word(b" old=stays\n");
+            }
+        }
+        Vacuumed::Refused(_) => say::word(b"none\n"),
+    }
+}
+
+// A page that comes after the re-encode.
+fn next_page(t: Table, old: Txid, new: Txid) {
+    let begun = table::begin_transaction(t, Stamp(6));
+    let answer = begun.answer;
+    let page = registered(answer);
+    let seen = table::create_transaction_snapshot(begun.table, page.slot, page.id, 7, 7);
+    say::number(b"page=", page.id.0);
+    say::snapshot(seen.snapshot);
+    read(b"\ntop", settled::is_settled(seen.snapshot, new), old, new);
+    read(b"bottom", settled::is_settled(seen.snapshot, new), old, new);
+}
+
+// A page asks for its top tile before the re-encode is done, and for its bottom tile after.
 pub fn one_photo() {
-    word(b"part=story\n");
-    let first = host::begin(table::fresh(), Stamp(1));
-    let old = first.id;
-    let t = host::finish(first.table, first.slot, old, Stamp(2));
-    let encode = host::begin(t, Stamp(3));
-    let new = encode.id;
-    let page = host::open(encode.table, Stamp(4), 5, 5);
-    opened(page);
-    top(page.shown, old, new);
-    let before = host::sweep(page.table, 5, 5);
-    line(before.line, new);
-    let done = host::finish(before.table, encode.slot, new, Stamp(5));
-    let between = host::sweep(done, 6, 6);
-    line(between.line, new);
-    bottom(page.shown, old, new);
-    let left = table::end_transaction(between.table, page.slot, page.id);
-    let at_last = host::sweep(left.table, 6, 6);
-    line(at_last.line, new);
-    let next = host::open(at_last.table, Stamp(6), 7, 7);
-    opened(next);
-    top(next.shown, old, new);
-    bottom(next.shown, old, new);
+    say::word(b"part=story\n");
+    let first = table::begin_transaction(table::fresh(), Stamp(1));
+    let first_answer = first.answer;
+    let old = registered(first_answer);
+    let made = table::finish_transaction(first.table, old.slot, old.id, Stamp(2));
+    let second = table::begin_transaction(made.table, Stamp(3));
+    let second_answer = second.answer;
+    let new = registered(second_answer);
+    let third = table::begin_transaction(second.table, Stamp(4));
+    let third_answer = third.answer;
+    let page = registered(third_answer);
+    let seen = table::create_transaction_snapshot(third.table, page.slot, page.id, 5, 5);
+    say::number(b"page=", page.id.0);
+    say::snapshot(seen.snapshot);
+    read(
+        b"\ntop",
+        settled::is_settled(seen.snapshot, new.id),
+        old.id,
+        new.id,
+    );
+    let before = table::vacuum(seen.table, 5, 5);
+    let before_answer = before.answer;
+    sweep(before_answer, new.id);
+    let done = table::finish_transaction(before.table, new.slot, new.id, Stamp(5));
+    let after = table::vacuum(done.table, 6, 6);
+    let after_answer = after.answer;
+    sweep(after_answer, new.id);
+    read(
+        b"bottom",
+        settled::is_settled(seen.snapshot, new.id),
+        old.id,
+        new.id,
+    );
+    let left = table::end_transaction(after.table, page.slot, page.id);
+    let last = table::vacuum(left.table, 6, 6);
+    let last_answer = last.answer;
+    sweep(last_answer, new.id);
+    next_page(last.table, old.id, new.id);
 }

@@ -42,9 +42,3 @@ pub fn full() -> Table {
     t.clock = 300;
     t
 }
-
-// The same, and no number is left.
-pub fn full_exhausted() -> Table {
-    let called = table::reserve_publication_clock(full(), Stamp(u64::MAX - 1));
-    called.table
-}
