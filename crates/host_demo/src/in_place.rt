@@ -1,0 +1,43 @@
+// A host that owns its columns: crate `decide` says the answer and the change, and the host stores the change.
+use crate::answers;
+use crate::say;
+use decide::Counters;
+use kinds::SLOTS;
+use kinds::Stamp;
+
+// One column's part of a change; a number that no slot has changes nothing.
+fn put(column: &mut [u64; SLOTS], at: usize, x: u64) {
+    if at < SLOTS {
+        column[at] = x;
+    }
+}
+
+// Document 01's whole case. No call copies the table.
+pub fn whole_case() {
+    let mut t = table::fresh();
+    let was = Counters {
+        clock: t.clock,
+        sampled_clock: t.sampled_clock,
+        line: t.line,
+    };
+    let begun = decide::decide_begin(&t.txids, was, Stamp(5));
+    let answer = begun.answer;
+    let change = begun.change;
+    put(&mut t.txids, change.at, change.txid);
+    put(&mut t.snapshot_xmins, change.at, change.snapshot_xmin);
+    let now = change.counters;
+    t.clock = now.clock;
+    say::word(b"part=in place\nbegin 5");
+    answers::say(answers::begun(answer));
+    say::table(t);
+    let seen = decide::decide_snap(&t.txids, now, 9, 3);
+    let seen_answer = seen.answer;
+    let seen_change = seen.change;
+    let then = seen_change.counters;
+    t.clock = then.clock;
+    t.sampled_clock = then.sampled_clock;
+    say::word(b"snap 9/3");
+    answers::say(answers::taken(seen_answer));
+    say::snapshot(seen.snapshot);
+    say::table(t);
+}

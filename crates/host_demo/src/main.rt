@@ -1,0 +1,27 @@
+// How a host written in this language uses the table (story, in_place), and a run of every call by value.
+// A line says a call with what it was handed, `clock/sample` for an observation; what it answers, in the words of
+// document 01's record; and after `|` the table that came back, a slot as txid/snapshot_xmin. Every line of the file
+// `stdout` was worked out by hand from document 01, before the program had been run.
+mod accepted;
+mod answers;
+mod checking;
+mod edges;
+mod in_place;
+mod orders;
+mod refusals;
+mod say;
+mod settling;
+mod steps;
+mod story;
+mod tables;
+
+fn main() {
+    story::one_photo();
+    in_place::whole_case();
+    accepted::each_call();
+    edges::rows();
+    refusals::each_call();
+    orders::each_call();
+    settling::vectors();
+    checking::conditions();
+}

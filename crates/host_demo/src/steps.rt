@@ -1,0 +1,90 @@
+// The eight calls by value, a line each. The table that comes back is the next one in.
+use crate::answers;
+use crate::say;
+use kinds::SlotNo;
+use kinds::Stamp;
+use kinds::Txid;
+use rules::Table;
+
+pub fn begin(t: Table, stamp: u64) -> Table {
+    let called = table::begin_transaction(t, Stamp(stamp));
+    let answer = called.answer;
+    say::number(b"begin ", stamp);
+    answers::say(answers::begun(answer));
+    say::table(called.table);
+    called.table
+}
+
+pub fn end(t: Table, slot: u16, id: u64) -> Table {
+    let called = table::end_transaction(t, SlotNo(slot), Txid(id));
+    let answer = called.answer;
+    say::slot(b"end ", slot as u64);
+    say::number(b" ", id);
+    answers::say(answers::ended(answer));
+    say::table(called.table);
+    called.table
+}
+
+pub fn snap(t: Table, clock: u64, sample: u64) -> Table {
+    let called = table::create_snapshot(t, clock, sample);
+    let answer = called.answer;
+    say::pair(b"snap ", clock, sample);
+    answers::say(answers::taken(answer));
+    say::snapshot(called.snapshot);
+    say::table(called.table);
+    called.table
+}
+
+pub fn own(t: Table, slot: u16, id: u64, clock: u64, sample: u64) -> Table {
+    let called = table::create_transaction_snapshot(t, SlotNo(slot), Txid(id), clock, sample);
+    let answer = called.answer;
+    say::slot(b"own ", slot as u64);
+    say::number(b" ", id);
+    say::pair(b" ", clock, sample);
+    answers::say(answers::taken(answer));
+    say::snapshot(called.snapshot);
+    say::table(called.table);
+    called.table
+}
+
+pub fn oldest(t: Table, clock: u64, sample: u64) -> Table {
+    let called = table::oldest_snapshot_xmin(t, clock, sample);
+    let answer = called.answer;
+    let told = answers::oldest(answer);
+    say::pair(b"oldest ", clock, sample);
+    answers::say(told);
+    say::number(b" xmin=", told.value);
+    say::table(called.table);
+    called.table
+}
+
+pub fn vacuum(t: Table, clock: u64, sample: u64) -> Table {
+    let called = table::vacuum(t, clock, sample);
+    let answer = called.answer;
+    let told = answers::vacuumed(answer);
+    say::pair(b"vacuum ", clock, sample);
+    answers::say(told);
+    say::number(b" vacuum=", told.value);
+    say::table(called.table);
+    called.table
+}
+
+pub fn stamp(t: Table, stamp: u64) -> Table {
+    let called = table::reserve_publication_clock(t, Stamp(stamp));
+    let answer = called.answer;
+    say::number(b"stamp ", stamp);
+    answers::say(answers::stamped(answer));
+    say::table(called.table);
+    called.table
+}
+
+pub fn finish(t: Table, slot: u16, id: u64, stamp: u64) -> Table {
+    let called = table::finish_transaction(t, SlotNo(slot), Txid(id), Stamp(stamp));
+    let answer = called.answer;
+    say::slot(b"finish ", slot as u64);
+    say::number(b" ", id);
+    say::number(b" ", stamp);
+    answers::say(answers::stamped(answer));
+    say::table(called.table);
+    called.table
+}
