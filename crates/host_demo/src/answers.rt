@@ -1,13 +1,13 @@
 // What a call answers, as document 01's number and values: 0 where it has none.
 use crate::say::number;
 use crate::say::slot;
-use decide::Begun;
-use decide::Ended;
-use decide::Oldest;
-use decide::Stamped;
-use decide::Taken;
-use decide::Vacuumed;
 use kinds::Refusal;
+use table::Begun;
+use table::Ended;
+use table::Oldest;
+use table::Stamped;
+use table::Taken;
+use table::Vacuumed;
 
 pub struct Told {
     pub number: u64,

@@ -1,9 +1,9 @@
 // A host that owns its columns: crate `decide` says the answer and the change, and the host stores the change.
 use crate::answers;
 use crate::say;
-use decide::Counters;
 use kinds::SLOTS;
 use kinds::Stamp;
+use table::Counters;
 
 // One column's part of a change; a number that no slot has changes nothing.
 fn put(column: &mut [u64; SLOTS], at: usize, x: u64) {
@@ -20,7 +20,7 @@ pub fn whole_case() {
         sampled_clock: t.sampled_clock,
         line: t.line,
     };
-    let begun = decide::decide_begin(&t.txids, was, Stamp(5));
+    let begun = table::decide_begin(&t.txids, was, Stamp(5));
     let answer = begun.answer;
     let change = begun.change;
     put(&mut t.txids, change.at, change.txid);
@@ -30,7 +30,7 @@ pub fn whole_case() {
     say::word(b"part=in place\nbegin 5");
     answers::say(answers::begun(answer));
     say::table(t);
-    let seen = decide::decide_snap(&t.txids, now, 9, 3);
+    let seen = table::decide_snap(&t.txids, now, 9, 3);
     let seen_answer = seen.answer;
     let seen_change = seen.change;
     let then = seen_change.counters;

@@ -1,13 +1,13 @@
 // The story of README: a photo of two tiles is re-encoded while a page reads it. Each call is one critical section of the
 // host, which hands in what its atomics gave; the table that comes back is the next one in.
 use crate::say;
-use decide::Begun;
-use decide::Vacuumed;
 use kinds::SlotNo;
 use kinds::Stamp;
 use kinds::Txid;
 use rules::Table;
 use settled::Settled;
+use table::Begun;
+use table::Vacuumed;
 
 // By what a transaction's later calls know it.
 struct Registration {
