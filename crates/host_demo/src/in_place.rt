@@ -1,16 +1,8 @@
-// A host that owns its columns: crate `decide` says the answer and the change, and the host stores the change.
+// A host that owns its columns: a decision says the answer and the change, and the host stores the change.
 use crate::answers;
 use crate::say;
-use kinds::SLOTS;
 use kinds::Stamp;
 use table::Counters;
-
-// One column's part of a change; a number that no slot has changes nothing.
-fn put(column: &mut [u64; SLOTS], at: usize, x: u64) {
-    if at < SLOTS {
-        column[at] = x;
-    }
-}
 
 // Document 01's whole case. No call copies the table.
 pub fn whole_case() {
@@ -23,8 +15,8 @@ pub fn whole_case() {
     let begun = table::decide_begin(&t.txids, was, Stamp(5));
     let answer = begun.answer;
     let change = begun.change;
-    put(&mut t.txids, change.at, change.txid);
-    put(&mut t.snapshot_xmins, change.at, change.snapshot_xmin);
+    table::store_at(&mut t.txids, change.at, change.txid);
+    table::store_at(&mut t.snapshot_xmins, change.at, change.snapshot_xmin);
     let now = change.counters;
     t.clock = now.clock;
     say::word(b"part=in place\nbegin 5");
