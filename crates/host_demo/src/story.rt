@@ -1,6 +1,7 @@
 // The story of README: a photo of two tiles is re-encoded while a page reads it. Each call is one critical section of the
 // host, which hands in what its atomics gave; the table that comes back is the next one in.
 use crate::say;
+use crate::steps;
 use decide::Begun;
 use decide::Vacuumed;
 use kinds::SlotNo;
@@ -8,6 +9,9 @@ use kinds::Stamp;
 use kinds::Txid;
 use rules::Table;
 use settled::Settled;
+
+// The maker of the old tiles.
+const OLD: u64 = 1;
 
 // By what a transaction's later calls know it.
 struct Registration {
@@ -26,82 +30,75 @@ fn registered(answer: Begun) -> Registration {
     }
 }
 
-// A page may use a tile exactly when the tile's maker is settled in the page's snapshot: the new one, or else the old.
-fn read(tile: &[u8], answer: Settled, old: Txid, new: Txid) {
-    say::word(tile);
+// Whose tile a page reads. It may use one exactly when its maker is settled in the page's snapshot.
+fn maker_read(answer: Settled, new: Txid) -> u64 {
     match answer {
-        Settled::Yes => say::number(b" maker=", new.0),
-        Settled::No => say::number(b" maker=", old.0),
-        Settled::Refused(_) => say::word(b" none"),
+        Settled::Yes => new.0,
+        Settled::No => OLD,
+        Settled::Refused(_) => 0,
     }
-    say::word(b"\n");
 }
 
-// A tile may go once the id that replaced it is below the line.
-fn sweep(answer: Vacuumed, replaced_by: Txid) {
+// The old tiles may go once the id that replaced them is below the line.
+fn line(answer: Vacuumed) -> u64 {
     match answer {
-        Vacuumed::Line(line) => {
-            say::number(b"line=", line);
-            if replaced_by.0 < line {
-                say::word(b" old=goes\n");
-            } else {
-                say::word(b" old=stays\n");
-            }
-        }
-        Vacuumed::Refused(_) => say::word(b"none\n"),
+        Vacuumed::Line(line) => line,
+        Vacuumed::Refused(_) => 0,
     }
+}
+
+// The page that was open all the time: the line before and after the re-encode was done, and when the page had left.
+fn tell(top: u64, before: u64, after: u64, bottom: u64, left: u64) {
+    say::number(b"page: top=", top);
+    say::number(b" line=", before);
+    say::number(b" line=", after);
+    say::number(b" bottom=", bottom);
+    say::number(b" line=", left);
 }
 
 // A page that comes after the re-encode.
-fn next_page(t: Table, old: Txid, new: Txid) {
+fn next_page(t: Table, new: Txid) {
     let begun = table::begin_transaction(t, Stamp(6));
     let answer = begun.answer;
     let page = registered(answer);
     let seen = table::create_transaction_snapshot(begun.table, page.slot, page.id, 7, 7);
-    say::number(b"page=", page.id.0);
-    say::snapshot(seen.snapshot);
-    read(b"\ntop", settled::is_settled(seen.snapshot, new), old, new);
-    read(b"bottom", settled::is_settled(seen.snapshot, new), old, new);
+    let settled = settled::is_settled(seen.snapshot, new);
+    let maker = maker_read(settled, new);
+    say::number(b"\nnext page: both=", maker);
+    say::table(seen.table);
 }
 
 // A page asks for its top tile before the re-encode is done, and for its bottom tile after.
 pub fn one_photo() {
     say::word(b"part=story\n");
-    let first = table::begin_transaction(table::fresh(), Stamp(1));
-    let first_answer = first.answer;
-    let old = registered(first_answer);
-    let made = table::finish_transaction(first.table, old.slot, old.id, Stamp(2));
-    let second = table::begin_transaction(made.table, Stamp(3));
-    let second_answer = second.answer;
-    let new = registered(second_answer);
-    let third = table::begin_transaction(second.table, Stamp(4));
-    let third_answer = third.answer;
-    let page = registered(third_answer);
-    let seen = table::create_transaction_snapshot(third.table, page.slot, page.id, 5, 5);
-    say::number(b"page=", page.id.0);
-    say::snapshot(seen.snapshot);
-    read(
-        b"\ntop",
-        settled::is_settled(seen.snapshot, new.id),
-        old.id,
-        new.id,
-    );
+    let made = steps::finish(steps::begin(table::fresh(), OLD), 0, OLD, 2);
+
+    let encode = table::begin_transaction(made, Stamp(3));
+    let encode_answer = encode.answer;
+    let new = registered(encode_answer);
+
+    let joined = table::begin_transaction(encode.table, Stamp(4));
+    let joined_answer = joined.answer;
+    let page = registered(joined_answer);
+    let seen = table::create_transaction_snapshot(joined.table, page.slot, page.id, 5, 5);
+    let top = settled::is_settled(seen.snapshot, new.id);
+
     let before = table::vacuum(seen.table, 5, 5);
     let before_answer = before.answer;
-    sweep(before_answer, new.id);
     let done = table::finish_transaction(before.table, new.slot, new.id, Stamp(5));
     let after = table::vacuum(done.table, 6, 6);
     let after_answer = after.answer;
-    sweep(after_answer, new.id);
-    read(
-        b"bottom",
-        settled::is_settled(seen.snapshot, new.id),
-        old.id,
-        new.id,
-    );
+    let bottom = settled::is_settled(seen.snapshot, new.id);
+
     let left = table::end_transaction(after.table, page.slot, page.id);
     let last = table::vacuum(left.table, 6, 6);
     let last_answer = last.answer;
-    sweep(last_answer, new.id);
-    next_page(last.table, old.id, new.id);
+    tell(
+        maker_read(top, new.id),
+        line(before_answer),
+        line(after_answer),
+        maker_read(bottom, new.id),
+        line(last_answer),
+    );
+    next_page(last.table, new.id);
 }
