@@ -37,9 +37,16 @@ fn number(answer: Settled) -> u64 {
 fn ask(s: Snapshot, id: u64) {
     let by_value = number(settled::is_settled(s, Txid(id)));
     let lent = number(settled::is_settled_among(&s.ids, s.count, s.xmax, Txid(id)));
-    say::pair(b"xmin/id=", s.xmin, id);
-    say::pair(b" settled=", by_value, lent);
-    say::word(b"\n");
+    let count = s.count as u64;
+    say::line(
+        b"xmin=# count=# id=#: settled=# among=#\n",
+        s.xmin,
+        count,
+        id,
+        by_value,
+        lent,
+        0,
+    );
 }
 
 // 16 stands past the count.
@@ -63,10 +70,10 @@ pub fn vectors() {
     let badly_formed = to_20(12, 1);
     ask(badly_formed, 10);
     ask(badly_formed, 11);
-    let all = to_20(1, SLOTS);
+    let all = to_20(10, SLOTS);
     ask(all, 0);
     ask(all, 16);
-    let too_many = to_20(2, SLOTS + 1);
+    let too_many = to_20(10, SLOTS + 1);
     ask(too_many, 0);
     ask(too_many, 9);
 }

@@ -47,15 +47,6 @@ fn line(answer: Vacuumed) -> u64 {
     }
 }
 
-// The page that was open all the time: the line before and after the re-encode was done, and when the page had left.
-fn tell(top: u64, before: u64, after: u64, bottom: u64, left: u64) {
-    say::number(b"page: top=", top);
-    say::number(b" line=", before);
-    say::number(b" line=", after);
-    say::number(b" bottom=", bottom);
-    say::number(b" line=", left);
-}
-
 // A page that comes after the re-encode.
 fn next_page(t: Table, new: Txid) {
     let begun = table::begin_transaction(t, Stamp(6));
@@ -64,7 +55,7 @@ fn next_page(t: Table, new: Txid) {
     let seen = table::create_transaction_snapshot(begun.table, page.slot, page.id, 7, 7);
     let settled = settled::is_settled(seen.snapshot, new);
     let maker = maker_read(settled, new);
-    say::number(b"\nnext page: both=", maker);
+    say::number(b"next page: both=", maker);
     say::table(seen.table);
 }
 
@@ -93,12 +84,14 @@ pub fn one_photo() {
     let left = table::end_transaction(after.table, page.slot, page.id);
     let last = table::vacuum(left.table, 6, 6);
     let last_answer = last.answer;
-    tell(
+    say::line(
+        b"page: top=# line=# line=# bottom=# line=#\n",
         maker_read(top, new.id),
         line(before_answer),
         line(after_answer),
         maker_read(bottom, new.id),
         line(last_answer),
+        0,
     );
     next_page(last.table, new.id);
 }
