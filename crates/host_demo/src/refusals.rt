@@ -14,7 +14,7 @@ use crate::tables::full;
 use crate::tables::one;
 use kinds::SLOTS;
 
-// 5, 6, 1, and 5, 6. The first line takes the last number of a full table.
+// 5, 6, 1, and 5, 6. The first line takes the last number of a full table. 5 is never alone: no number is good then.
 fn of_begin_and_stamp() {
     let taken = full();
     let last = stamp(taken, u64::MAX - 1);

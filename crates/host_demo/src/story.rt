@@ -9,6 +9,7 @@ use kinds::Stamp;
 use kinds::Txid;
 use rules::Table;
 use settled::Settled;
+use settled::Snapshot;
 
 // The maker of the old tiles.
 const OLD: u64 = 1;
@@ -30,16 +31,26 @@ fn registered(answer: Begun) -> Registration {
     }
 }
 
-// Whose tile a page reads. It may use one exactly when its maker is settled in the page's snapshot.
-fn maker_read(answer: Settled, new: Txid) -> u64 {
-    match answer {
-        Settled::Yes => new.0,
-        Settled::No => OLD,
-        Settled::Refused(_) => 0,
+fn may_use(shown: Snapshot, maker: Txid) -> bool {
+    match settled::is_settled(shown, maker) {
+        Settled::Yes => true,
+        Settled::No => false,
+        Settled::Refused(_) => false,
     }
 }
 
-// The old tiles may go once the id that replaced them is below the line.
+// Whose tile a page reads: the new one if it may, else the old one if it may, else none.
+fn read(shown: Snapshot, new: Txid) -> u64 {
+    if may_use(shown, new) {
+        return new.0;
+    }
+    if may_use(shown, Txid(OLD)) {
+        return OLD;
+    }
+    0
+}
+
+// The old tiles may go once the id that replaced them is below the line. Beside a refusal none may.
 fn line(answer: Vacuumed) -> u64 {
     match answer {
         Vacuumed::Line(line) => line,
@@ -47,49 +58,43 @@ fn line(answer: Vacuumed) -> u64 {
     }
 }
 
-// A page that comes after the re-encode.
+// A page that comes after the re-encode reads both new tiles.
 fn next_page(t: Table, new: Txid) {
     let begun = table::begin_transaction(t, Stamp(6));
     let answer = begun.answer;
     let page = registered(answer);
     let seen = table::create_transaction_snapshot(begun.table, page.slot, page.id, 7, 7);
-    let settled = settled::is_settled(seen.snapshot, new);
-    let maker = maker_read(settled, new);
-    say::number(b"next page: both=", maker);
+    say::number(b"next page: top and bottom=", read(seen.snapshot, new));
     say::table(seen.table);
 }
 
-// A page asks for its top tile before the re-encode is done, and for its bottom tile after.
+// A page asks for its top tile before the re-encode is done, and for its bottom tile after: both are the old ones.
 pub fn one_photo() {
     say::word(b"part=story\n");
     let made = steps::finish(steps::begin(table::fresh(), OLD), 0, OLD, 2);
-
     let encode = table::begin_transaction(made, Stamp(3));
     let encode_answer = encode.answer;
     let new = registered(encode_answer);
-
     let joined = table::begin_transaction(encode.table, Stamp(4));
     let joined_answer = joined.answer;
     let page = registered(joined_answer);
     let seen = table::create_transaction_snapshot(joined.table, page.slot, page.id, 5, 5);
-    let top = settled::is_settled(seen.snapshot, new.id);
-
+    let top = read(seen.snapshot, new.id);
     let before = table::vacuum(seen.table, 5, 5);
     let before_answer = before.answer;
     let done = table::finish_transaction(before.table, new.slot, new.id, Stamp(5));
     let after = table::vacuum(done.table, 6, 6);
     let after_answer = after.answer;
-    let bottom = settled::is_settled(seen.snapshot, new.id);
-
+    let bottom = read(seen.snapshot, new.id);
     let left = table::end_transaction(after.table, page.slot, page.id);
     let last = table::vacuum(left.table, 6, 6);
     let last_answer = last.answer;
     say::line(
         b"page: top=# line=# line=# bottom=# line=#\n",
-        maker_read(top, new.id),
+        top,
         line(before_answer),
         line(after_answer),
-        maker_read(bottom, new.id),
+        bottom,
         line(last_answer),
         0,
     );
