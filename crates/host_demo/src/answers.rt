@@ -1,6 +1,5 @@
 // What a call answers, as document 01's number and values: 0 where it has none.
-use crate::say::number;
-use crate::say::slot;
+use crate::say::line;
 use kinds::Refusal;
 use table::Begun;
 use table::Ended;
@@ -90,8 +89,13 @@ pub fn stamped(answer: Stamped) -> Told {
 }
 
 pub fn say(t: Told) {
-    number(b": answer=", t.number);
-    slot(b" slot=", t.slot);
-    number(b" id=", t.id);
-    number(b" seen=", t.seen);
+    line(
+        b": answer=# slot=# id=# seen=#",
+        t.number,
+        t.slot,
+        t.id,
+        t.seen,
+        0,
+        0,
+    );
 }

@@ -1,5 +1,5 @@
 // The twelve situations at the edges, P2 being document 01's whole case.
-use crate::say::number;
+use crate::say::line;
 use crate::say::word;
 use crate::steps::begin;
 use crate::steps::end;
@@ -11,8 +11,7 @@ use crate::tables::three;
 use kinds::SLOTS;
 
 fn row(n: u64) {
-    number(b"P", n);
-    word(b"\n");
+    line(b"P#\n", n, 0, 0, 0, 0, 0);
 }
 
 fn snapshots_and_begins() {

@@ -4,32 +4,24 @@ use crate::say;
 use kinds::Stamp;
 use table::Counters;
 
-// Document 01's whole case. No call copies the table.
-pub fn whole_case() {
+// A begin. No table is copied.
+pub fn begin() {
     let mut t = table::fresh();
     let was = Counters {
         clock: t.clock,
         sampled_clock: t.sampled_clock,
         line: t.line,
     };
-    let begun = table::decide_begin(&t.txids, was, Stamp(5));
-    let answer = begun.answer;
-    let change = begun.change;
+    let decided = table::decide_begin(&t.txids, was, Stamp(5));
+    let change = decided.change;
     table::store_at(&mut t.txids, change.at, change.txid);
     table::store_at(&mut t.snapshot_xmins, change.at, change.snapshot_xmin);
     let now = change.counters;
     t.clock = now.clock;
+    t.sampled_clock = now.sampled_clock;
+    t.line = now.line;
+    let answer = decided.answer;
     say::word(b"part=in place\nbegin 5");
     answers::say(answers::begun(answer));
-    say::table(t);
-    let seen = table::decide_snap(&t.txids, now, 9, 3);
-    let seen_answer = seen.answer;
-    let seen_change = seen.change;
-    let then = seen_change.counters;
-    t.clock = then.clock;
-    t.sampled_clock = then.sampled_clock;
-    say::word(b"snap 9/3");
-    answers::say(answers::taken(seen_answer));
-    say::snapshot(seen.snapshot);
     say::table(t);
 }

@@ -7,7 +7,6 @@ mod answers;
 mod checking;
 mod edges;
 mod in_place;
-mod orders;
 mod refusals;
 mod say;
 mod settling;
@@ -17,11 +16,10 @@ mod tables;
 
 fn main() {
     story::one_photo();
-    in_place::whole_case();
+    in_place::begin();
     accepted::each_call();
     edges::rows();
     refusals::each_call();
-    orders::each_call();
     settling::vectors();
     checking::conditions();
 }

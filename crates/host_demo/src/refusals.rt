@@ -1,4 +1,5 @@
-// Every refusal of every call, with what it carries; the table stays, but for refusal 1.
+// Every refusal of every call, with what it carries; the table stays, but for refusal 1. The first lines of a call go
+// through its order of checks: each is refused while the conditions of all later checks hold too.
 use crate::say::word;
 use crate::steps::begin;
 use crate::steps::end;
@@ -13,72 +14,78 @@ use crate::tables::full;
 use crate::tables::one;
 use kinds::SLOTS;
 
-fn of_begin() {
-    begin(full(), 300);
-    begin(exhausted(), u64::MAX);
+// 5, 6, 1, and 5, 6. The first line takes the last number of a full table. 5 is never alone: no number is good then.
+fn of_begin_and_stamp() {
+    let taken = full();
+    let last = stamp(taken, u64::MAX - 1);
+    begin(last, 0);
+    begin(taken, 0);
+    begin(taken, 300);
     let t = one();
-    begin(t, 0);
     begin(t, 8);
     begin(t, u64::MAX);
-}
-
-fn of_stamp() {
-    stamp(exhausted(), u64::MAX);
-    let t = one();
+    stamp(last, 0);
     stamp(t, 0);
     stamp(t, 8);
     stamp(t, u64::MAX);
 }
 
+// 2, 4, 3.
 fn of_end() {
     let t = one();
-    end(t, SLOTS as u16, 5);
-    end(t, 65535, 5);
+    end(t, SLOTS as u16, 0);
     end(t, 0, 0);
     end(t, 0, 7);
     end(t, 1, 5);
+    end(t, SLOTS as u16, 5);
+    end(t, 65535, 5);
 }
 
+// 2, 4, 3, 5, 6.
 fn of_finish() {
-    finish(exhausted(), 0, u64::MAX - 1, u64::MAX);
+    let last = exhausted();
+    finish(last, SLOTS as u16, 0, 0);
+    finish(last, 0, 0, 0);
+    finish(last, 0, 7, 0);
+    finish(last, 0, u64::MAX - 1, 0);
     let t = one();
-    finish(t, SLOTS as u16, 5, 9);
-    finish(t, 0, 0, 9);
-    finish(t, 0, 7, 9);
-    finish(t, 1, 5, 9);
     finish(t, 0, 5, 0);
     finish(t, 0, 5, 8);
     finish(t, 0, 5, u64::MAX);
+    finish(t, 1, 5, 9);
+    finish(t, SLOTS as u16, 5, 9);
 }
 
+// 2, 4, 3, 7, 8.
 fn of_own() {
     let t = one();
-    own(t, SLOTS as u16, 5, 9, 9);
-    own(t, 0, 0, 9, 9);
-    own(t, 0, 7, 9, 9);
-    own(t, 1, 5, 9, 9);
-    own(t, 0, 5, 8, 3);
+    own(t, SLOTS as u16, 0, 8, 0);
+    own(t, 0, 0, 8, 0);
+    own(t, 0, 7, 8, 0);
+    own(t, 0, 5, 8, 0);
     own(t, 0, 5, 9, 0);
     own(t, 0, 5, 9, 10);
+    own(t, 1, 5, 9, 9);
+    own(t, SLOTS as u16, 5, 9, 9);
 }
 
+// 7, 8.
 fn of_observations() {
     let t = one();
-    snap(t, 8, 3);
+    snap(t, 8, 0);
     snap(t, 9, 0);
     snap(t, 9, 10);
-    oldest(t, 8, 3);
+    oldest(t, 8, 0);
     oldest(t, 9, 0);
     oldest(t, 9, 10);
-    vacuum(t, 8, 3);
+    vacuum(t, 8, 0);
     vacuum(t, 9, 0);
     vacuum(t, 9, 10);
 }
 
 pub fn each_call() {
     word(b"part=refusals\n");
-    of_begin();
-    of_stamp();
+    of_begin_and_stamp();
     of_end();
     of_finish();
     of_own();

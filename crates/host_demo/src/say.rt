@@ -3,51 +3,84 @@ use kinds::SLOTS;
 use rules::Table;
 use settled::Snapshot;
 
+// How many numbers a line has at most.
+const MOST: usize = 6;
+
 pub fn word(text: &[u8]) {
     io::write_all(1, text);
 }
 
-pub fn number(key: &[u8], n: u64) {
-    io::write_all(1, key);
-    io::print_decimal(1, n);
-}
-
-// Two numbers as a/b.
-pub fn pair(key: &[u8], a: u64, b: u64) {
-    number(key, a);
-    number(b"/", b);
-}
-
-// The first number that no slot has is said as `SLOTS`, so that the lines are the same at any number of slots.
-pub fn slot(key: &[u8], slot: u64) {
-    word(key);
-    if slot == SLOTS as u64 {
+// The number of slots, and one more, are said in words, so that the lines are the same for any.
+fn decimal(n: u64) {
+    let slots = SLOTS as u64;
+    if n == slots {
         word(b"SLOTS");
+    } else if n == slots + 1 {
+        word(b"SLOTS+1");
     } else {
-        io::print_decimal(1, slot);
+        io::print_decimal(1, n);
+    }
+}
+
+pub fn number(key: &[u8], n: u64) {
+    word(key);
+    decimal(n);
+}
+
+// A text whose `#` are the numbers, in their order.
+pub fn line(text: &[u8], a: u64, b: u64, c: u64, d: u64, e: u64, f: u64) {
+    let numbers = [a, b, c, d, e, f];
+    let mut used: usize = 0;
+    let mut i: usize = 0;
+    while i < text.len() {
+        let from = i;
+        i += 1;
+        if text[from] != b'#' {
+            word(&text[from..i]);
+            continue;
+        }
+        if used < MOST {
+            decimal(numbers[used]);
+            used += 1;
+        }
     }
 }
 
 // A snapshot, with three places of its list.
 pub fn snapshot(s: Snapshot) {
     let ids = s.ids;
-    number(b" xmin=", s.xmin);
-    number(b" xmax=", s.xmax);
-    number(b" count=", s.count as u64);
-    number(b" ids=", ids[0]);
-    number(b",", ids[1]);
-    number(b",", ids[2]);
+    let count = s.count as u64;
+    line(
+        b" xmin=# xmax=# count=# ids=#,#,#",
+        s.xmin,
+        s.xmax,
+        count,
+        ids[0],
+        ids[1],
+        ids[2],
+    );
 }
 
 // The end of a line: a table, with three of its slots.
 pub fn table(t: Table) {
     let txids = t.txids;
     let xmins = t.snapshot_xmins;
-    number(b" | clock=", t.clock);
-    number(b" sample=", t.sampled_clock);
-    number(b" line=", t.line);
-    pair(b" slots=", txids[0], xmins[0]);
-    pair(b",", txids[1], xmins[1]);
-    pair(b",", txids[2], xmins[2]);
-    word(b"\n");
+    line(
+        b" | clock=# sample=# line=# slots=",
+        t.clock,
+        t.sampled_clock,
+        t.line,
+        0,
+        0,
+        0,
+    );
+    line(
+        b"#/#,#/#,#/#\n",
+        txids[0],
+        xmins[0],
+        txids[1],
+        xmins[1],
+        txids[2],
+        xmins[2],
+    );
 }

@@ -1,8 +1,7 @@
 // The settled test, by value and on a snapshot's parts, lent. The first two snapshots are those of docs/DIFFERENCES.md,
-// D11: PostgreSQL's own example, and one whose listed id is below xmin.
+// D11: PostgreSQL's own example, 10:20:10,14,15, and 12:20:10, whose listed id is below xmin.
 use crate::answers;
-use crate::say::number;
-use crate::say::word;
+use crate::say;
 use kinds::SLOTS;
 use kinds::Txid;
 use settled::Settled;
@@ -23,27 +22,35 @@ fn to_20(xmin: u64, count: usize) -> Snapshot {
     }
 }
 
-fn said(answer: Settled) {
+// 1 for yes, 0 for no, or the refusal's number.
+fn number(answer: Settled) -> u64 {
     match answer {
-        Settled::Yes => word(b": yes"),
-        Settled::No => word(b": no"),
+        Settled::Yes => 1,
+        Settled::No => 0,
         Settled::Refused(r) => {
             let told = answers::refusal(r);
-            number(b": answer=", told.number);
+            told.number
         }
     }
 }
 
 fn ask(s: Snapshot, id: u64) {
-    number(b"id=", id);
-    said(settled::is_settled(s, Txid(id)));
-    said(settled::is_settled_among(&s.ids, s.count, s.xmax, Txid(id)));
-    word(b"\n");
+    let by_value = number(settled::is_settled(s, Txid(id)));
+    let lent = number(settled::is_settled_among(&s.ids, s.count, s.xmax, Txid(id)));
+    let count = s.count as u64;
+    say::line(
+        b"xmin=# count=# id=#: settled=# among=#\n",
+        s.xmin,
+        count,
+        id,
+        by_value,
+        lent,
+        0,
+    );
 }
 
 // 16 stands past the count.
 fn of_the_manual() {
-    word(b"snapshot=10:20:10,14,15\n");
     let s = to_20(10, 3);
     ask(s, 9);
     ask(s, 10);
@@ -56,18 +63,17 @@ fn of_the_manual() {
     ask(s, 20);
 }
 
+// The largest count, and one more.
 pub fn vectors() {
-    word(b"part=settled\n");
+    say::word(b"part=settled\n");
     of_the_manual();
-    word(b"snapshot=12:20:10\n");
-    let s = to_20(12, 1);
-    ask(s, 10);
-    ask(s, 11);
-    ask(s, 12);
-    word(b"count=SLOTS\n");
-    ask(to_20(10, SLOTS), 0);
-    ask(to_20(10, SLOTS), 16);
-    word(b"count=SLOTS+1\n");
-    ask(to_20(10, SLOTS + 1), 0);
-    ask(to_20(10, SLOTS + 1), 9);
+    let badly_formed = to_20(12, 1);
+    ask(badly_formed, 10);
+    ask(badly_formed, 11);
+    let all = to_20(10, SLOTS);
+    ask(all, 0);
+    ask(all, 16);
+    let too_many = to_20(10, SLOTS + 1);
+    ask(too_many, 0);
+    ask(too_many, 9);
 }

@@ -18,8 +18,7 @@ pub fn begin(t: Table, stamp: u64) -> Table {
 pub fn end(t: Table, slot: u16, id: u64) -> Table {
     let called = table::end_transaction(t, SlotNo(slot), Txid(id));
     let answer = called.answer;
-    say::slot(b"end ", slot as u64);
-    say::number(b" ", id);
+    say::line(b"end # #", slot as u64, id, 0, 0, 0, 0);
     answers::say(answers::ended(answer));
     say::table(called.table);
     called.table
@@ -28,7 +27,7 @@ pub fn end(t: Table, slot: u16, id: u64) -> Table {
 pub fn snap(t: Table, clock: u64, sample: u64) -> Table {
     let called = table::create_snapshot(t, clock, sample);
     let answer = called.answer;
-    say::pair(b"snap ", clock, sample);
+    say::line(b"snap #/#", clock, sample, 0, 0, 0, 0);
     answers::say(answers::taken(answer));
     say::snapshot(called.snapshot);
     say::table(called.table);
@@ -38,9 +37,7 @@ pub fn snap(t: Table, clock: u64, sample: u64) -> Table {
 pub fn own(t: Table, slot: u16, id: u64, clock: u64, sample: u64) -> Table {
     let called = table::create_transaction_snapshot(t, SlotNo(slot), Txid(id), clock, sample);
     let answer = called.answer;
-    say::slot(b"own ", slot as u64);
-    say::number(b" ", id);
-    say::pair(b" ", clock, sample);
+    say::line(b"own # # #/#", slot as u64, id, clock, sample, 0, 0);
     answers::say(answers::taken(answer));
     say::snapshot(called.snapshot);
     say::table(called.table);
@@ -51,7 +48,7 @@ pub fn oldest(t: Table, clock: u64, sample: u64) -> Table {
     let called = table::oldest_snapshot_xmin(t, clock, sample);
     let answer = called.answer;
     let told = answers::oldest(answer);
-    say::pair(b"oldest ", clock, sample);
+    say::line(b"oldest #/#", clock, sample, 0, 0, 0, 0);
     answers::say(told);
     say::number(b" xmin=", told.value);
     say::table(called.table);
@@ -62,7 +59,7 @@ pub fn vacuum(t: Table, clock: u64, sample: u64) -> Table {
     let called = table::vacuum(t, clock, sample);
     let answer = called.answer;
     let told = answers::vacuumed(answer);
-    say::pair(b"vacuum ", clock, sample);
+    say::line(b"vacuum #/#", clock, sample, 0, 0, 0, 0);
     answers::say(told);
     say::number(b" vacuum=", told.value);
     say::table(called.table);
@@ -81,9 +78,7 @@ pub fn stamp(t: Table, stamp: u64) -> Table {
 pub fn finish(t: Table, slot: u16, id: u64, stamp: u64) -> Table {
     let called = table::finish_transaction(t, SlotNo(slot), Txid(id), Stamp(stamp));
     let answer = called.answer;
-    say::slot(b"finish ", slot as u64);
-    say::number(b" ", id);
-    say::number(b" ", stamp);
+    say::line(b"finish # # #", slot as u64, id, stamp, 0, 0, 0);
     answers::say(answers::stamped(answer));
     say::table(called.table);
     called.table
