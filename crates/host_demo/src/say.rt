@@ -48,23 +48,20 @@ pub fn line(text: &[u8], a: u64, b: u64, c: u64, d: u64, e: u64, f: u64) {
 
 // A snapshot, with three places of its list.
 pub fn snapshot(s: Snapshot) {
-    let ids = s.ids;
     let count = s.count as u64;
     line(
         b" xmin=# xmax=# count=# ids=#,#,#",
         s.xmin,
         s.xmax,
         count,
-        ids[0],
-        ids[1],
-        ids[2],
+        s.ids[0],
+        s.ids[1],
+        s.ids[2],
     );
 }
 
 // The end of a line: a table, with three of its slots.
 pub fn table(t: Table) {
-    let txids = t.txids;
-    let xmins = t.snapshot_xmins;
     line(
         b" | clock=# sample=# line=# slots=",
         t.clock,
@@ -76,11 +73,11 @@ pub fn table(t: Table) {
     );
     line(
         b"#/#,#/#,#/#\n",
-        txids[0],
-        xmins[0],
-        txids[1],
-        xmins[1],
-        txids[2],
-        xmins[2],
+        t.txids[0],
+        t.snapshot_xmins[0],
+        t.txids[1],
+        t.snapshot_xmins[1],
+        t.txids[2],
+        t.snapshot_xmins[2],
     );
 }
