@@ -14,7 +14,7 @@ FILENAME ~ /\.rt$/ && /^pub use / {
     line = $0
     sub(/^[ \t]+/, "", line)
     typed = 0
-    while (match(line, /^(pub|unfoldable|abbrev|const|extern|"C"|fn|struct|enum|record|data) +/)) {
+    while (match(line, /^(pub(\(crate\))?|unfoldable|abbrev|const|extern|"C"|fn|struct|enum|record|data) +/)) {
         if (line ~ /^(const|fn|struct|enum|record|data) /) typed = 1
         line = substr(line, RLENGTH + 1)
     }

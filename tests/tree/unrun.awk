@@ -10,7 +10,7 @@ listed {
     crates[part[2]] = there[id] = 1
     for (i = $8; i <= $9; i++) at[$6, i] = id
     if ($2 == "public") public[++count] = id
-    if ($6 ~ /\/main\.rt$/ && word[n] == "main") todo[++todos] = id
+    if ($6 ~ /\/main\.rt$/ && word[n] == "main") waiting[++waits] = id
     next
 }
 { line = $0; sub(/\/\/.*/, "", line) }
@@ -35,12 +35,12 @@ line ~ /^(pub )?use [a-z_0-9]+::/ {
     }
 }
 END {
-    while (todos) {
-        id = todo[todos--]
+    while (waits) {
+        id = waiting[waits--]
         if (id in run) continue
         run[id] = 1
         n = split(calls[id], next_ones, " ")
-        for (i = 1; i <= n; i++) todo[++todos] = next_ones[i]
+        for (i = 1; i <= n; i++) waiting[++waits] = next_ones[i]
     }
     for (i = 1; i <= count; i++) if (!(public[i] in run)) print public[i]
 }

@@ -10,7 +10,13 @@ ghost use Rattle.segment.specs.Run.{runPasses};
 pub const ROOM: usize = SLOTS + 1;
 
 // The check of the first `count` records.
-pub fn check_first(records: [Slot; ROOM], count: usize, clock: u64, sample: u64, line: u64) -> bool
+pub(crate) fn check_first(
+    records: [Slot; ROOM],
+    count: usize,
+    clock: u64,
+    sample: u64,
+    line: u64,
+) -> bool
     requires { ⌜ count ≤ length records ⌝ }
     ensures { λ r. do ⌜ r ≡ runPasses (← ⟦kinds::SLOTS⟧ .entry) (take count records) clock sample line ⌝ }
 {

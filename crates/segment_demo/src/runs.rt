@@ -15,7 +15,7 @@ pub fn empty() -> [Slot; ROOM] {
 }
 
 // One record replaced.
-pub fn put(run: [Slot; ROOM], at: usize, txid: u64, snapshot_xmin: u64) -> [Slot; ROOM]
+pub(crate) fn put(run: [Slot; ROOM], at: usize, txid: u64, snapshot_xmin: u64) -> [Slot; ROOM]
     requires { ⌜ at < length run ⌝ }
 {
     let mut after = run;
