@@ -1,6 +1,6 @@
 // Half-full tables in two layouts.
 use kinds::SLOTS;
-use rules::Table;
+use model::Table;
 
 // Layout 0 takes the lower half of the slots, any other takes every second slot.
 fn is_taken(layout: u64, slot: usize) -> bool {

@@ -9,7 +9,7 @@ use std::num::wrapping_add_u64;
 // The snapshot that is asked.
 fn snapshot_of(layout: u64) -> Snapshot {
     let t = half_full(layout);
-    tally::take_snapshot(&t.txids, t.clock)
+    scans::take_snapshot(&t.txids, t.clock)
 }
 
 // The id that a round asks for: one of 1 to the number of slots.

@@ -13,13 +13,13 @@ use Rattle.kinds.specs.declared.refusal.Refusal.{Refusal}
 use Rattle.kinds.specs.declared.refusal.Verdict.the-variants.{Pass, Refuse}
 use Rattle.kinds.specs.Kinds.{nextHeld}
 use Rattle.kinds.specs.Refusals.{told}
-use Rattle.rules.specs.declared.Table.{Table}
-use Rattle.rules.specs.Answers.{Answer, answerTold}
-use Rattle.rules.specs.Tests.{ownerTest, reservationTest}
-use Rattle.rules.specs.Calls.{Call, refusal, afterAccepted, afterRefused, after, answerAccepted, answer}
-use Rattle.rules.specs.Counts.{opens}
-use Rattle.rules.proofs.Tests.{owns, reserves}
-use Rattle.rules.proofs.Refused.{refused-kept}
+use Rattle.model.specs.declared.Table.{Table}
+use Rattle.model.specs.Answers.{Answer, answerTold}
+use Rattle.model.specs.Tests.{ownerTest, reservationTest}
+use Rattle.model.specs.Calls.{Call, refusal, afterAccepted, afterRefused, after, answerAccepted, answer}
+use Rattle.model.specs.Counts.{opens}
+use Rattle.model.proofs.Tests.{owns, reserves}
+use Rattle.model.proofs.Refused.{refused-kept}
 use Rattle.changes.specs.declared.Change.{Change}
 use Rattle.changes.specs.Changes.{countersOf, countersOnly, storedAt, applied}
 use Rattle.changes.specs.Lent.{Decided}

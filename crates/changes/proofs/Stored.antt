@@ -5,7 +5,7 @@ use mathlib.Core.Bool.{Bool, true, false, cond}
 use mathlib.Core.List.{List}
 use lib.Dec.{ltb}
 use lib.ListN.{length, set, length-set}
-use Rattle.rules.specs.declared.Table.{Table}
+use Rattle.model.specs.declared.Table.{Table}
 use Rattle.changes.specs.declared.Change.{Change}
 use Rattle.changes.specs.Changes.{storedAt, applied}
 

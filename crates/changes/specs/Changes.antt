@@ -6,7 +6,7 @@ use lib.Dec.{ltb}
 use lib.ListN.{set}
 use Rattle.kinds.specs.declared.Stamp.{Stamp}
 use Rattle.kinds.specs.Kinds.{nextHeld}
-use Rattle.rules.specs.declared.Table.{Table}
+use Rattle.model.specs.declared.Table.{Table}
 use Rattle.changes.specs.declared.Counters.{Counters}
 use Rattle.changes.specs.declared.Change.{Change}
 

@@ -2,9 +2,9 @@
 use Prim.Native.Nat.{ℕ}
 use mathlib.Core.Path.{_≡_}
 use mathlib.Core.List.{List}
-use Rattle.rules.specs.declared.Table.{Table}
-use Rattle.rules.specs.Answers.{Answer}
-use Rattle.rules.specs.Calls.{Call, Outcome}
+use Rattle.model.specs.declared.Table.{Table}
+use Rattle.model.specs.Answers.{Answer}
+use Rattle.model.specs.Calls.{Call, Outcome}
 use Rattle.changes.specs.declared.Counters.{Counters}
 use Rattle.changes.specs.declared.Change.{Change}
 use Rattle.changes.specs.Changes.{countersOf, applied}

@@ -2,7 +2,7 @@
 use crate::Change;
 use crate::Counters;
 use kinds::SLOTS;
-use rules::Table;
+use model::Table;
 ghost use mathlib.Core.Path.{_≡_};
 ghost use Rattle.changes.specs.Changes.{countersOf, storedAt, applied};
 

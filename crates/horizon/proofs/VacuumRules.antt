@@ -4,10 +4,10 @@ use mathlib.Core.Path.{_≡_, refl, sym, ap, _∙_}
 use mathlib.Core.List.{List}
 use Rattle.kinds.specs.declared.refusal.Verdict.{Verdict}
 use Rattle.kinds.specs.declared.refusal.Verdict.the-variants.{Pass, Refuse}
-use Rattle.rules.specs.declared.Table.{Table}
-use Rattle.rules.specs.Tests.{observationTest}
-use Rattle.rules.specs.Calls.{vacuum, refusal, afterAccepted, answerAccepted}
-use Rattle.rules.proofs.Answers.{line-of, never-refused, same-refused}
+use Rattle.model.specs.declared.Table.{Table}
+use Rattle.model.specs.Tests.{observationTest}
+use Rattle.model.specs.Calls.{vacuum, refusal, afterAccepted, answerAccepted}
+use Rattle.model.proofs.Answers.{line-of, never-refused, same-refused}
 use Rattle.changes.specs.declared.Counters.{Counters}
 use Rattle.changes.specs.Changes.{countersOf, storedAt, applied}
 use Rattle.changes.specs.Lent.{Lent, Decided}

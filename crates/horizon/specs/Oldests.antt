@@ -4,11 +4,11 @@ use mathlib.Core.List.{List}
 use Rattle.kinds.specs.declared.refusal.Verdict.{Verdict}
 use Rattle.kinds.specs.declared.refusal.Verdict.the-variants.{Pass, Refuse}
 use Rattle.kinds.specs.Refusals.{told}
-use Rattle.rules.specs.declared.Table.{Table}
-use Rattle.rules.specs.Tally.{oldestOf}
-use Rattle.rules.specs.Tests.{observationTest}
-use Rattle.rules.specs.Answers.{Answer, oldestIs, answerTold}
-use Rattle.rules.specs.Calls.{oldest, Outcome}
+use Rattle.model.specs.declared.Table.{Table}
+use Rattle.model.specs.Tally.{oldestOf}
+use Rattle.model.specs.Tests.{observationTest}
+use Rattle.model.specs.Answers.{Answer, oldestIs, answerTold}
+use Rattle.model.specs.Calls.{oldest, Outcome}
 use Rattle.changes.specs.declared.Counters.{Counters}
 use Rattle.changes.specs.Changes.{countersOnly, observedFrom}
 use Rattle.horizon.specs.declared.oldest.Oldest.{Oldest}

@@ -2,9 +2,9 @@
 use Prim.Native.Nat.{ℕ, max}
 use mathlib.Core.List.{List}
 use Rattle.kinds.specs.Refusals.{told}
-use Rattle.rules.specs.declared.Table.{Table}
-use Rattle.rules.specs.Answers.{Answer, lineIs, answerTold}
-use Rattle.rules.specs.Calls.{vacuum, Outcome}
+use Rattle.model.specs.declared.Table.{Table}
+use Rattle.model.specs.Answers.{Answer, lineIs, answerTold}
+use Rattle.model.specs.Calls.{vacuum, Outcome}
 use Rattle.changes.specs.declared.Counters.{Counters}
 use Rattle.changes.specs.Changes.{countersOnly}
 use Rattle.horizon.specs.declared.oldest.Oldest.{Oldest}

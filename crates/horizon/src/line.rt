@@ -4,7 +4,7 @@ use crate::oldest::decide_oldest;
 use changes::Change;
 use changes::Counters;
 use kinds::Refusal;
-use rules::Table;
+use model::Table;
 ghost use mathlib.Core.Path.{_≡_};
 ghost use Rattle.horizon.specs.Vacuums.{vacuumDecision, VacuumFits};
 

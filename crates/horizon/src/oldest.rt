@@ -3,7 +3,7 @@ use changes::Change;
 use changes::Counters;
 use kinds::Refusal;
 use kinds::Verdict;
-use rules::Table;
+use model::Table;
 ghost use mathlib.Core.Path.{_≡_};
 ghost use Rattle.horizon.specs.Oldests.{oldestDecision, OldestFits};
 
@@ -37,7 +37,7 @@ pub fn decide_oldest<'a>(
             }
         }
         Verdict::Pass => {
-            let xmin = tally::oldest_retained(txids, xmins, sample);
+            let xmin = scans::oldest_retained(txids, xmins, sample);
             let counters = changes::observed(was, clock, sample);
             let change = changes::counters_only(counters);
             OldestDecision {

@@ -4,10 +4,10 @@ use crate::say;
 use crate::tables::exhausted;
 use crate::tables::one;
 use crate::tables::three;
-use rules::Table;
+use model::Table;
 
 fn check(t: Table) {
-    if audit::check_table(t) {
+    if table_check::check_table(t) {
         say::word(b"check=yes");
     } else {
         say::word(b"check=no");

@@ -1,6 +1,6 @@
 // Words and numbers on standard output.
 use kinds::SLOTS;
-use rules::Table;
+use model::Table;
 use settled::Snapshot;
 
 // How many numbers a line has at most.

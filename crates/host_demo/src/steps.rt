@@ -4,7 +4,7 @@ use crate::say;
 use kinds::SlotNo;
 use kinds::Stamp;
 use kinds::Txid;
-use rules::Table;
+use model::Table;
 
 pub fn begin(t: Table, stamp: u64) -> Table {
     let called = table::begin_transaction(t, Stamp(stamp));

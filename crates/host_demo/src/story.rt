@@ -5,7 +5,7 @@ use crate::steps;
 use kinds::SlotNo;
 use kinds::Stamp;
 use kinds::Txid;
-use rules::Table;
+use model::Table;
 use settled::Settled;
 use settled::Snapshot;
 use table::Begun;

@@ -3,7 +3,7 @@ use kinds::SLOTS;
 use kinds::SlotNo;
 use kinds::Stamp;
 use kinds::Txid;
-use rules::Table;
+use model::Table;
 
 fn with(t: Table, id: u64) -> Table {
     let called = table::begin_transaction(t, Stamp(id));

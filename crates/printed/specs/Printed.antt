@@ -1,7 +1,7 @@
 -- The numbers that an answer prints in lines of its own.
 use Prim.Native.Nat.{ℕ}
 use Rattle.kinds.specs.Refusals.{told}
-use Rattle.rules.specs.Answers.{Answer, answerTold}
+use Rattle.model.specs.Answers.{Answer, answerTold}
 use Rattle.snapshots.specs.declared.taken.Taken.{Taken}
 use Rattle.snapshots.specs.declared.taken.Taken.the-variants.{Accepted, Refused}
 use Rattle.printed.specs.declared.Printed.{Printed}

@@ -8,7 +8,7 @@ use registration::Ended;
 use snapshots::Taken;
 ghost use mathlib.Core.Path.{_≡_};
 ghost use Rattle.kinds.specs.Refusals.{told};
-ghost use Rattle.rules.specs.Answers.{answerTold};
+ghost use Rattle.model.specs.Answers.{answerTold};
 ghost use Rattle.registration.specs.Begin.{paperBegun};
 ghost use Rattle.registration.specs.End.{paperEnded};
 ghost use Rattle.horizon.specs.Oldests.{paperOldest};

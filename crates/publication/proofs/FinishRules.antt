@@ -8,9 +8,9 @@ use Rattle.kinds.specs.declared.Txid.{Txid}
 use Rattle.kinds.specs.declared.refusal.Verdict.{Verdict}
 use Rattle.kinds.specs.declared.refusal.Verdict.the-variants.{Pass, Refuse}
 use Rattle.kinds.proofs.Verdicts.{then-pass}
-use Rattle.rules.specs.declared.Table.{Table}
-use Rattle.rules.specs.Tests.{ownerTest, reservationTest}
-use Rattle.rules.specs.Calls.{finish, refusal, afterAccepted, answerAccepted}
+use Rattle.model.specs.declared.Table.{Table}
+use Rattle.model.specs.Tests.{ownerTest, reservationTest}
+use Rattle.model.specs.Calls.{finish, refusal, afterAccepted, answerAccepted}
 use Rattle.changes.specs.declared.Counters.{Counters}
 use Rattle.changes.specs.Changes.{countersOf, storedAt, applied}
 use Rattle.changes.specs.Lent.{Lent, Decided}

@@ -6,10 +6,10 @@ use Rattle.kinds.specs.declared.Stamp.{Stamp}
 use Rattle.kinds.specs.declared.refusal.Verdict.{Verdict}
 use Rattle.kinds.specs.declared.refusal.Verdict.the-variants.{Pass, Refuse}
 use Rattle.kinds.proofs.Unique.{same-stamp}
-use Rattle.rules.specs.declared.Table.{Table}
-use Rattle.rules.specs.Tests.{reservationTest}
-use Rattle.rules.specs.Calls.{stamp, refusal, afterAccepted, answerAccepted}
-use Rattle.rules.proofs.Answers.{id-of, never-refused, same-refused}
+use Rattle.model.specs.declared.Table.{Table}
+use Rattle.model.specs.Tests.{reservationTest}
+use Rattle.model.specs.Calls.{stamp, refusal, afterAccepted, answerAccepted}
+use Rattle.model.proofs.Answers.{id-of, never-refused, same-refused}
 use Rattle.changes.specs.declared.Counters.{Counters}
 use Rattle.changes.specs.Changes.{countersOf, storedAt, applied}
 use Rattle.changes.specs.Lent.{Lent, Decided}

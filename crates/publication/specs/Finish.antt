@@ -7,9 +7,9 @@ use Rattle.kinds.specs.declared.Txid.{Txid}
 use Rattle.kinds.specs.declared.refusal.Verdict.{Verdict}
 use Rattle.kinds.specs.declared.refusal.Verdict.the-variants.{Pass, Refuse}
 use Rattle.kinds.specs.Verdicts.{then}
-use Rattle.rules.specs.declared.Table.{Table}
-use Rattle.rules.specs.Tests.{ownerTest, reservationTest}
-use Rattle.rules.specs.Calls.{finish, Outcome}
+use Rattle.model.specs.declared.Table.{Table}
+use Rattle.model.specs.Tests.{ownerTest, reservationTest}
+use Rattle.model.specs.Calls.{finish, Outcome}
 use Rattle.changes.specs.declared.Counters.{Counters}
 use Rattle.changes.specs.Changes.{countersOnly, slotChange, reservedFrom}
 use Rattle.publication.specs.declared.stamp.Stamped.the-variants.{Accepted, Refused}

@@ -4,10 +4,10 @@ use Rattle.kinds.specs.declared.Stamp.{Stamp}
 use Rattle.kinds.specs.declared.refusal.Verdict.{Verdict}
 use Rattle.kinds.specs.declared.refusal.Verdict.the-variants.{Pass, Refuse}
 use Rattle.kinds.specs.Refusals.{told}
-use Rattle.rules.specs.declared.Table.{Table}
-use Rattle.rules.specs.Tests.{reservationTest}
-use Rattle.rules.specs.Answers.{Answer, stamped, answerTold}
-use Rattle.rules.specs.Calls.{stamp, Outcome}
+use Rattle.model.specs.declared.Table.{Table}
+use Rattle.model.specs.Tests.{reservationTest}
+use Rattle.model.specs.Answers.{Answer, stamped, answerTold}
+use Rattle.model.specs.Calls.{stamp, Outcome}
 use Rattle.changes.specs.declared.Counters.{Counters}
 use Rattle.changes.specs.Changes.{countersOnly, reservedFrom}
 use Rattle.publication.specs.declared.stamp.Stamped.{Stamped}

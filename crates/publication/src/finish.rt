@@ -7,7 +7,7 @@ use kinds::SlotNo;
 use kinds::Stamp;
 use kinds::Txid;
 use kinds::Verdict;
-use rules::Table;
+use model::Table;
 ghost use mathlib.Core.Path.{_≡_};
 ghost use Rattle.publication.specs.Finish.{finishVerdict, finishDecision, FinishFits};
 

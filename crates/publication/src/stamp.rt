@@ -4,7 +4,7 @@ use changes::Counters;
 use kinds::Refusal;
 use kinds::Stamp;
 use kinds::Verdict;
-use rules::Table;
+use model::Table;
 ghost use mathlib.Core.Path.{_≡_};
 ghost use Rattle.publication.specs.Stamps.{stampDecision, StampFits};
 

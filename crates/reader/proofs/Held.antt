@@ -12,8 +12,8 @@ use denote.Struct.Rest.{all-own, own-open, own-shut}
 use Rattle.trace.specs.declared.RecordAt.{RecordAt}
 use Rattle.trace.proofs.RecordAt as F
 use Rattle.trace.proofs.RecordAt.Laws as F′
-use Rattle.walk.proofs.Words.{_≡_, ℕ, List, [], _∷_, URA, Heap, World, RattleType, u8, usize, RefT, ShrSlice, sliceVal, Is, Typed}
-use Rattle.walk.proofs.Words.{ent, sem, Lft, Fml, Val, vint, w64, named, _$_, _∵_, !, ‵, qed, use1}
+use Rattle.hand_proofs.proofs.Words.{_≡_, ℕ, List, [], _∷_, URA, Heap, World, RattleType, u8, usize, RefT, ShrSlice, sliceVal, Is, Typed}
+use Rattle.hand_proofs.proofs.Words.{ent, sem, Lft, Fml, Val, vint, w64, named, _$_, _∵_, !, ‵, qed, use1}
 use Rattle.reader.specs.Reader.{standing}
 use Rattle.reader.specs.declared.Reader.{Reader}
 use Rattle.reader.proofs.Reader as T

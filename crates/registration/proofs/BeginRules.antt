@@ -10,12 +10,12 @@ use Rattle.kinds.specs.declared.refusal.Verdict.{Verdict}
 use Rattle.kinds.specs.declared.refusal.Verdict.the-variants.{Pass, Refuse}
 use Rattle.kinds.specs.Refusals.{told, consumed}
 use Rattle.kinds.proofs.Unique.{same-slot, same-txid}
-use Rattle.rules.specs.declared.Table.{Table}
-use Rattle.rules.specs.Tally.{lowestEmpty}
-use Rattle.rules.specs.Tests.{reservationTest}
-use Rattle.rules.specs.Calls.{begin, stamp, refusal, afterAccepted, spent, afterRefused, after, answerAccepted, answer}
-use Rattle.rules.proofs.Answers.{slot-of, id-of, never-refused, same-refused}
-use Rattle.rules.proofs.Refused.{refused-kept}
+use Rattle.model.specs.declared.Table.{Table}
+use Rattle.model.specs.Tally.{lowestEmpty}
+use Rattle.model.specs.Tests.{reservationTest}
+use Rattle.model.specs.Calls.{begin, stamp, refusal, afterAccepted, spent, afterRefused, after, answerAccepted, answer}
+use Rattle.model.proofs.Answers.{slot-of, id-of, never-refused, same-refused}
+use Rattle.model.proofs.Refused.{refused-kept}
 use Rattle.changes.specs.declared.Counters.{Counters}
 use Rattle.changes.specs.Changes.{countersOf, storedAt, applied}
 use Rattle.changes.specs.Lent.{Lent, Decided}

@@ -6,10 +6,10 @@ use Rattle.kinds.specs.declared.SlotNo.{SlotNo}
 use Rattle.kinds.specs.declared.Txid.{Txid}
 use Rattle.kinds.specs.declared.refusal.Verdict.{Verdict}
 use Rattle.kinds.specs.declared.refusal.Verdict.the-variants.{Pass, Refuse}
-use Rattle.rules.specs.declared.Table.{Table}
-use Rattle.rules.specs.Tests.{ownerTest}
-use Rattle.rules.specs.Calls.{end, refusal, afterAccepted, answerAccepted}
-use Rattle.rules.proofs.Answers.{never-refused, same-refused}
+use Rattle.model.specs.declared.Table.{Table}
+use Rattle.model.specs.Tests.{ownerTest}
+use Rattle.model.specs.Calls.{end, refusal, afterAccepted, answerAccepted}
+use Rattle.model.proofs.Answers.{never-refused, same-refused}
 use Rattle.changes.specs.declared.Counters.{Counters}
 use Rattle.changes.specs.Changes.{countersOf, storedAt, applied}
 use Rattle.changes.specs.Lent.{Lent, Decided}

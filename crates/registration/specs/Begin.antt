@@ -9,11 +9,11 @@ use Rattle.kinds.specs.declared.refusal.Verdict.{Verdict}
 use Rattle.kinds.specs.declared.refusal.Verdict.the-variants.{Pass, Refuse}
 use Rattle.kinds.specs.Kinds.{txidOf}
 use Rattle.kinds.specs.Refusals.{told}
-use Rattle.rules.specs.declared.Table.{Table}
-use Rattle.rules.specs.Tally.{lowestEmpty}
-use Rattle.rules.specs.Tests.{reservationTest}
-use Rattle.rules.specs.Answers.{Answer, registered, answerTold}
-use Rattle.rules.specs.Calls.{begin, Outcome}
+use Rattle.model.specs.declared.Table.{Table}
+use Rattle.model.specs.Tally.{lowestEmpty}
+use Rattle.model.specs.Tests.{reservationTest}
+use Rattle.model.specs.Answers.{Answer, registered, answerTold}
+use Rattle.model.specs.Calls.{begin, Outcome}
 use Rattle.changes.specs.declared.Counters.{Counters}
 use Rattle.changes.specs.Changes.{countersOnly, slotChange, reservedFrom}
 use Rattle.registration.specs.declared.begin.Begun.{Begun}

@@ -6,10 +6,10 @@ use Rattle.kinds.specs.declared.Txid.{Txid}
 use Rattle.kinds.specs.declared.refusal.Verdict.{Verdict}
 use Rattle.kinds.specs.declared.refusal.Verdict.the-variants.{Pass, Refuse}
 use Rattle.kinds.specs.Refusals.{told}
-use Rattle.rules.specs.declared.Table.{Table}
-use Rattle.rules.specs.Tests.{ownerTest}
-use Rattle.rules.specs.Answers.{Answer, done, answerTold}
-use Rattle.rules.specs.Calls.{end, Outcome}
+use Rattle.model.specs.declared.Table.{Table}
+use Rattle.model.specs.Tests.{ownerTest}
+use Rattle.model.specs.Answers.{Answer, done, answerTold}
+use Rattle.model.specs.Calls.{end, Outcome}
 use Rattle.changes.specs.declared.Counters.{Counters}
 use Rattle.changes.specs.Changes.{countersOnly, slotChange}
 use Rattle.registration.specs.declared.end.Ended.{Ended}

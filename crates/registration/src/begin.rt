@@ -7,7 +7,7 @@ use kinds::SlotNo;
 use kinds::Stamp;
 use kinds::Txid;
 use kinds::Verdict;
-use rules::Table;
+use model::Table;
 ghost use mathlib.Core.Path.{_≡_};
 ghost use Rattle.registration.specs.Begin.{beginDecision, BeginFits};
 
@@ -37,7 +37,7 @@ pub fn decide_begin(txids: &[u64], was: Counters, number: Stamp) -> BeginDecisio
         Verdict::Pass => {
             let txid = kinds::txid_of_stamp(number);
             let counters = changes::reserved(was, number);
-            let at = tally::lowest_empty(txids);
+            let at = scans::lowest_empty(txids);
             if at < SLOTS {
                 let change = changes::slot_change(at, txid.0, txid.0, counters);
                 return BeginDecision {

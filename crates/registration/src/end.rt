@@ -5,7 +5,7 @@ use kinds::Refusal;
 use kinds::SlotNo;
 use kinds::Txid;
 use kinds::Verdict;
-use rules::Table;
+use model::Table;
 ghost use mathlib.Core.Path.{_≡_};
 ghost use Rattle.registration.specs.End.{endDecision, EndFits};
 

@@ -5,7 +5,7 @@ use mathlib.Core.Bool.{Bool, cond, _&&_}
 use mathlib.Core.List.{List, [], _∷_, _++_}
 use lib.Dec.{leb}
 use lib.ListN.{length}
-use Rattle.rules.specs.Answers.{Answer}
+use Rattle.model.specs.Answers.{Answer}
 use Rattle.text.specs.declared.Put.{Put}
 use Rattle.text.specs.declared.Put.the-variants.{Past, NoRoom}
 use Rattle.text.specs.Keys.{answerKey, slotKey, idKey, seenKey, xminKey, xmaxKey, vacuumKey, countKey, inKey}

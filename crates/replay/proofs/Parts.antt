@@ -7,12 +7,12 @@ use native.Mathlib.Omega.{arith}
 use lib.Dec.{leb}
 use lib.ListN.{length, length-append}
 use borrow.Author.Tests.{le-leb}
-use Rattle.rules.specs.declared.Table.{Table}
-use Rattle.rules.specs.Calls.{after, answer}
-use Rattle.rules.specs.Tables.{freshTable}
-use Rattle.rules.specs.Facts.{Good}
-use Rattle.rules.proofs.Moves.{good-fresh}
-use Rattle.rules.proofs.Facts.{good-after}
+use Rattle.model.specs.declared.Table.{Table}
+use Rattle.model.specs.Calls.{after, answer}
+use Rattle.model.specs.Tables.{freshTable}
+use Rattle.model.specs.Facts.{Good}
+use Rattle.model.proofs.Moves.{good-fresh}
+use Rattle.model.proofs.Facts.{good-after}
 use Rattle.text.specs.Keys.{recordsKey}
 use Rattle.text.specs.Line.{lineText}
 use Rattle.trace.specs.declared.Record.{Record}

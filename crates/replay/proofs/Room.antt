@@ -8,11 +8,11 @@ use lib.ListN.{length}
 use borrow.Author.Tests.{le-leb}
 use Rattle.kinds.specs.declared.refusal.Verdict.{Verdict}
 use Rattle.kinds.specs.declared.refusal.Verdict.the-variants.{Pass, Refuse}
-use Rattle.rules.specs.declared.Table.{Table}
-use Rattle.rules.specs.Calls.{Call, begin, end, snap, own, oldest, vacuum, stamp, finish, refusal, after, answerAccepted, answerBy, answer}
-use Rattle.rules.specs.Facts.{Good}
-use Rattle.rules.proofs.Tally.{active-length}
-use Rattle.rules.proofs.Facts.{good-after}
+use Rattle.model.specs.declared.Table.{Table}
+use Rattle.model.specs.Calls.{Call, begin, end, snap, own, oldest, vacuum, stamp, finish, refusal, after, answerAccepted, answerBy, answer}
+use Rattle.model.specs.Facts.{Good}
+use Rattle.model.proofs.Tally.{active-length}
+use Rattle.model.proofs.Facts.{good-after}
 use Rattle.trace.specs.declared.Record.{Record}
 use Rattle.render.specs.Output.{need, fits}
 use Rattle.step.specs.Named.{callOf, outputOf}

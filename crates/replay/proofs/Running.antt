@@ -6,8 +6,8 @@ use mathlib.Core.List.{List, [], _++_, append-assoc, append-nil}
 use native.Mathlib.Nat.{zero-add}
 use native.Mathlib.Omega.{arith}
 use lib.ListN.{length, length-append, length-take, length-drop}
-use Rattle.rules.specs.declared.Table.{Table}
-use Rattle.rules.specs.Calls.{after, answer}
+use Rattle.model.specs.declared.Table.{Table}
+use Rattle.model.specs.Calls.{after, answer}
 use Rattle.changes.specs.Changes.{applied}
 use Rattle.text.specs.declared.Put.the-variants.{Past, NoRoom}
 use Rattle.text.specs.Write.{spliced}

@@ -5,10 +5,10 @@ use mathlib.Core.List.{List, [], _∷_, _++_, append-assoc}
 use native.Mathlib.Omega.{arith}
 use lib.ListN.{length, take, drop, length-append, length-drop}
 use lib.Seq.{take-append-seam, drop-append-seam, drop-drop}
-use Rattle.rules.specs.declared.Table.{Table}
-use Rattle.rules.specs.Tables.{freshTable}
-use Rattle.rules.specs.Facts.{Good}
-use Rattle.rules.proofs.Moves.{good-fresh}
+use Rattle.model.specs.declared.Table.{Table}
+use Rattle.model.specs.Tables.{freshTable}
+use Rattle.model.specs.Facts.{Good}
+use Rattle.model.proofs.Moves.{good-fresh}
 use Rattle.text.specs.Keys.{recordsKey}
 use Rattle.text.specs.Line.{lineText}
 use Rattle.trace.specs.declared.Record.{Record}

@@ -7,8 +7,8 @@ use native.Mathlib.Nat.{zero-add}
 use native.Mathlib.Omega.{arith}
 use lib.Dec.{leb}
 use lib.ListN.{length, length-append}
-use Rattle.rules.specs.declared.Table.{Table}
-use Rattle.rules.specs.Tables.{freshTable}
+use Rattle.model.specs.declared.Table.{Table}
+use Rattle.model.specs.Tables.{freshTable}
 use Rattle.text.specs.Keys.{recordsKey}
 use Rattle.text.specs.Line.{lineText}
 use Rattle.text.specs.Write.{spliced, written}

@@ -4,8 +4,8 @@ use mathlib.Core.Path.{_≡_}
 use mathlib.Core.Bool.{cond}
 use mathlib.Core.List.{List, [], _∷_, _++_}
 use lib.ListN.{length}
-use Rattle.rules.specs.declared.Table.{Table}
-use Rattle.rules.specs.Calls.{after, answer}
+use Rattle.model.specs.declared.Table.{Table}
+use Rattle.model.specs.Calls.{after, answer}
 use Rattle.text.specs.Write.{spliced}
 use Rattle.trace.specs.declared.Record.{Record}
 use Rattle.trace.specs.Trace.{recordsFrom, Boundary}

@@ -4,9 +4,9 @@ use mathlib.Core.List.{List, [], _∷_, _++_}
 use lib.ListN.{length}
 use Rattle.kinds.specs.declared.refusal.Refusal.the-variants.{BadTrace}
 use Rattle.kinds.specs.Refusals.{told}
-use Rattle.rules.specs.declared.Table.{Table}
-use Rattle.rules.specs.Calls.{after}
-use Rattle.rules.specs.Tables.{freshTable}
+use Rattle.model.specs.declared.Table.{Table}
+use Rattle.model.specs.Calls.{after}
+use Rattle.model.specs.Tables.{freshTable}
 use Rattle.text.specs.Keys.{answerKey, recordsKey, atKey}
 use Rattle.text.specs.Line.{lineText}
 use Rattle.trace.specs.declared.Record.{Record}

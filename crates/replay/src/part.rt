@@ -1,6 +1,6 @@
 // As many records as have room in a lent buffer, run one after the other on a table that the loop owns.
 use changes::Counters;
-use rules::Table;
+use model::Table;
 use text::Put;
 use trace::RecordAt;
 ghost use Rattle.trace.specs.Trace.{Boundary};

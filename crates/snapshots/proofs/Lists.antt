@@ -8,9 +8,9 @@ use Rattle.kinds.specs.declared.Txid.{Txid}
 use Rattle.kinds.specs.declared.refusal.Verdict.{Verdict}
 use Rattle.kinds.specs.declared.refusal.Verdict.the-variants.{Pass, Refuse}
 use Rattle.settled.specs.Snapshots.{noSnapshot}
-use Rattle.rules.specs.Tally.{active, snapshotOf}
-use Rattle.rules.specs.Tests.{observationTest}
-use Rattle.rules.proofs.Tally.{used-places}
+use Rattle.model.specs.Tally.{active, snapshotOf}
+use Rattle.model.specs.Tests.{observationTest}
+use Rattle.model.proofs.Tally.{used-places}
 use Rattle.changes.specs.declared.Counters.{Counters}
 use Rattle.snapshots.specs.declared.taken.SnapshotDecision.{SnapshotDecision}
 use Rattle.snapshots.specs.Answers.{paperTaken, snapshotRefused}

@@ -9,12 +9,12 @@ use Rattle.kinds.specs.declared.Txid.{Txid}
 use Rattle.kinds.specs.declared.refusal.Verdict.{Verdict}
 use Rattle.kinds.specs.declared.refusal.Verdict.the-variants.{Pass, Refuse}
 use Rattle.kinds.proofs.Verdicts.{then-pass}
-use Rattle.rules.specs.declared.Table.{Table}
-use Rattle.rules.specs.Tally.{active, snapshotOf}
-use Rattle.rules.specs.Tests.{ownerTest, observationTest}
-use Rattle.rules.specs.Calls.{own, refusal, afterAccepted, answerAccepted, shownAccepted, shownBy, shown}
-use Rattle.rules.proofs.Tally.{used-places}
-use Rattle.rules.proofs.Tests.{owns}
+use Rattle.model.specs.declared.Table.{Table}
+use Rattle.model.specs.Tally.{active, snapshotOf}
+use Rattle.model.specs.Tests.{ownerTest, observationTest}
+use Rattle.model.specs.Calls.{own, refusal, afterAccepted, answerAccepted, shownAccepted, shownBy, shown}
+use Rattle.model.proofs.Tally.{used-places}
+use Rattle.model.proofs.Tests.{owns}
 use Rattle.changes.specs.declared.Counters.{Counters}
 use Rattle.changes.specs.Changes.{countersOf, storedAt, applied}
 use Rattle.changes.specs.Lent.{Lent, Decided}

@@ -6,11 +6,11 @@ use lib.ListN.{length, take}
 use lib.Seq.{take-all}
 use Rattle.kinds.specs.declared.refusal.Verdict.{Verdict}
 use Rattle.kinds.specs.declared.refusal.Verdict.the-variants.{Pass, Refuse}
-use Rattle.rules.specs.declared.Table.{Table}
-use Rattle.rules.specs.Tally.{active, snapshotOf}
-use Rattle.rules.specs.Tests.{observationTest}
-use Rattle.rules.specs.Calls.{snap, refusal, afterAccepted, answerAccepted, shownAccepted, shownBy, shown}
-use Rattle.rules.proofs.Tally.{used-places}
+use Rattle.model.specs.declared.Table.{Table}
+use Rattle.model.specs.Tally.{active, snapshotOf}
+use Rattle.model.specs.Tests.{observationTest}
+use Rattle.model.specs.Calls.{snap, refusal, afterAccepted, answerAccepted, shownAccepted, shownBy, shown}
+use Rattle.model.proofs.Tally.{used-places}
 use Rattle.changes.specs.declared.Counters.{Counters}
 use Rattle.changes.specs.Changes.{countersOf, storedAt, applied}
 use Rattle.changes.specs.Lent.{Lent, Decided}

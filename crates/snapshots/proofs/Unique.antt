@@ -2,9 +2,9 @@
 use Prim.Native.Nat.{ℕ}
 use mathlib.Core.Path.{_≡_, refl, sym, ap, _∙_}
 use Rattle.settled.specs.declared.Snapshot.{Snapshot}
-use Rattle.rules.specs.declared.Table.{Table}
-use Rattle.rules.specs.Calls.{Call}
-use Rattle.rules.proofs.Answers.{never-refused, same-refused}
+use Rattle.model.specs.declared.Table.{Table}
+use Rattle.model.specs.Calls.{Call}
+use Rattle.model.proofs.Answers.{never-refused, same-refused}
 use Rattle.snapshots.specs.declared.taken.Taken.{Taken}
 use Rattle.snapshots.specs.declared.taken.Taken.the-variants.{Accepted, Refused}
 use Rattle.snapshots.specs.declared.taken.SnapshotAnswer.{SnapshotAnswer}

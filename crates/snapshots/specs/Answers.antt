@@ -6,9 +6,9 @@ use Rattle.kinds.specs.declared.refusal.Refusal.{Refusal}
 use Rattle.kinds.specs.Refusals.{told}
 use Rattle.settled.specs.declared.Snapshot.{Snapshot}
 use Rattle.settled.specs.Snapshots.{noSnapshot}
-use Rattle.rules.specs.declared.Table.{Table}
-use Rattle.rules.specs.Answers.{Answer, snapped, answerTold}
-use Rattle.rules.specs.Calls.{Call, shown, Outcome}
+use Rattle.model.specs.declared.Table.{Table}
+use Rattle.model.specs.Answers.{Answer, snapped, answerTold}
+use Rattle.model.specs.Calls.{Call, shown, Outcome}
 use Rattle.changes.specs.declared.Counters.{Counters}
 use Rattle.changes.specs.Changes.{countersOnly}
 use Rattle.snapshots.specs.declared.taken.Taken.{Taken}

@@ -7,8 +7,8 @@ use Rattle.kinds.specs.declared.Txid.{Txid}
 use Rattle.kinds.specs.declared.refusal.Verdict.{Verdict}
 use Rattle.kinds.specs.declared.refusal.Verdict.the-variants.{Pass, Refuse}
 use Rattle.kinds.specs.Verdicts.{then}
-use Rattle.rules.specs.Tally.{snapshotOf}
-use Rattle.rules.specs.Tests.{ownerTest, observationTest}
+use Rattle.model.specs.Tally.{snapshotOf}
+use Rattle.model.specs.Tests.{ownerTest, observationTest}
 use Rattle.changes.specs.declared.Counters.{Counters}
 use Rattle.changes.specs.Changes.{countersOnly, slotChange, observedFrom}
 use Rattle.snapshots.specs.declared.taken.Taken.the-variants.{Accepted}

@@ -7,9 +7,9 @@ use changes::Counters;
 use kinds::SlotNo;
 use kinds::Txid;
 use kinds::Verdict;
-use rules::Table;
+use model::Table;
 ghost use mathlib.Core.Path.{_≡_};
-ghost use Rattle.rules.specs.Calls.{own};
+ghost use Rattle.model.specs.Calls.{own};
 ghost use Rattle.snapshots.specs.Answers.{TakenFits};
 ghost use Rattle.snapshots.specs.Decisions.{ownVerdict, ownDecision};
 
@@ -39,7 +39,7 @@ pub fn decide_own(
     match verdict {
         Verdict::Refuse(r) => snapshot_refused(was, r),
         Verdict::Pass => {
-            let snapshot = tally::take_snapshot(txids, sample);
+            let snapshot = scans::take_snapshot(txids, sample);
             let counters = changes::observed(was, clock, sample);
             let change = changes::slot_change(slot.0 as usize, id.0, snapshot.xmin, counters);
             SnapshotDecision {

@@ -5,9 +5,9 @@ use crate::taken::Taken;
 use crate::taken::snapshot_refused;
 use changes::Counters;
 use kinds::Verdict;
-use rules::Table;
+use model::Table;
 ghost use mathlib.Core.Path.{_≡_};
-ghost use Rattle.rules.specs.Calls.{snap};
+ghost use Rattle.model.specs.Calls.{snap};
 ghost use Rattle.snapshots.specs.Answers.{TakenFits};
 ghost use Rattle.snapshots.specs.Decisions.{snapDecision};
 
@@ -19,7 +19,7 @@ pub fn decide_snap(txids: &[u64], was: Counters, clock: u64, sample: u64) -> Sna
     match verdict {
         Verdict::Refuse(r) => snapshot_refused(was, r),
         Verdict::Pass => {
-            let snapshot = tally::take_snapshot(txids, sample);
+            let snapshot = scans::take_snapshot(txids, sample);
             let counters = changes::observed(was, clock, sample);
             let change = changes::counters_only(counters);
             SnapshotDecision {

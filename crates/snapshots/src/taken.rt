@@ -2,7 +2,7 @@
 use changes::Change;
 use changes::Counters;
 use kinds::Refusal;
-use rules::Table;
+use model::Table;
 use settled::Snapshot;
 ghost use mathlib.Core.Path.{_≡_};
 ghost use Rattle.snapshots.specs.Answers.{snapshotRefused};

@@ -3,9 +3,9 @@ use Prim.Native.Nat.{ℕ}
 use mathlib.Core.Path.{_≡_, refl, sym, ap, _∙_}
 use mathlib.Core.List.{List, [], _++_, append-nil}
 use lib.ListN.{length, take}
-use Rattle.rules.specs.declared.Table.{Table}
-use Rattle.rules.specs.Answers.{Answer}
-use Rattle.rules.specs.Calls.{Call, after, answer}
+use Rattle.model.specs.declared.Table.{Table}
+use Rattle.model.specs.Answers.{Answer}
+use Rattle.model.specs.Calls.{Call, after, answer}
 use Rattle.changes.specs.declared.Change.{Change}
 use Rattle.changes.specs.Changes.{applied}
 use Rattle.changes.specs.Lent.{Decided}

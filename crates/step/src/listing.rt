@@ -4,7 +4,7 @@ use changes::Counters;
 use kinds::SlotNo;
 use kinds::Txid;
 use snapshots::SnapshotDecision;
-ghost use Rattle.rules.specs.Calls.{snap, own};
+ghost use Rattle.model.specs.Calls.{snap, own};
 ghost use Rattle.step.specs.Step.{RanBy};
 ghost use Rattle.step.specs.Listing.{ListingFits};
 

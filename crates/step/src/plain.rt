@@ -6,7 +6,7 @@ use kinds::SlotNo;
 use kinds::Stamp;
 use kinds::Txid;
 use printed::Printed;
-ghost use Rattle.rules.specs.Calls.{begin, end, oldest, vacuum, stamp, finish};
+ghost use Rattle.model.specs.Calls.{begin, end, oldest, vacuum, stamp, finish};
 ghost use Rattle.step.specs.Plain.{PlainBy, PlainByBoth, PlainByCounters, PutFits};
 
 // What the answer prints, and what the call changes.

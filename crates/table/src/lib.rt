@@ -34,7 +34,7 @@ pub use registration::decide_begin;
 pub use registration::decide_end;
 pub use registration::end_transaction;
 pub use rows::rows_hold;
-pub use rules::Table;
+pub use model::Table;
 pub use snapshots::SnapshotAnswer;
 pub use snapshots::SnapshotDecision;
 pub use snapshots::Taken;
@@ -43,7 +43,7 @@ pub use snapshots::create_transaction_snapshot;
 pub use snapshots::decide_own;
 pub use snapshots::decide_snap;
 ghost use mathlib.Core.Path.{_≡_};
-ghost use Rattle.rules.specs.Tables.{freshTable};
+ghost use Rattle.model.specs.Tables.{freshTable};
 
 // A table with no transaction.
 pub fn fresh() -> Table

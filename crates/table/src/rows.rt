@@ -1,5 +1,5 @@
 // The twelve situations at the edges, checked at the table's own number of slots.
-ghost use Rattle.rules.specs.Rows.{AllRowsHold};
+ghost use Rattle.model.specs.Rows.{AllRowsHold};
 
 // Nothing to run: that it is proved says that every row holds, P7 for any number.
 pub fn rows_hold()

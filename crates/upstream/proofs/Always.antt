@@ -7,9 +7,9 @@ use Rattle.kinds.specs.declared.refusal.Refusal.the-variants.{NoFreeSlot, Inval
 use Rattle.kinds.specs.declared.refusal.Verdict.{Verdict}
 use Rattle.kinds.specs.declared.refusal.Verdict.the-variants.{Pass, Refuse}
 use Rattle.kinds.specs.Refusals.{consumed}
-use Rattle.rules.specs.declared.Table.{Table}
-use Rattle.rules.specs.Tables.{observed}
-use Rattle.rules.specs.Calls.{Call, begin, end, snap, own, oldest, vacuum, stamp, finish, refusal, afterAccepted, spent, afterRefused, afterBy, after}
+use Rattle.model.specs.declared.Table.{Table}
+use Rattle.model.specs.Tables.{observed}
+use Rattle.model.specs.Calls.{Call, begin, end, snap, own, oldest, vacuum, stamp, finish, refusal, afterAccepted, spent, afterRefused, afterBy, after}
 use Rattle.upstream.specs.States.{State, stateOf, stateAfter, historyBy, Shaped, Foreseen}
 use Rattle.upstream.specs.Relations.{WellFormed, Sound}
 use Rattle.upstream.proofs.Runs.{Observing, seen, observing}

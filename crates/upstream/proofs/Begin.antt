@@ -7,10 +7,10 @@ use native.Mathlib.Omega.{arith}
 use Rattle.kinds.specs.declared.Stamp.{Stamp}
 use Rattle.kinds.specs.Refusals.{told, consumed}
 use Rattle.kinds.specs.declared.refusal.Verdict.{Verdict}
-use Rattle.rules.specs.declared.Table.{Table}
-use Rattle.rules.specs.Tally.{lowestEmpty}
-use Rattle.rules.specs.Calls.{begin, refusal, afterAccepted, spent, afterRefused, afterBy, after, answerAccepted, answerBy, answer}
-use Rattle.rules.proofs.Tally.{lowest-empty, below-lowest}
+use Rattle.model.specs.declared.Table.{Table}
+use Rattle.model.specs.Tally.{lowestEmpty}
+use Rattle.model.specs.Calls.{begin, refusal, afterAccepted, spent, afterRefused, afterBy, after, answerAccepted, answerBy, answer}
+use Rattle.model.proofs.Tally.{lowest-empty, below-lowest}
 use Rattle.upstream.specs.States.{stateOf, stateAfter, historyBy, Foreseen}
 use Rattle.upstream.specs.Relations.{Sound}
 use Rattle.upstream.specs.Clauses.{BeginTransaction, BeginAcquired}

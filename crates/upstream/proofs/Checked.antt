@@ -9,7 +9,7 @@ use Rattle.kinds.specs.declared.refusal.Refusal.{Refusal}
 use Rattle.kinds.specs.declared.refusal.Refusal.the-variants.{InvalidSlot}
 use Rattle.kinds.specs.declared.refusal.Verdict.the-variants.{Pass, Refuse}
 use Rattle.kinds.proofs.Verdicts.{refuse-not-pass, same-refusal}
-use Rattle.rules.specs.Tests.{slotTest}
+use Rattle.model.specs.Tests.{slotTest}
 use Rattle.upstream.specs.Clauses.{CheckedSlot}
 
 pub checked-slot-meets : (n : ℕ) (slot : SlotNo) → CheckedSlot n slot (slotTest n slot)

@@ -8,8 +8,8 @@ use Rattle.kinds.specs.declared.SlotNo.{SlotNo}
 use Rattle.kinds.specs.declared.Txid.{Txid}
 use Rattle.kinds.specs.Refusals.{told, consumed}
 use Rattle.kinds.specs.declared.refusal.Verdict.{Verdict}
-use Rattle.rules.specs.declared.Table.{Table}
-use Rattle.rules.specs.Calls.{end, refusal, afterAccepted, spent, afterRefused, afterBy, after, answerAccepted, answerBy, answer}
+use Rattle.model.specs.declared.Table.{Table}
+use Rattle.model.specs.Calls.{end, refusal, afterAccepted, spent, afterRefused, afterBy, after, answerAccepted, answerBy, answer}
 use Rattle.upstream.specs.States.{stateOf, stateAfter, historyBy, Foreseen}
 use Rattle.upstream.specs.Relations.{Sound}
 use Rattle.upstream.specs.Clauses.{EndTransaction}

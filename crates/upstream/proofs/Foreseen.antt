@@ -16,12 +16,12 @@ use Rattle.kinds.specs.declared.refusal.Verdict.{Verdict}
 use Rattle.kinds.specs.declared.refusal.Verdict.the-variants.{Pass, Refuse}
 use Rattle.kinds.specs.Verdicts.{then, zeroTest}
 use Rattle.kinds.proofs.Verdicts.{then-last}
-use Rattle.rules.specs.declared.Table.{Table}
-use Rattle.rules.specs.Tally.{lowestEmpty}
-use Rattle.rules.specs.Tests.{ownerTest, fullTest}
-use Rattle.rules.specs.Accepted.{Reserves, Observes}
-use Rattle.rules.specs.Calls.{begin, end, snap, own, oldest, stamp, finish, refusal}
-use Rattle.rules.proofs.Tests.{reservation-passes, observation-passes}
+use Rattle.model.specs.declared.Table.{Table}
+use Rattle.model.specs.Tally.{lowestEmpty}
+use Rattle.model.specs.Tests.{ownerTest, fullTest}
+use Rattle.model.specs.Accepted.{Reserves, Observes}
+use Rattle.model.specs.Calls.{begin, end, snap, own, oldest, stamp, finish, refusal}
+use Rattle.model.proofs.Tests.{reservation-passes, observation-passes}
 use Rattle.upstream.specs.States.{State, stateOf, Foreseen}
 use Rattle.upstream.specs.Relations.{Sound, Observation, Reservation}
 use Rattle.upstream.proofs.Runs.{mismatch}

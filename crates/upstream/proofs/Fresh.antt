@@ -7,16 +7,16 @@ use mathlib.Core.List.{List, [], _∷_, _++_, append-assoc, append-nil}
 use lib.ListN.{replicate}
 use Rattle.settled.specs.Settled.{listed}
 use Rattle.settled.proofs.Listed.{listed-place}
-use Rattle.rules.specs.declared.Table.{Table}
-use Rattle.rules.specs.Tables.{freshTable}
-use Rattle.rules.specs.Calls.{Call, refusal, after}
-use Rattle.rules.specs.History.{reached}
-use Rattle.rules.specs.Reservations.{reservesBy, reservations}
-use Rattle.rules.proofs.Places.{zeros-hold}
-use Rattle.rules.proofs.History.{run-snoc}
-use Rattle.rules.proofs.Facts.{good-reached}
-use Rattle.rules.proofs.Reservations.{InOrder, reserved-in-order, order-place, order-places, reservations-snoc}
-use Rattle.rules.proofs.Taken.{taken-reserved}
+use Rattle.model.specs.declared.Table.{Table}
+use Rattle.model.specs.Tables.{freshTable}
+use Rattle.model.specs.Calls.{Call, refusal, after}
+use Rattle.model.specs.History.{reached}
+use Rattle.model.specs.Reservations.{reservesBy, reservations}
+use Rattle.model.proofs.Places.{zeros-hold}
+use Rattle.model.proofs.History.{run-snoc}
+use Rattle.model.proofs.Facts.{good-reached}
+use Rattle.model.proofs.Reservations.{InOrder, reserved-in-order, order-place, order-places, reservations-snoc}
+use Rattle.model.proofs.Taken.{taken-reserved}
 use Rattle.upstream.specs.States.{State, slot, at, pairs, push, pushes, stateOf, stateAfter}
 use Rattle.upstream.specs.Relations.{Contains, WellFormed, Sound}
 use Rattle.upstream.proofs.Pairs.{pairs-at}

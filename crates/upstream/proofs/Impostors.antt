@@ -18,15 +18,15 @@ use Rattle.kinds.specs.Kinds.{txid}
 use Rattle.kinds.specs.Refusals.{told}
 use Rattle.kinds.specs.declared.refusal.Verdict.the-variants.{Pass, Refuse}
 use Rattle.kinds.proofs.Verdicts.{refuse-not-pass}
-use Rattle.rules.specs.declared.Table.{Table}
-use Rattle.rules.specs.Tally.{oldestOf, snapshotOf}
-use Rattle.rules.specs.Tables.{freshTable, withSlot, withClock, withLine, observed}
-use Rattle.rules.specs.Answers.{Answer, registered, oldestIs, stamped, answerTold}
-use Rattle.rules.specs.Calls.{afterAccepted, answerAccepted, shownAccepted}
-use Rattle.rules.specs.Accepted.{Reserves, Observes}
-use Rattle.rules.specs.History.{run}
-use Rattle.rules.specs.Reservations.{reservationsFrom}
-use Rattle.rules.proofs.BelowTop.{BelowTop}
+use Rattle.model.specs.declared.Table.{Table}
+use Rattle.model.specs.Tally.{oldestOf, snapshotOf}
+use Rattle.model.specs.Tables.{freshTable, withSlot, withClock, withLine, observed}
+use Rattle.model.specs.Answers.{Answer, registered, oldestIs, stamped, answerTold}
+use Rattle.model.specs.Calls.{afterAccepted, answerAccepted, shownAccepted}
+use Rattle.model.specs.Accepted.{Reserves, Observes}
+use Rattle.model.specs.History.{run}
+use Rattle.model.specs.Reservations.{reservationsFrom}
+use Rattle.model.proofs.BelowTop.{BelowTop}
 use Rattle.settled.specs.declared.Snapshot.{Snapshot}
 use Rattle.upstream.specs.States.{Slot, at, pairs, push, stateOf}
 use Rattle.upstream.specs.Relations.{Sound}

@@ -7,7 +7,7 @@ use native.Mathlib.Nat.{le-trans}
 use native.Mathlib.Decide.{decLt}
 use native.Mathlib.Omega.{arith}
 use lib.ListN.{length, getD, set, length-set, length-append, List·getD-append}
-use Rattle.rules.proofs.Places.{Stored, new-here, as-before, stored}
+use Rattle.model.proofs.Places.{Stored, new-here, as-before, stored}
 use Rattle.upstream.specs.States.{Slot, slot, at, push}
 use Rattle.upstream.specs.Relations.{Contains, TablePart, HistoryPart}
 

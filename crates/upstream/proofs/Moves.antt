@@ -7,10 +7,10 @@ use native.Mathlib.Nat.{le-refl}
 use native.Mathlib.Decide.{decLt}
 use native.Mathlib.Omega.{arith}
 use lib.ListN.{getD, set}
-use Rattle.rules.specs.declared.Table.{Table}
-use Rattle.rules.specs.Tables.{withSlot, withXmin, withClock, observed}
-use Rattle.rules.specs.Accepted.{Reserves, Observes}
-use Rattle.rules.proofs.Places.{Stored, new-here, as-before, stored}
+use Rattle.model.specs.declared.Table.{Table}
+use Rattle.model.specs.Tables.{withSlot, withXmin, withClock, observed}
+use Rattle.model.specs.Accepted.{Reserves, Observes}
+use Rattle.model.proofs.Places.{Stored, new-here, as-before, stored}
 use Rattle.upstream.specs.States.{Slot, slot, at, pairs, push, stateOf, Shaped}
 use Rattle.upstream.specs.Relations.{Contains, HistoryOf, WellFormed, Sound}
 use Rattle.upstream.proofs.Pairs.{pairs-at, pairs-set, pairs-set-xmin}

@@ -3,8 +3,8 @@ use Prim.Native.Nat.{ℕ}
 use mathlib.Core.Path.{refl, sym, _∙_}
 use mathlib.Core.List.{List}
 use Rattle.kinds.specs.declared.refusal.Verdict.{Verdict}
-use Rattle.rules.specs.declared.Table.{Table}
-use Rattle.rules.specs.Calls.{oldest, refusal, afterAccepted, afterBy, after, answerAccepted, answerBy, answer}
+use Rattle.model.specs.declared.Table.{Table}
+use Rattle.model.specs.Calls.{oldest, refusal, afterAccepted, afterBy, after, answerAccepted, answerBy, answer}
 use Rattle.upstream.specs.States.{stateOf, stateAfter, historyBy, Foreseen}
 use Rattle.upstream.specs.Relations.{Sound}
 use Rattle.upstream.specs.Clauses.{OldestSnapshotXmin}

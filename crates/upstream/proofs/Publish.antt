@@ -11,12 +11,12 @@ use Rattle.kinds.specs.declared.SlotNo.{SlotNo}
 use Rattle.kinds.specs.declared.Txid.{Txid}
 use Rattle.kinds.specs.Refusals.{told, consumed}
 use Rattle.kinds.specs.declared.refusal.Verdict.{Verdict}
-use Rattle.rules.specs.declared.Table.{Table}
-use Rattle.rules.specs.Tables.{withClock}
-use Rattle.rules.specs.Tests.{reservationTest}
-use Rattle.rules.specs.Accepted.{Reserves}
-use Rattle.rules.specs.Calls.{stamp, finish, refusal, afterAccepted, spent, afterRefused, afterBy, after, answerAccepted, answerBy, answer}
-use Rattle.rules.proofs.Places.{Stored, new-here, as-before, stored}
+use Rattle.model.specs.declared.Table.{Table}
+use Rattle.model.specs.Tables.{withClock}
+use Rattle.model.specs.Tests.{reservationTest}
+use Rattle.model.specs.Accepted.{Reserves}
+use Rattle.model.specs.Calls.{stamp, finish, refusal, afterAccepted, spent, afterRefused, afterBy, after, answerAccepted, answerBy, answer}
+use Rattle.model.proofs.Places.{Stored, new-here, as-before, stored}
 use Rattle.upstream.specs.States.{Slot, slot, at, push, stateOf, stateAfter, historyBy, Foreseen}
 use Rattle.upstream.specs.Relations.{Contains, HistoryOf, Sound}
 use Rattle.upstream.specs.Clauses.{ReservePublicationClock, DeregisterThenReserve}

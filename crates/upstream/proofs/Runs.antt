@@ -16,10 +16,10 @@ use Rattle.kinds.specs.declared.refusal.Verdict.{Verdict}
 use Rattle.kinds.specs.declared.refusal.Verdict.the-variants.{Pass, Refuse}
 use Rattle.kinds.specs.Verdicts.{then}
 use Rattle.kinds.proofs.Verdicts.{then-last}
-use Rattle.rules.specs.Tally.{lowestEmpty}
-use Rattle.rules.specs.Tests.{ownerTest, reservationTest, fullTest, observationTest}
-use Rattle.rules.specs.Accepted.{Reserves, Observes}
-use Rattle.rules.proofs.Tests.{reserves, observes}
+use Rattle.model.specs.Tally.{lowestEmpty}
+use Rattle.model.specs.Tests.{ownerTest, reservationTest, fullTest, observationTest}
+use Rattle.model.specs.Accepted.{Reserves, Observes}
+use Rattle.model.proofs.Tests.{reserves, observes}
 use Rattle.upstream.specs.States.{Foreseen}
 
 -- a reservation: its number may be reserved

@@ -16,15 +16,15 @@ use Rattle.kinds.specs.declared.Txid.{Txid}
 use Rattle.kinds.specs.Refusals.{told, consumed}
 use Rattle.kinds.specs.declared.refusal.Verdict.{Verdict}
 use Rattle.kinds.specs.declared.refusal.Verdict.the-variants.{Pass}
-use Rattle.rules.specs.declared.Table.{Table}
-use Rattle.rules.specs.Tally.{active as ours, minimum, maximum, xmaxOf, places, snapshotOf}
-use Rattle.rules.specs.Tables.{txidAt, observed}
-use Rattle.rules.specs.Tests.{observationTest}
-use Rattle.rules.specs.Calls.{snap, own, refusal, afterAccepted, spent, afterRefused, afterBy, after, answerAccepted, answerBy, answer, shownAccepted, shownBy, shown}
+use Rattle.model.specs.declared.Table.{Table}
+use Rattle.model.specs.Tally.{active as ours, minimum, maximum, xmaxOf, places, snapshotOf}
+use Rattle.model.specs.Tables.{txidAt, observed}
+use Rattle.model.specs.Tests.{observationTest}
+use Rattle.model.specs.Calls.{snap, own, refusal, afterAccepted, spent, afterRefused, afterBy, after, answerAccepted, answerBy, answer, shownAccepted, shownBy, shown}
 use Rattle.settled.specs.declared.Snapshot.{Snapshot}
-use Rattle.rules.specs.Accepted.{Observes}
-use Rattle.rules.proofs.Tally.{minimum-member, minimum-bound, maximum-bound, taken-active, active-taken, used-places}
-use Rattle.rules.proofs.BelowTop.{BelowTop}
+use Rattle.model.specs.Accepted.{Observes}
+use Rattle.model.proofs.Tally.{minimum-member, minimum-bound, maximum-bound, taken-active, active-taken, used-places}
+use Rattle.model.proofs.BelowTop.{BelowTop}
 use Rattle.upstream.specs.States.{State, slot, at, pairs, stateOf, stateAfter, historyBy, Foreseen}
 use Rattle.upstream.specs.Relations.{HistoryOf, WellFormed, Sound, Coherent}
 use Rattle.upstream.specs.Clauses.{SnapshotLocked, CreateSnapshot, CreateTransactionSnapshot}

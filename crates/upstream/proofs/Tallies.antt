@@ -9,7 +9,7 @@ use native.Mathlib.Omega.{arith}
 use lib.Dec.{eqb, ltb}
 use lib.ListN.{length}
 use borrow.Author.Tests.{ltb-true, ltb-false, eqb-true}
-use Rattle.rules.specs.Tally.{unless, active as ours, retained, minimum, maximum}
+use Rattle.model.specs.Tally.{unless, active as ours, retained, minimum, maximum}
 use Rattle.upstream.specs.States.{Slot, slot, at, pairs}
 use Rattle.upstream.specs.Tallies.{pushed, lowered, raised, active, «minimum_active», «maximum_active», «minimum_retention»}
 

@@ -5,13 +5,13 @@ use mathlib.Core.List.{List, [], _∷_}
 use Rattle.kinds.specs.Kinds.{number, slot, txid}
 use Rattle.kinds.specs.declared.refusal.Refusal.the-variants.{NoFreeSlot}
 use Rattle.kinds.specs.declared.refusal.Verdict.the-variants.{Pass, Refuse}
-use Rattle.rules.specs.declared.Table.{Table}
-use Rattle.rules.specs.Tally.{active, lowestEmpty, minimum, maximum, snapshotOf}
-use Rattle.rules.specs.Tables.{freshTable}
-use Rattle.rules.specs.Calls.{Call, begin, end, snap, own, oldest, stamp, finish, refusal, afterAccepted, after, shownAccepted, shown}
-use Rattle.rules.specs.History.{run, reached}
-use Rattle.rules.specs.Reservations.{reservationsFrom, reservations}
-use Rattle.rules.specs.Check.{slotsPass, differ, passes, tablePasses}
+use Rattle.model.specs.declared.Table.{Table}
+use Rattle.model.specs.Tally.{active, lowestEmpty, minimum, maximum, snapshotOf}
+use Rattle.model.specs.Tables.{freshTable}
+use Rattle.model.specs.Calls.{Call, begin, end, snap, own, oldest, stamp, finish, refusal, afterAccepted, after, shownAccepted, shown}
+use Rattle.model.specs.History.{run, reached}
+use Rattle.model.specs.Reservations.{reservationsFrom, reservations}
+use Rattle.model.specs.Check.{slotsPass, differ, passes, tablePasses}
 use Rattle.settled.specs.Settled.{listed}
 
 -- two slots, taken by 4 and by 7

@@ -5,12 +5,12 @@ use mathlib.Core.Logic.{_≢_}
 use mathlib.Core.Bool.{true}
 use native.Mathlib.Omega.{arith}
 use lib.ListN.{length}
-use Rattle.rules.specs.declared.Table.{Table}
-use Rattle.rules.specs.Tables.{txidAt, xminAt}
-use Rattle.rules.specs.Check.{tablePasses}
-use Rattle.rules.specs.Facts.{SlotGood, empty, taken, Good}
-use Rattle.rules.proofs.Moves.{equally-long}
-use Rattle.rules.proofs.Check.{passes-good}
+use Rattle.model.specs.declared.Table.{Table}
+use Rattle.model.specs.Tables.{txidAt, xminAt}
+use Rattle.model.specs.Check.{tablePasses}
+use Rattle.model.specs.Facts.{SlotGood, empty, taken, Good}
+use Rattle.model.proofs.Moves.{equally-long}
+use Rattle.model.proofs.Check.{passes-good}
 use Rattle.upstream.specs.States.{Slot, slot, at}
 use Rattle.upstream.specs.Relations.{Sound}
 use Rattle.upstream.proofs.Pairs.{pairs-length, pairs-at}

@@ -15,7 +15,7 @@ use Rattle.kinds.specs.Refusals.{told}
 use Rattle.kinds.specs.declared.refusal.Verdict.{Verdict}
 use Rattle.kinds.specs.declared.refusal.Verdict.the-variants.{Pass, Refuse}
 use Rattle.settled.specs.declared.Snapshot.{Snapshot}
-use Rattle.rules.specs.Answers.{Answer, done, answerTold}
+use Rattle.model.specs.Answers.{Answer, done, answerTold}
 use Rattle.upstream.specs.States.{State, slot, at, push}
 use Rattle.upstream.specs.Tallies.{«minimum_retention»}
 use Rattle.upstream.specs.Relations.{Contains, HistoryOf, WellFormed, Coherent, Observation, Reservation}

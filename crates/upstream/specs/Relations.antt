@@ -8,7 +8,7 @@ use lib.Dec.{ltb}
 use lib.ListN.{length, getD, take}
 use Rattle.kinds.specs.Kinds.{top}
 use Rattle.settled.specs.declared.Snapshot.{Snapshot}
-use Rattle.rules.specs.declared.Table.{Table}
+use Rattle.model.specs.declared.Table.{Table}
 use Rattle.upstream.specs.States.{Slot, State, at, pairs, push, Shaped}
 use Rattle.upstream.specs.Tallies.{active, «minimum_active», «maximum_active»}
 

@@ -7,9 +7,9 @@ use lib.ListN.{length, getD}
 use Rattle.kinds.specs.declared.refusal.Refusal.the-variants.{NoFreeSlot, InvalidSlot, SlotOwnershipMismatch, ZeroTxid, ClockExhausted, BadReservation, BadClock, BadSample, BadTrace, BadSnapshot}
 use Rattle.kinds.specs.declared.refusal.Verdict.{Verdict}
 use Rattle.kinds.specs.declared.refusal.Verdict.the-variants.{Pass, Refuse}
-use Rattle.rules.specs.declared.Table.{Table}
-use Rattle.rules.specs.Calls.{Call, refusal, after}
-use Rattle.rules.specs.Reservations.{reservesBy}
+use Rattle.model.specs.declared.Table.{Table}
+use Rattle.model.specs.Calls.{Call, refusal, after}
+use Rattle.model.specs.Reservations.{reservesBy}
 
 pub record Slot : Type 0 where
   pub txid : ℕ

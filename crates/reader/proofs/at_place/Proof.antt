@@ -1,7 +1,7 @@
 -- A walk of `at_place`: a reader is made of the text and the place passed.
-use Rattle.walk.proofs.Words.{refl, ℕ, List, [], _∷_, URA, Heap, Lfts, Shares, RefT, u8, named, w64, vint, Val, Typed, emp, factI}
-use Rattle.walk.proofs.Words.{World, Promise, promise, Proved, Call, Walk, world, proves, walks, ends, leaves, number, lent}
-use Rattle.walk.proofs.Words.{_$_, !, ‵, by, move, use1, sets, local, agg, and-then, no-more}
+use Rattle.hand_proofs.proofs.Words.{refl, ℕ, List, [], _∷_, URA, Heap, Lfts, Shares, RefT, u8, named, w64, vint, Val, Typed, emp, factI}
+use Rattle.hand_proofs.proofs.Words.{World, Promise, promise, Proved, Call, Walk, world, proves, walks, ends, leaves, number, lent}
+use Rattle.hand_proofs.proofs.Words.{_$_, !, ‵, by, move, use1, sets, local, agg, and-then, no-more}
 use Rattle.reader.specs.Reader.{standing}
 use Rattle.reader.proofs.Reader.Laws as T′
 use Rattle.reader.proofs.Held.{Held, spelled, together}

@@ -1,8 +1,8 @@
 -- A walk of `next`: the reader is taken apart, and the line parser is called on its text and its place.
 use denote.Signature.{namedLft}
-use Rattle.walk.proofs.Words.{_≡_, refl, [], _∷_, URA, Heap, Lfts, Shares, named, w64, vint, Typed, now, emp, id⊢, factI}
-use Rattle.walk.proofs.Words.{World, Promise, promise, Callee, Proved, Call, Walk, world, known, proves, walks, ends, leaves, struct}
-use Rattle.walk.proofs.Words.{_$_, !, ‵, by, move, use1, first-only, sets, member, locals, of-opd, hands-on, calls, lands}
+use Rattle.hand_proofs.proofs.Words.{_≡_, refl, [], _∷_, URA, Heap, Lfts, Shares, named, w64, vint, Typed, now, emp, id⊢, factI}
+use Rattle.hand_proofs.proofs.Words.{World, Promise, promise, Callee, Proved, Call, Walk, world, known, proves, walks, ends, leaves, struct}
+use Rattle.hand_proofs.proofs.Words.{_$_, !, ‵, by, move, use1, first-only, sets, member, locals, of-opd, hands-on, calls, lands}
 use Rattle.trace.specs.Record.{recordAt}
 use Rattle.trace.proofs.record_at as g
 use Rattle.reader.specs.declared.Reader.{Reader}

@@ -1,7 +1,7 @@
 -- A walk of `next_record`: a reader is made in a local, and asked.
-use Rattle.walk.proofs.Words.{_≡_, refl, ap, _∙_, ℕ, List, [], _∷_, URA, Heap, Lfts, Shares, w64, vint, Val, u8, RefT, now, emp, id⊢, factI}
-use Rattle.walk.proofs.Words.{World, Promise, promise, Callee, Proved, Call, Walk, world, known, proves, walks, ends, leaves, number, lent}
-use Rattle.walk.proofs.Words.{_$_, !, by, move, locals, hands-on, hands, calls, lands}
+use Rattle.hand_proofs.proofs.Words.{_≡_, refl, ap, _∙_, ℕ, List, [], _∷_, URA, Heap, Lfts, Shares, w64, vint, Val, u8, RefT, now, emp, id⊢, factI}
+use Rattle.hand_proofs.proofs.Words.{World, Promise, promise, Callee, Proved, Call, Walk, world, known, proves, walks, ends, leaves, number, lent}
+use Rattle.hand_proofs.proofs.Words.{_$_, !, by, move, locals, hands-on, hands, calls, lands}
 use Rattle.trace.specs.Record.{recordAt}
 use Rattle.reader.specs.Reader.{standing}
 use Rattle.reader.specs.declared.Reader.{Reader}

@@ -1,4 +1,4 @@
-use Rattle.rules.specs.Tables.{freshTable}
+use Rattle.model.specs.Tables.{freshTable}
 use borrow.Author.Needs.{needs}
 use Rattle.table.proofs.fresh.Statement.{statement}
 use Rattle.table.proofs.fresh.Tie as tie

@@ -1,9 +1,9 @@
 use mathlib.Core.Path.{refl}
 use Rattle.kinds.specs.Refusals.{told, consumed}
-use Rattle.rules.specs.Tally.{active, retained, lowestEmpty, minimum, maximum, snapshotOf}
-use Rattle.rules.specs.Tables.{freshTable}
-use Rattle.rules.specs.Calls.{refusal, afterAccepted, spent, afterRefused, after, answerAccepted, answer}
-use Rattle.rules.specs.Rows.{seenFrom, RowsHold, rows}
+use Rattle.model.specs.Tally.{active, retained, lowestEmpty, minimum, maximum, snapshotOf}
+use Rattle.model.specs.Tables.{freshTable}
+use Rattle.model.specs.Calls.{refusal, afterAccepted, spent, afterRefused, after, answerAccepted, answer}
+use Rattle.model.specs.Rows.{seenFrom, RowsHold, rows}
 use Rattle.table.proofs.rows.rows_hold.Statement.{statement}
 use Rattle.table.proofs.rows.rows_hold.Tie as tie
 

@@ -1,0 +1,118 @@
+-- What a refused call leaves: the table as it was, or, where a begin met a full table, the clock past its number.
+use Prim.Native.Nat.{ℕ, _≤_}
+use mathlib.Core.Path.{_≡_, refl, sym, ap, _∙_}
+use mathlib.Core.Bool.{Bool, true, false, cond, _||_, false≢true}
+use mathlib.Core.List.{List, []}
+use lib.Dec.{ltb, leb, eqb}
+use lib.ListN.{getD}
+use borrow.Author.Tests.{leb-true}
+use Rattle.kinds.specs.declared.Stamp.{Stamp}
+use Rattle.kinds.specs.declared.SlotNo.{SlotNo}
+use Rattle.kinds.specs.declared.Txid.{Txid}
+use Rattle.kinds.specs.declared.refusal.Refusal.{Refusal}
+use Rattle.kinds.specs.declared.refusal.Refusal.the-variants.{NoFreeSlot}
+use Rattle.kinds.specs.declared.refusal.Verdict.{Verdict}
+use Rattle.kinds.specs.declared.refusal.Verdict.the-variants.{Pass, Refuse}
+use Rattle.kinds.specs.Kinds.{top, txidOf}
+use Rattle.kinds.specs.Refusals.{consumed}
+use Rattle.kinds.specs.Verdicts.{then, zeroTest}
+use Rattle.kinds.proofs.Verdicts.{refuse-not-pass, same-refusal}
+use Rattle.model.specs.declared.Table.{Table}
+use Rattle.model.specs.Tally.{lowestEmpty}
+use Rattle.model.specs.Tests.{slotTest, holderTest, ownerTest, reservationTest, fullTest, observationTest}
+use Rattle.model.specs.Calls.{Call, begin, end, snap, own, oldest, vacuum, stamp, finish, refusal, spent, afterRefused}
+use Rattle.model.specs.Accepted.{Reserves}
+use Rattle.model.specs.Counts.{opens}
+use Rattle.model.proofs.Tests.{reserves}
+
+-- a refused call consumes nothing; or it is a begin on a full table, which consumes its number
+pub data Refused (n : ℕ) (t : Table) (c : Call) (r : Refusal) : Type 0 where
+  stays : consumed r ≡ [] → Refused n t c r
+  spends :
+      (number : Stamp) → c ≡ begin number → r ≡ NoFreeSlot (txidOf number) → Reserves (t .clock) (number .0) →
+      n ≤ lowestEmpty (t .txids) → Refused n t c r
+
+-- what a verdict consumes
+abbrev uses : Verdict → List ℕ
+uses Pass = []
+uses (Refuse r) = consumed r
+
+then-uses : (v w : Verdict) → uses v ≡ [] → uses w ≡ [] → uses (then v w) ≡ []
+then-uses Pass w p q = q
+then-uses (Refuse r) w p q = p
+
+cond-uses : (b : Bool) (v w : Verdict) → uses v ≡ [] → uses w ≡ [] → uses (cond b v w) ≡ []
+cond-uses true v w p q = p
+cond-uses false v w p q = q
+
+-- no test but the last of begin's consumes a number
+owner-uses : (n : ℕ) (txids : List ℕ) (slot : SlotNo) (id : Txid) → uses (ownerTest n txids slot id) ≡ []
+unfolding consumed
+owner-uses n txids slot id =
+    then-uses (slotTest n slot) _ (cond-uses (leb n (slot .0)) _ _ refl refl)
+    (then-uses (zeroTest id) (holderTest txids slot id) (cond-uses (eqb (id .0) 0) _ _ refl refl)
+    (cond-uses (eqb (getD txids (slot .0) 0) (id .0)) _ _ refl refl))
+
+reservation-uses : (clock : ℕ) (number : Stamp) → uses (reservationTest clock number) ≡ []
+unfolding consumed
+reservation-uses clock number =
+    cond-uses (leb top clock) _ _ refl
+    (cond-uses (eqb (number .0) 0 || (ltb (number .0) clock || leb top (number .0))) _ _ refl refl)
+
+observation-uses : (former clock sample : ℕ) → uses (observationTest former clock sample) ≡ []
+unfolding consumed
+observation-uses former clock sample =
+    cond-uses (ltb clock former) _ _ refl (cond-uses (eqb sample 0 || ltb clock sample) _ _ refl refl)
+
+begin-refused :
+    (n : ℕ) (t : Table) (number : Stamp) (r : Refusal) →
+    then (reservationTest (t .clock) number) (fullTest n (t .txids) number) ≡ Refuse r → Refused n t (begin number) r
+begin-refused n t number r e = first (reservationTest (t .clock) number) refl e
+  where
+    second :
+        reservationTest (t .clock) number ≡ Pass → (b : Bool) → leb n (lowestEmpty (t .txids)) ≡ b →
+        cond b (Refuse (NoFreeSlot (txidOf number))) Pass ≡ Refuse r → Refused n t (begin number) r
+    second p true q h =
+        spends number refl (sym (same-refusal _ r h)) (reserves (t .clock) number p) (leb-true n (lowestEmpty (t .txids)) q)
+    second p false q h = absurd (refuse-not-pass r (sym h))
+
+    first :
+        (v : Verdict) → reservationTest (t .clock) number ≡ v → then v (fullTest n (t .txids) number) ≡ Refuse r →
+        Refused n t (begin number) r
+    first Pass p h = second p (leb n (lowestEmpty (t .txids))) refl h
+    first (Refuse s) p h = stays (sym (ap uses h) ∙ sym (ap uses p) ∙ reservation-uses (t .clock) number)
+
+pub refused : (n : ℕ) (t : Table) (c : Call) (r : Refusal) → refusal n t c ≡ Refuse r → Refused n t c r
+unfolding refusal
+refused n t (begin number) r e = begin-refused n t number r e
+refused n t (end slot id) r e = stays (sym (ap uses e) ∙ owner-uses n (t .txids) slot id)
+refused n t (snap clock sample) r e = stays (sym (ap uses e) ∙ observation-uses (t .clock) clock sample)
+refused n t (own slot id clock sample) r e =
+    stays
+    (sym (ap uses e)
+    ∙ then-uses (ownerTest n (t .txids) slot id) (observationTest (t .clock) clock sample)
+    (owner-uses n (t .txids) slot id) (observation-uses (t .clock) clock sample))
+refused n t (oldest clock sample) r e = stays (sym (ap uses e) ∙ observation-uses (t .clock) clock sample)
+refused n t (vacuum clock sample) r e = stays (sym (ap uses e) ∙ observation-uses (t .clock) clock sample)
+refused n t (stamp number) r e = stays (sym (ap uses e) ∙ reservation-uses (t .clock) number)
+refused n t (finish slot id number) r e =
+    stays
+    (sym (ap uses e)
+    ∙ then-uses (ownerTest n (t .txids) slot id) (reservationTest (t .clock) number)
+    (owner-uses n (t .txids) slot id) (reservation-uses (t .clock) number))
+
+-- every refusal but a begin's leaves the table
+pub refused-kept :
+    (n : ℕ) (t : Table) (c : Call) (r : Refusal) → opens c ≡ false → refusal n t c ≡ Refuse r → afterRefused t r ≡ t
+unfolding spent afterRefused
+refused-kept n t c r b e = go (refused n t c r e)
+  where
+    go : Refused n t c r → afterRefused t r ≡ t
+    go (stays h) = rw h
+    go (spends number q _ _ _) = absurd (false≢true (sym b ∙ ap opens q))
+
+-- no refusal moves a slot
+pub refused-txids : (n : ℕ) (t : Table) (c : Call) (r : Refusal) → Refused n t c r → afterRefused t r .txids ≡ t .txids
+unfolding consumed spent afterRefused
+refused-txids n t c r (stays p) = rw p
+refused-txids n t c r (spends number p q h f) = rw q

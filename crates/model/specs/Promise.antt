@@ -1,0 +1,62 @@
+-- The promise to vacuum: docs/PROMISE.md has it in words.
+use Prim.Native.Nat.{ℕ, _≤_, _<_}
+use mathlib.Core.Path.{_≡_}
+use mathlib.Core.List.{List, [], _∷_, _++_}
+use mathlib.Core.Option.{some}
+use mathlib.Core.Bool.{true}
+use Rattle.kinds.specs.declared.SlotNo.{SlotNo}
+use Rattle.kinds.specs.declared.Txid.{Txid}
+use Rattle.settled.specs.declared.Snapshot.{Snapshot}
+use Rattle.settled.specs.Settled.{settledIn}
+use Rattle.model.specs.Calls.{Call, own, vacuum, answer, shown}
+use Rattle.model.specs.Accepted.{Registered}
+use Rattle.model.specs.History.{reached, Accepts, lastOwn}
+
+-- each id from 1 up to but not including the line is below xmax and not listed in flight: the settled test's own definition
+abbrev pub SettledBelow : ℕ → Snapshot → Type 0
+SettledBelow line s = (x : ℕ) → 1 ≤ x → x < line → settledIn (s .xmax) (s .ids) (s .count) x ≡ true
+
+-- the line that a history has reached: what the last accepted vacuum answered, 1 before any; what every record prints
+abbrev pub lineAfter : ℕ → List Call → ℕ
+lineAfter n cs = reached n cs .line
+
+-- the snapshots that are covered at the end of a history: the last transaction snapshot of each transaction then registered
+pub data Covered (n : ℕ) (cs : List Call) (s : Snapshot) : Type 0 where
+  of-transaction :
+      (slot : SlotNo) (id : Txid) → Registered (reached n cs) slot id → lastOwn n slot id cs ≡ some s → Covered n cs s
+
+-- for every number of slots, every history and every call in it, whatever its arguments
+pub record Promise (n : ℕ) : Type 0 where
+  -- the line never falls
+  pub never-falls : (before after : List Call) → lineAfter n before ≤ lineAfter n (before ++ after)
+  -- for every line given out: in the last transaction snapshot of every transaction then registered ..
+  pub held : (cs : List Call) (s : Snapshot) → Covered n cs s → SettledBelow (lineAfter n cs) s
+  -- .. and in every transaction snapshot taken later
+  pub later :
+      (before after : List Call) (slot : SlotNo) (id : Txid) (clock sample : ℕ) →
+      Accepts n (reached n (before ++ after)) (own slot id clock sample) →
+      SettledBelow (lineAfter n before) (shown n (reached n (before ++ after)) (own slot id clock sample))
+
+-- the line that an accepted vacuum answers at the end of a history
+abbrev pub vacuumAnswer : ℕ → List Call → ℕ → ℕ → ℕ
+vacuumAnswer n cs clock sample = answer n (reached n cs) (vacuum clock sample) .line
+
+-- the same, said of the lines that vacuum answers
+pub record VacuumPromise (n : ℕ) : Type 0 where
+  -- the answer is the table's line from then on
+  pub is-line :
+      (cs : List Call) (clock sample : ℕ) → Accepts n (reached n cs) (vacuum clock sample) →
+      vacuumAnswer n cs clock sample ≡ lineAfter n (cs ++ vacuum clock sample ∷ [])
+  pub never-falls :
+      (before after : List Call) (clock sample clock′ sample′ : ℕ) → Accepts n (reached n before) (vacuum clock sample) →
+      Accepts n (reached n (before ++ vacuum clock sample ∷ after)) (vacuum clock′ sample′) →
+      vacuumAnswer n before clock sample ≤ vacuumAnswer n (before ++ vacuum clock sample ∷ after) clock′ sample′
+  pub held :
+      (cs : List Call) (clock sample : ℕ) → Accepts n (reached n cs) (vacuum clock sample) → (s : Snapshot) →
+      Covered n (cs ++ vacuum clock sample ∷ []) s → SettledBelow (vacuumAnswer n cs clock sample) s
+  pub later :
+      (before after : List Call) (clock sample : ℕ) → Accepts n (reached n before) (vacuum clock sample) →
+      (slot : SlotNo) (id : Txid) (clock′ sample′ : ℕ) →
+      Accepts n (reached n (before ++ vacuum clock sample ∷ after)) (own slot id clock′ sample′) →
+      SettledBelow (vacuumAnswer n before clock sample)
+      (shown n (reached n (before ++ vacuum clock sample ∷ after)) (own slot id clock′ sample′))

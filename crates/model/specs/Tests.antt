@@ -1,0 +1,46 @@
+-- When a call is refused, and by what: each test on the numbers that it reads. An earlier refusal of a call's order hides the later ones.
+use Prim.Native.Nat.{ℕ}
+use mathlib.Core.List.{List}
+use mathlib.Core.Bool.{cond, _||_}
+use lib.Dec.{eqb, ltb, leb}
+use lib.ListN.{getD}
+use Rattle.kinds.specs.declared.Stamp.{Stamp}
+use Rattle.kinds.specs.declared.SlotNo.{SlotNo}
+use Rattle.kinds.specs.declared.Txid.{Txid}
+use Rattle.kinds.specs.declared.refusal.Refusal.the-variants.{NoFreeSlot, InvalidSlot, SlotOwnershipMismatch, ClockExhausted, BadReservation, BadClock, BadSample}
+use Rattle.kinds.specs.declared.refusal.Verdict.{Verdict}
+use Rattle.kinds.specs.declared.refusal.Verdict.the-variants.{Pass, Refuse}
+use Rattle.kinds.specs.Kinds.{top, txid, txidOf}
+use Rattle.kinds.specs.Verdicts.{then, zeroTest}
+use Rattle.model.specs.Tally.{lowestEmpty}
+
+-- 2: the slot is not below the number of slots
+abbrev pub slotTest : ℕ → SlotNo → Verdict
+slotTest n slot = cond (leb n (slot .0)) (Refuse (InvalidSlot slot)) Pass
+
+-- 3: the slot holds another txid, or none
+abbrev pub holderTest : List ℕ → SlotNo → Txid → Verdict
+holderTest txids slot id =
+    cond (eqb (getD txids (slot .0) 0) (id .0)) Pass
+    (Refuse (SlotOwnershipMismatch slot id (txid (getD txids (slot .0) 0))))
+
+-- 2, 4, 3: the registration (slot, id) holds its slot
+abbrev pub ownerTest : ℕ → List ℕ → SlotNo → Txid → Verdict
+ownerTest n txids slot id = then (slotTest n slot) (then (zeroTest id) (holderTest txids slot id))
+
+-- 5: the clock is at its end. 6: the number is 0, below the clock, or 2^64 − 1. By ≤, which is the same on 64-bit numbers: the
+-- theorems then need no ranges
+abbrev pub reservationTest : ℕ → Stamp → Verdict
+reservationTest clock number =
+    cond (leb top clock) (Refuse ClockExhausted)
+    (cond (eqb (number .0) 0 || (ltb (number .0) clock || leb top (number .0))) (Refuse BadReservation) Pass)
+
+-- 1: all slots are taken
+abbrev pub fullTest : ℕ → List ℕ → Stamp → Verdict
+fullTest n txids number = cond (leb n (lowestEmpty txids)) (Refuse (NoFreeSlot (txidOf number))) Pass
+
+-- 7: the given clock is below the table's. 8: the sample is 0 or above the given clock
+abbrev pub observationTest : ℕ → ℕ → ℕ → Verdict
+observationTest former clock sample =
+    cond (ltb clock former) (Refuse BadClock)
+    (cond (eqb sample 0 || ltb clock sample) (Refuse BadSample) Pass)

@@ -1,0 +1,34 @@
+-- The table check of a run of slot records.
+use Prim.Native.Nat.{ℕ}
+use mathlib.Core.List.{List, map}
+use mathlib.Core.Bool.{Bool}
+use lib.ListN.{replicate}
+use Rattle.model.specs.Check.{passes}
+use Rattle.model.specs.declared.Table.{Table}
+use Rattle.record_check.specs.declared.Slot.{Slot}
+use Rattle.record_check.specs.declared.Columns.{Columns}
+
+abbrev pub emptySlot : Slot
+emptySlot = record { txid = 0; «snapshot_xmin» = 0 }
+
+-- the columns of a run, one number for each record
+abbrev pub txidsOf : List Slot → List ℕ
+txidsOf run = map (λ slot. slot .txid) run
+
+abbrev pub xminsOf : List Slot → List ℕ
+xminsOf run = map (λ slot. slot .«snapshot_xmin») run
+
+abbrev pub columnsOf : List Slot → Columns
+columnsOf run = record { txids = txidsOf run; «snapshot_xmins» = xminsOf run }
+
+abbrev pub zeroColumns : ℕ → Columns
+zeroColumns n = record { txids = replicate n 0; «snapshot_xmins» = replicate n 0 }
+
+-- the table whose slots a run holds
+abbrev pub tableOf : List Slot → ℕ → ℕ → ℕ → Table
+tableOf run clock sample line =
+    record { txids = txidsOf run; «snapshot_xmins» = xminsOf run; clock = clock; «sampled_clock» = sample; line = line }
+
+-- the check of a run of any length, for tables of n slots
+abbrev pub runPasses : ℕ → List Slot → ℕ → ℕ → ℕ → Bool
+runPasses n run clock sample line = passes n (txidsOf run) (xminsOf run) clock sample line

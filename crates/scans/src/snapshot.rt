@@ -1,0 +1,52 @@
+// The scan that the snapshot calls make.
+use kinds::SLOTS;
+use settled::Snapshot;
+ghost use mathlib.Core.Path.{_≡_};
+ghost use Prim.Native.Nat.{min};
+ghost use lib.ListN.{take};
+ghost use Rattle.model.specs.Tally.{snapshotOf};
+
+fn shorter(a: usize, b: usize) -> usize
+    ensures { λ r. ⌜ r ≡ min a b ⌝ }
+{
+    if a <= b { a } else { b }
+}
+
+// What a snapshot with this sample holds; a slot past the snapshot's places is not read.
+pub fn take_snapshot(txids: &[u64], sample: u64) -> Snapshot
+    ensures { λ r. do ⌜ r ≡ snapshotOf (← ⟦kinds::SLOTS⟧ .entry) (take (← ⟦kinds::SLOTS⟧ .entry) (now (txids .entry))) sample ⌝ }
+{
+    let end = shorter(SLOTS, txids.len());
+    let mut ids = kinds::zeros();
+    let mut count: usize = 0;
+    let mut low = sample;
+    let mut high: u64 = 0;
+    let mut i: usize = 0;
+    while i < end {
+        let id = txids[i];
+        i += 1;
+        if id == 0 {
+            continue;
+        }
+        ids[count] = id;
+        count += 1;
+        low = kinds::lesser(low, id);
+        high = kinds::greater(high, id);
+    }
+    if count == 0 {
+        return Snapshot {
+            xmin: low,
+            xmax: sample,
+            ids,
+            count,
+        };
+    }
+    let above = kinds::next_held(high);
+    let xmax = kinds::greater(sample, above);
+    Snapshot {
+        xmin: low,
+        xmax,
+        ids,
+        count,
+    }
+}

@@ -1,0 +1,55 @@
+-- The parts of the check from place i on, one place at a time. No law names a number of slots.
+use mathlib.Core.Path.{_≡_}
+use mathlib.Core.List.{List}
+use mathlib.Core.Bool.{true, false}
+use Prim.Native.Nat.{ℕ, _+_, _<_, _≤_}
+use lib.ListN.{length, drop, getD, drop-of-length-le}
+use borrow.Author.Tests.{eq-eqb, ne-eqb}
+use Rattle.kinds.proofs.Lists.{from}
+use Rattle.settled.specs.Settled.{listed}
+use Rattle.model.specs.Check.{slotPasses, slotsPass, differ}
+
+module _ (l : List ℕ) (i : ℕ) where
+  pub differ-empty : i < length l → getD l i 0 ≡ 0 → differ (drop i l) ≡ differ (drop (i + 1) l)
+  unfolding differ
+  differ-empty h e = rw (from l i h, eq-eqb _ _ e)
+
+  pub differ-twice :
+      i < length l → (getD l i 0 ≡ 0 → ⊥) → listed (getD l i 0) (drop (i + 1) l) ≡ true → differ (drop i l) ≡ false
+  unfolding differ
+  differ-twice h e q = rw (from l i h, ne-eqb _ _ e, q)
+
+  pub differ-once :
+      i < length l → (getD l i 0 ≡ 0 → ⊥) → listed (getD l i 0) (drop (i + 1) l) ≡ false →
+      differ (drop i l) ≡ differ (drop (i + 1) l)
+  unfolding differ
+  differ-once h e q = rw (from l i h, ne-eqb _ _ e, q)
+
+  pub differ-none : length l ≤ i → differ (drop i l) ≡ true
+  unfolding differ
+  differ-none h = rw (drop-of-length-le l h)
+
+module _ (clock line : ℕ) (txids xmins : List ℕ) (i : ℕ) where
+  pub slots-bad :
+      i < length txids → i < length xmins → slotPasses clock line (getD txids i 0) (getD xmins i 0) ≡ false →
+      slotsPass clock line (drop i txids) (drop i xmins) ≡ false
+  unfolding slotsPass
+  slots-bad h k e = rw (from txids i h, from xmins i k, e)
+
+  pub slots-good :
+      i < length txids → i < length xmins → slotPasses clock line (getD txids i 0) (getD xmins i 0) ≡ true →
+      slotsPass clock line (drop i txids) (drop i xmins) ≡ slotsPass clock line (drop (i + 1) txids) (drop (i + 1) xmins)
+  unfolding slotsPass
+  slots-good h k e = rw (from txids i h, from xmins i k, e)
+
+  pub slots-short : i < length txids → length xmins ≤ i → slotsPass clock line (drop i txids) (drop i xmins) ≡ false
+  unfolding slotsPass
+  slots-short h k = rw (from txids i h, drop-of-length-le xmins k)
+
+  pub slots-over : length txids ≤ i → length xmins ≤ i → slotsPass clock line (drop i txids) (drop i xmins) ≡ true
+  unfolding slotsPass
+  slots-over h k = rw (drop-of-length-le txids h, drop-of-length-le xmins k)
+
+  pub slots-long : length txids ≤ i → i < length xmins → slotsPass clock line (drop i txids) (drop i xmins) ≡ false
+  unfolding slotsPass
+  slots-long h k = rw (drop-of-length-le txids h, from xmins i k)

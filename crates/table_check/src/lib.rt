@@ -1,0 +1,37 @@
+// The table check, for tables that somebody else wrote: the host's shared segment.
+mod differ;
+mod numbers;
+mod slots;
+
+use model::Table;
+ghost use mathlib.Core.Path.{_≡_};
+ghost use Rattle.model.specs.Check.{passes, tablePasses};
+
+// The check on lent columns of any length.
+pub fn check_columns<'a>(
+    txids: &'a [u64],
+    xmins: &'a [u64],
+    clock: u64,
+    sample: u64,
+    line: u64,
+) -> bool
+    ensures { λ r. do ⌜ r ≡ passes (← ⟦kinds::SLOTS⟧ .entry) (now (txids .entry)) (now (xmins .entry)) clock sample line ⌝ }
+{
+    if numbers::numbers_pass(txids.len(), clock, sample, line) {
+        if slots::slots_pass(txids, xmins, clock, line) {
+            return differ::txids_differ(txids);
+        }
+    }
+    false
+}
+
+// Whether a table passes the check of document 01, call 12. Every table that calls from fresh leave does; not every table that
+// passes is one, as slots (4, 4), (9, 8): while 4 is registered, no snapshot of 9 has xmin 8.
+pub fn check_table(table: Table) -> bool
+    ensures { λ r. do ⌜ r ≡ tablePasses (← ⟦kinds::SLOTS⟧ .entry) table ⌝ }
+{
+    let clock = table.clock;
+    let sample = table.sampled_clock;
+    let line = table.line;
+    check_columns(&table.txids, &table.snapshot_xmins, clock, sample, line)
+}
