@@ -8,7 +8,7 @@ use Rattle.kinds.specs.declared.refusal.Verdict.the-variants.{Pass, Refuse}
 use Rattle.kinds.specs.Refusals.{consumed}
 use Rattle.model.specs.declared.Table.{Table}
 use Rattle.model.specs.Tables.{withClock}
-use Rattle.model.specs.Calls.{Call, refusal, afterAccepted, spent, afterRefused, afterBy, after}
+use Rattle.model.specs.Calls.{Call, refusal, changeAccepted, changeOf, afterAccepted, spent, afterRefused, afterBy, after}
 use Rattle.model.specs.History.{Accepts}
 use Rattle.model.proofs.Refused.{Refused, stays, spends, refused}
 
@@ -16,7 +16,7 @@ use Rattle.model.proofs.Refused.{Refused, stays, spends, refused}
 pub by-verdict :
     (n : ℕ) (t : Table) (c : Call) (P : Verdict → Table → Type 0) → (Accepts n t c → P Pass (afterAccepted t c)) →
     ((r : Refusal) → Refused n t c r → P (Refuse r) (afterRefused t r)) → P (refusal n t c) (after n t c)
-unfolding after
+unfolding changeOf changeAccepted afterAccepted afterRefused after
 by-verdict n t c P a b = go (refusal n t c) refl
   where
     go : (v : Verdict) → refusal n t c ≡ v → P v (afterBy v t c)
@@ -26,7 +26,7 @@ by-verdict n t c P a b = go (refusal n t c) refl
 -- a fact of the table after a call: of the accepted call's table, of the table as it was, and of a table whose clock alone rose
 pub after-cases :
     (n : ℕ) (t : Table) (c : Call) (P : Table → Type 0) → (Accepts n t c → P (afterAccepted t c)) → P t →
-    ((clock : ℕ) → t .clock < clock → P (withClock clock t)) → P (after n t c)
+    ((clock : ℕ) → t .counters .clock < clock → P (withClock clock t)) → P (after n t c)
 unfolding consumed spent afterRefused
 after-cases n t c P a s w = by-verdict n t c (λ v u. P u) a other
   where
@@ -35,5 +35,5 @@ after-cases n t c P a s w = by-verdict n t c (λ v u. P u) a other
     other r (spends number p q h f) = rw q (w _ (omega arith))
 
 pub after-accepted : (n : ℕ) (t : Table) (c : Call) → Accepts n t c → after n t c ≡ afterAccepted t c
-unfolding after
+unfolding changeOf changeAccepted afterAccepted afterRefused after
 after-accepted n t c e = ap (λ (v : Verdict). afterBy v t c) e

@@ -35,7 +35,7 @@ emptied-counts n t slot id g o =
     )
 
 entered-counts :
-    (n : ℕ) (t : Table) (number : ℕ) → Good n t → Reserves (t .clock) number → Free n t →
+    (n : ℕ) (t : Table) (number : ℕ) → Good n t → Reserves (t .counters .clock) number → Free n t →
     length (active (set (t .txids) (lowestEmpty (t .txids)) number)) ≡ length (active (t .txids)) + 1
 entered-counts n t number g r f =
     omega (

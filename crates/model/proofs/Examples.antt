@@ -13,7 +13,7 @@ use Rattle.settled.specs.Settled.{listed, settledIn}
 use Rattle.kinds.specs.Refusals.{told, consumed}
 use Rattle.model.specs.Tally.{active, retained, lowestEmpty, minimum, maximum, snapshotOf}
 use Rattle.model.specs.Tables.{freshTable}
-use Rattle.model.specs.Calls.{Call, begin, end, snap, own, vacuum, stamp, finish, refusal, afterAccepted, spent, afterRefused, after, answerAccepted, answer, shownAccepted, shown}
+use Rattle.model.specs.Calls.{Call, begin, end, snap, own, vacuum, stamp, finish, refusal, changeAccepted, changeOf, afterAccepted, spent, afterRefused, after, answerAccepted, answer, shownAccepted, shown}
 use Rattle.model.specs.Check.{slotsPass, differ, passes, tablePasses}
 use Rattle.model.specs.Accepted.{Registered}
 use Rattle.model.specs.History.{run, reached, Accepts, lastFrom, lastOwn}
@@ -39,7 +39,7 @@ pub plain-snapshot :
     (lineAfter 2 emptyAt100 ≡ 100)
     × Accepts 2 (reached 2 emptyAt100) (snap 100 50)
     × (shown 2 (reached 2 emptyAt100) (snap 100 50) ≡ plainSnapshot)
-unfolding freshTable run active retained minimum maximum refusal afterAccepted after snapshotOf shownAccepted shown
+unfolding freshTable run active retained minimum maximum refusal changeAccepted changeOf afterAccepted after snapshotOf shownAccepted shown
 plain-snapshot = (refl, refl, refl)
 
 pub plain-not-covered : SettledBelow (lineAfter 2 emptyAt100) plainSnapshot → ⊥
@@ -64,7 +64,7 @@ pub replaced-snapshot :
     (lastOwn 2 (slot 1) (txid 2) untilFirst ≡ some firstSnapshot)
     × (lastOwn 2 (slot 1) (txid 2) untilSecond ≡ some secondSnapshot)
     × (lineAfter 2 untilSecond ≡ 2)
-unfolding freshTable run active retained lowestEmpty minimum maximum refusal afterAccepted after snapshotOf shownAccepted shown lastFrom
+unfolding freshTable run active retained lowestEmpty minimum maximum refusal changeAccepted changeOf afterAccepted after snapshotOf shownAccepted shown lastFrom
 replaced-snapshot = (refl, refl, refl)
 
 pub replaced-not-covered : SettledBelow (lineAfter 2 untilSecond) firstSnapshot → ⊥
@@ -74,7 +74,7 @@ replaced-not-covered h = true≢false (sym (h 1 (omega arith) (rw (replaced-snap
 -- Covered, with a line above 1: the one that took its place
 
 pub second-registered : Registered (reached 2 untilSecond) (slot 1) (txid 2)
-unfolding freshTable run active retained lowestEmpty minimum maximum refusal afterAccepted after
+unfolding freshTable run active retained lowestEmpty minimum maximum refusal changeAccepted changeOf afterAccepted after
 second-registered = record { not-zero = λ e. omega arith; holds = refl }
 
 pub second-covered : Covered 2 untilSecond secondSnapshot
@@ -93,7 +93,7 @@ pub stale-snapshot :
     × Accepts 2 (reached 2 untilStale) (own (slot 0) (txid 100) 101 50)
     × (shown 2 (reached 2 untilStale) (own (slot 0) (txid 100) 101 50) ≡ snapshot 50 101 (100 ∷ 0 ∷ []) 1)
     × (lineAfter 2 (untilStale ++ own (slot 0) (txid 100) 101 50 ∷ vacuum 101 50 ∷ []) ≡ 100)
-unfolding freshTable run active retained lowestEmpty minimum maximum refusal afterAccepted after snapshotOf shownAccepted shown
+unfolding freshTable run active retained lowestEmpty minimum maximum refusal changeAccepted changeOf afterAccepted after snapshotOf shownAccepted shown
 stale-snapshot = (refl, refl, refl, refl)
 
 pub stale-covered :
@@ -113,9 +113,9 @@ pub full-table :
     (tablePasses 2 (reached 2 full) ≡ true)
     × (takenSlots (reached 2 full) ≡ 2)
     × (refusal 2 (reached 2 full) (begin (number 3)) ≡ Refuse (NoFreeSlot (txid 3)))
-    × (reached 2 fullRefused .clock ≡ 4)
+    × (reached 2 fullRefused .counters .clock ≡ 4)
     × (reservations 2 fullRefused ≡ 1 ∷ 2 ∷ 3 ∷ [])
-unfolding freshTable run active lowestEmpty refusal consumed afterAccepted spent afterRefused after slotsPass differ listed passes reservationsFrom
+unfolding freshTable run active lowestEmpty refusal consumed changeAccepted changeOf afterAccepted spent afterRefused after slotsPass differ listed passes reservationsFrom
 full-table = (refl, refl, refl, refl, refl)
 
 pub full-next :
@@ -124,7 +124,7 @@ pub full-next :
     × Accepts 2 (reached 2 fullRefused) (stamp (number 4))
     × Accepts 2 (reached 2 (fullRefused ++ end (slot 0) (txid 1) ∷ [])) (begin (number 4))
     × (listed 3 (reservations 2 fullRefused) ≡ true)
-unfolding freshTable run active lowestEmpty refusal consumed afterAccepted spent afterRefused after listed reservationsFrom
+unfolding freshTable run active lowestEmpty refusal consumed changeAccepted changeOf afterAccepted spent afterRefused after listed reservationsFrom
 full-next = (refl, refl, refl, refl, refl)
 
 -- Ends and finishes on a table that passes the check, and what the counts say of them
@@ -138,7 +138,7 @@ pub gone :
     × (begins 2 untilGone ≡ 3)
     × (endsAndFinishes 2 untilGone ≡ 2)
     × (takenSlots (reached 2 untilGone) ≡ 1)
-unfolding freshTable run active lowestEmpty refusal afterAccepted after acceptedFrom
+unfolding freshTable run active lowestEmpty refusal changeAccepted changeOf afterAccepted after acceptedFrom
 gone = (refl, refl, refl, refl, refl)
 
 -- A vacuum that answers a line above 1, and one that a stale sample cannot lower
@@ -147,11 +147,11 @@ pub vacuums :
     Accepts 2 (reached 2 untilSecond) (vacuum 3 1)
     × (vacuumAnswer 2 (untilFirst ++ end (slot 0) (txid 1) ∷ own (slot 1) (txid 2) 3 3 ∷ []) 3 3 ≡ 2)
     × (vacuumAnswer 2 untilSecond 3 1 ≡ 2)
-unfolding freshTable run active retained lowestEmpty minimum maximum refusal afterAccepted after answerAccepted answer
+unfolding freshTable run active retained lowestEmpty minimum maximum refusal changeAccepted changeOf afterAccepted after answerAccepted answer
 vacuums = (refl, refl, refl)
 
 -- The twelve rows of document 01 at four slots, so that a wrong row is refused here
 
 pub rows-at-four : AllRowsHold 4
-unfolding told consumed active retained lowestEmpty minimum maximum snapshotOf freshTable refusal afterAccepted spent afterRefused after answerAccepted answer seenFrom RowsHold rows
+unfolding told consumed active retained lowestEmpty minimum maximum snapshotOf freshTable refusal changeAccepted changeOf afterAccepted spent afterRefused after answerAccepted answer seenFrom RowsHold rows
 rows-at-four any = (refl, (refl, (refl, (refl, (refl, (refl, (refl, (refl, (refl, (refl, (refl, (refl, tt))))))))))))

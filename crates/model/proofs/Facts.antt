@@ -60,7 +60,7 @@ good-accepted n t (oldest clock sample) g o = good-observed n t g clock sample o
 good-accepted n t (vacuum clock sample) g o =
     good-line n _ (good-observed n t g clock sample o) _ (omega arith) (omega (arith, oldest-sample t sample)) under
   where
-    under : (i : ℕ) → txidAt t i ≢ 0 → afterAccepted t (vacuum clock sample) .line ≤ txidAt t i
+    under : (i : ℕ) → txidAt t i ≢ 0 → afterAccepted t (vacuum clock sample) .counters .line ≤ txidAt t i
     under i h =
         let k = is-taken (g .each i) h in
         omega (arith, oldest-taken n t sample i g h)

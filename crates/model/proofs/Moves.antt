@@ -31,7 +31,7 @@ later-clock clock clock′ line txid xmin h (empty a b) = empty a b
 later-clock clock clock′ line txid xmin h (taken a b c d) = taken a b (omega arith) d
 
 module _ (n : ℕ) (t : Table) (g : Good n t) where
-  pub good-clock : (clock : ℕ) → t .clock ≤ clock → Good n (withClock clock t)
+  pub good-clock : (clock : ℕ) → t .counters .clock ≤ clock → Good n (withClock clock t)
   good-clock clock h =
       record {
         txid-column = g .txid-column;
@@ -40,11 +40,11 @@ module _ (n : ℕ) (t : Table) (g : Good n t) where
         sample-to-clock = omega arith;
         line-from-1 = g .line-from-1;
         line-to-clock = omega arith;
-        each = λ i. later-clock (t .clock) clock (t .line) (txidAt t i) (xminAt t i) h (g .each i);
+        each = λ i. later-clock (t .counters .clock) clock (t .counters .line) (txidAt t i) (xminAt t i) h (g .each i);
         differ = g .differ;
       }
 
-  pub good-observed : (clock sample : ℕ) → Observes (t .clock) clock sample → Good n (observed clock sample t)
+  pub good-observed : (clock sample : ℕ) → Observes (t .counters .clock) clock sample → Good n (observed clock sample t)
   good-observed clock sample o =
       record {
         txid-column = g .txid-column;
@@ -53,12 +53,12 @@ module _ (n : ℕ) (t : Table) (g : Good n t) where
         sample-to-clock = o .within;
         line-from-1 = g .line-from-1;
         line-to-clock = omega arith;
-        each = λ i. later-clock (t .clock) clock (t .line) (txidAt t i) (xminAt t i) (o .onward) (g .each i);
+        each = λ i. later-clock (t .counters .clock) clock (t .counters .line) (txidAt t i) (xminAt t i) (o .onward) (g .each i);
         differ = g .differ;
       }
 
   pub good-slot :
-      (i txid xmin : ℕ) → SlotGood (t .clock) (t .line) txid xmin →
+      (i txid xmin : ℕ) → SlotGood (t .counters .clock) (t .counters .line) txid xmin →
       (txid ≢ 0 → (j : ℕ) → txidAt t j ≢ txid) → Good n (withSlot i txid xmin t)
   good-slot i txid xmin ok new =
       record {
@@ -73,7 +73,7 @@ module _ (n : ℕ) (t : Table) (g : Good n t) where
       }
     where
       each′ : (j : ℕ) → StoredBoth (t .txids) (t .«snapshot_xmins») i txid xmin j →
-          SlotGood (t .clock) (t .line) (getD (set (t .txids) i txid) j 0) (getD (set (t .«snapshot_xmins») i xmin) j 0)
+          SlotGood (t .counters .clock) (t .counters .line) (getD (set (t .txids) i txid) j 0) (getD (set (t .«snapshot_xmins») i xmin) j 0)
       each′ j (both-new p h a b) = rw (a, b) ok
       each′ j (both-before d a b) = rw (a, b) (g .each j)
 
@@ -86,7 +86,7 @@ module _ (n : ℕ) (t : Table) (g : Good n t) where
       differ′ j k h e (as-before _ a) (as-before _ b) = g .differ j k (rw a at h) (rw (a, b) at e)
 
   pub good-xmin :
-      (i xmin : ℕ) → SlotGood (t .clock) (t .line) (txidAt t i) xmin → Good n (withXmin i xmin t)
+      (i xmin : ℕ) → SlotGood (t .counters .clock) (t .counters .line) (txidAt t i) xmin → Good n (withXmin i xmin t)
   good-xmin i xmin ok =
       record {
         txid-column = g .txid-column;
@@ -100,12 +100,12 @@ module _ (n : ℕ) (t : Table) (g : Good n t) where
       }
     where
       each′ : (j : ℕ) → Stored 0 (t .«snapshot_xmins») i xmin j →
-          SlotGood (t .clock) (t .line) (txidAt t j) (getD (set (t .«snapshot_xmins») i xmin) j 0)
+          SlotGood (t .counters .clock) (t .counters .line) (txidAt t j) (getD (set (t .«snapshot_xmins») i xmin) j 0)
       each′ j (new-here p _ a) = rw (a, p) ok
       each′ j (as-before _ a) = rw a (g .each j)
 
   pub good-line :
-      (line : ℕ) → 1 ≤ line → line ≤ t .clock → ((i : ℕ) → txidAt t i ≢ 0 → line ≤ txidAt t i) → Good n (withLine line t)
+      (line : ℕ) → 1 ≤ line → line ≤ t .counters .clock → ((i : ℕ) → txidAt t i ≢ 0 → line ≤ txidAt t i) → Good n (withLine line t)
   good-line line a b h =
       record {
         txid-column = g .txid-column;
@@ -118,13 +118,13 @@ module _ (n : ℕ) (t : Table) (g : Good n t) where
         differ = g .differ;
       }
     where
-      raised : (i : ℕ) → SlotGood (t .clock) (t .line) (txidAt t i) (xminAt t i) → (txidAt t i ≢ 0 → line ≤ txidAt t i) →
-          SlotGood (t .clock) line (txidAt t i) (xminAt t i)
+      raised : (i : ℕ) → SlotGood (t .counters .clock) (t .counters .line) (txidAt t i) (xminAt t i) → (txidAt t i ≢ 0 → line ≤ txidAt t i) →
+          SlotGood (t .counters .clock) line (txidAt t i) (xminAt t i)
       raised i (empty p q) f = empty p q
       raised i (taken p q r s) f = taken p q r (f (omega arith))
 
   -- a number from the clock on is held by no slot
-  pub new-number : (number : ℕ) → t .clock ≤ number → number ≢ 0 → (j : ℕ) → txidAt t j ≢ number
+  pub new-number : (number : ℕ) → t .counters .clock ≤ number → number ≢ 0 → (j : ℕ) → txidAt t j ≢ number
   new-number number h z j e =
       let k = is-taken (g .each j) (λ (q : txidAt t j ≡ 0). z (sym e ∙ q)) in
       omega arith

@@ -38,7 +38,7 @@ use Rattle.model.proofs.Facts.{oldest-taken}
 pub record Left (n : ℕ) (t : Table) (slot : SlotNo) (id : Txid) (u : Table) : Type 0 where
   pub was : Registered u slot id → Registered t slot id
   pub same-xmin : Good n t → Registered u slot id → xminAt u (slot .0) ≡ xminAt t (slot .0)
-  pub line-below : Good n t → Registered u slot id → u .line ≤ max (t .line) (xminAt t (slot .0))
+  pub line-below : Good n t → Registered u slot id → u .counters .line ≤ max (t .counters .line) (xminAt t (slot .0))
 
 pub data Noted
     (n : ℕ) (t : Table) (slot : SlotNo) (id : Txid) (c : Call) (last : Option Snapshot) (v : Verdict) (u : Table)
@@ -54,7 +54,7 @@ pub data Noted
 module _ (n : ℕ) (t : Table) (slot : SlotNo) (id : Txid) where
   -- the slot is the same, and so is the line
   left-same :
-      (u : Table) → txidAt u (slot .0) ≡ txidAt t (slot .0) → xminAt u (slot .0) ≡ xminAt t (slot .0) → u .line ≡ t .line →
+      (u : Table) → txidAt u (slot .0) ≡ txidAt t (slot .0) → xminAt u (slot .0) ≡ xminAt t (slot .0) → u .counters .line ≡ t .counters .line →
       Left n t slot id u
   left-same u a b c =
       record {
@@ -66,7 +66,7 @@ module _ (n : ℕ) (t : Table) (slot : SlotNo) (id : Txid) where
   -- some slot is emptied
   left-emptied :
       (u : Table) (i : ℕ) → u .txids ≡ set (t .txids) i 0 → u .«snapshot_xmins» ≡ set (t .«snapshot_xmins») i 0 →
-      u .line ≡ t .line → Left n t slot id u
+      u .counters .line ≡ t .counters .line → Left n t slot id u
   left-emptied u i a b c =
       record {
         was = λ r. before r (stored 0 (t .txids) i 0 (slot .0));

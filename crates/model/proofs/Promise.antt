@@ -103,18 +103,18 @@ covered-test-yes n cs s x c h l =
 -- what an accepted vacuum answers is the table's line after it
 pub vacuum-line :
     (n : ℕ) (t : Table) (clock sample : ℕ) → Accepts n t (vacuum clock sample) →
-    answer n t (vacuum clock sample) .line ≡ after n t (vacuum clock sample) .line
+    answer n t (vacuum clock sample) .line ≡ after n t (vacuum clock sample) .counters .line
 unfolding answer answerAccepted afterAccepted
 vacuum-line n t clock sample e =
     ap (λ (v : Verdict). answerBy v t (vacuum clock sample) .line) e
-    ∙ sym (ap (λ (u : Table). u .line) (after-accepted n t (vacuum clock sample) e))
+    ∙ sym (ap (λ (u : Table). u .counters .line) (after-accepted n t (vacuum clock sample) e))
 
 vacuum-is-line :
     (n : ℕ) (cs : List Call) (clock sample : ℕ) → Accepts n (reached n cs) (vacuum clock sample) →
     vacuumAnswer n cs clock sample ≡ lineAfter n (cs ++ vacuum clock sample ∷ [])
 vacuum-is-line n cs clock sample e =
     vacuum-line n (reached n cs) clock sample e
-    ∙ ap (λ (t : Table). t .line) (sym (run-snoc n (freshTable n) cs (vacuum clock sample)))
+    ∙ ap (λ (t : Table). t .counters .line) (sym (run-snoc n (freshTable n) cs (vacuum clock sample)))
 
 vacuum-from-then :
     (n : ℕ) (before after : List Call) (clock sample : ℕ) → Accepts n (reached n before) (vacuum clock sample) →

@@ -29,7 +29,7 @@ use Rattle.model.proofs.Tests.{reserves}
 pub data Refused (n : ℕ) (t : Table) (c : Call) (r : Refusal) : Type 0 where
   stays : consumed r ≡ [] → Refused n t c r
   spends :
-      (number : Stamp) → c ≡ begin number → r ≡ NoFreeSlot (txidOf number) → Reserves (t .clock) (number .0) →
+      (number : Stamp) → c ≡ begin number → r ≡ NoFreeSlot (txidOf number) → Reserves (t .counters .clock) (number .0) →
       n ≤ lowestEmpty (t .txids) → Refused n t c r
 
 -- what a verdict consumes
@@ -66,40 +66,40 @@ observation-uses former clock sample =
 
 begin-refused :
     (n : ℕ) (t : Table) (number : Stamp) (r : Refusal) →
-    then (reservationTest (t .clock) number) (fullTest n (t .txids) number) ≡ Refuse r → Refused n t (begin number) r
-begin-refused n t number r e = first (reservationTest (t .clock) number) refl e
+    then (reservationTest (t .counters .clock) number) (fullTest n (t .txids) number) ≡ Refuse r → Refused n t (begin number) r
+begin-refused n t number r e = first (reservationTest (t .counters .clock) number) refl e
   where
     second :
-        reservationTest (t .clock) number ≡ Pass → (b : Bool) → leb n (lowestEmpty (t .txids)) ≡ b →
+        reservationTest (t .counters .clock) number ≡ Pass → (b : Bool) → leb n (lowestEmpty (t .txids)) ≡ b →
         cond b (Refuse (NoFreeSlot (txidOf number))) Pass ≡ Refuse r → Refused n t (begin number) r
     second p true q h =
-        spends number refl (sym (same-refusal _ r h)) (reserves (t .clock) number p) (leb-true n (lowestEmpty (t .txids)) q)
+        spends number refl (sym (same-refusal _ r h)) (reserves (t .counters .clock) number p) (leb-true n (lowestEmpty (t .txids)) q)
     second p false q h = absurd (refuse-not-pass r (sym h))
 
     first :
-        (v : Verdict) → reservationTest (t .clock) number ≡ v → then v (fullTest n (t .txids) number) ≡ Refuse r →
+        (v : Verdict) → reservationTest (t .counters .clock) number ≡ v → then v (fullTest n (t .txids) number) ≡ Refuse r →
         Refused n t (begin number) r
     first Pass p h = second p (leb n (lowestEmpty (t .txids))) refl h
-    first (Refuse s) p h = stays (sym (ap uses h) ∙ sym (ap uses p) ∙ reservation-uses (t .clock) number)
+    first (Refuse s) p h = stays (sym (ap uses h) ∙ sym (ap uses p) ∙ reservation-uses (t .counters .clock) number)
 
 pub refused : (n : ℕ) (t : Table) (c : Call) (r : Refusal) → refusal n t c ≡ Refuse r → Refused n t c r
 unfolding refusal
 refused n t (begin number) r e = begin-refused n t number r e
 refused n t (end slot id) r e = stays (sym (ap uses e) ∙ owner-uses n (t .txids) slot id)
-refused n t (snap clock sample) r e = stays (sym (ap uses e) ∙ observation-uses (t .clock) clock sample)
+refused n t (snap clock sample) r e = stays (sym (ap uses e) ∙ observation-uses (t .counters .clock) clock sample)
 refused n t (own slot id clock sample) r e =
     stays
     (sym (ap uses e)
-    ∙ then-uses (ownerTest n (t .txids) slot id) (observationTest (t .clock) clock sample)
-    (owner-uses n (t .txids) slot id) (observation-uses (t .clock) clock sample))
-refused n t (oldest clock sample) r e = stays (sym (ap uses e) ∙ observation-uses (t .clock) clock sample)
-refused n t (vacuum clock sample) r e = stays (sym (ap uses e) ∙ observation-uses (t .clock) clock sample)
-refused n t (stamp number) r e = stays (sym (ap uses e) ∙ reservation-uses (t .clock) number)
+    ∙ then-uses (ownerTest n (t .txids) slot id) (observationTest (t .counters .clock) clock sample)
+    (owner-uses n (t .txids) slot id) (observation-uses (t .counters .clock) clock sample))
+refused n t (oldest clock sample) r e = stays (sym (ap uses e) ∙ observation-uses (t .counters .clock) clock sample)
+refused n t (vacuum clock sample) r e = stays (sym (ap uses e) ∙ observation-uses (t .counters .clock) clock sample)
+refused n t (stamp number) r e = stays (sym (ap uses e) ∙ reservation-uses (t .counters .clock) number)
 refused n t (finish slot id number) r e =
     stays
     (sym (ap uses e)
-    ∙ then-uses (ownerTest n (t .txids) slot id) (reservationTest (t .clock) number)
-    (owner-uses n (t .txids) slot id) (reservation-uses (t .clock) number))
+    ∙ then-uses (ownerTest n (t .txids) slot id) (reservationTest (t .counters .clock) number)
+    (owner-uses n (t .txids) slot id) (reservation-uses (t .counters .clock) number))
 
 -- every refusal but a begin's leaves the table
 pub refused-kept :
@@ -114,5 +114,5 @@ refused-kept n t c r b e = go (refused n t c r e)
 -- no refusal moves a slot
 pub refused-txids : (n : ℕ) (t : Table) (c : Call) (r : Refusal) → Refused n t c r → afterRefused t r .txids ≡ t .txids
 unfolding consumed spent afterRefused
-refused-txids n t c r (stays p) = rw p
-refused-txids n t c r (spends number p q h f) = rw q
+refused-txids n t c r (stays p) = refl
+refused-txids n t c r (spends number p q h f) = refl

@@ -30,7 +30,7 @@ pub data Step (clock : ℕ) (ids : List ℕ) (clock′ : ℕ) : Type 0 where
   nothing : ids ≡ [] → clock ≤ clock′ → Step clock ids clock′
   one : (x : ℕ) → ids ≡ x ∷ [] → 1 ≤ x → clock ≤ x → clock′ ≡ x + 1 → Step clock ids clock′
 
-step-accepted : (n : ℕ) (t : Table) (c : Call) → Acceptable n t c → Step (t .clock) (reservesAccepted c) (afterAccepted t c .clock)
+step-accepted : (n : ℕ) (t : Table) (c : Call) → Acceptable n t c → Step (t .counters .clock) (reservesAccepted c) (afterAccepted t c .counters .clock)
 unfolding afterAccepted
 step-accepted n t (begin number) (r, f) = one (number .0) refl (r .positive) (r .from-clock) refl
 step-accepted n t (end slot id) o = nothing refl (le-refl _)
@@ -41,13 +41,13 @@ step-accepted n t (vacuum clock sample) o = nothing refl (o .onward)
 step-accepted n t (stamp number) r = one (number .0) refl (r .positive) (r .from-clock) refl
 step-accepted n t (finish slot id number) (o, r) = one (number .0) refl (r .positive) (r .from-clock) refl
 
-pub reserve-step : (n : ℕ) (t : Table) (c : Call) → Step (t .clock) (reservesBy (refusal n t c) c) (after n t c .clock)
+pub reserve-step : (n : ℕ) (t : Table) (c : Call) → Step (t .counters .clock) (reservesBy (refusal n t c) c) (after n t c .counters .clock)
 unfolding consumed spent afterRefused
 reserve-step n t c =
-    by-verdict n t c (λ v u. Step (t .clock) (reservesBy v c) (u .clock))
+    by-verdict n t c (λ v u. Step (t .counters .clock) (reservesBy v c) (u .counters .clock))
     (λ e. step-accepted n t c (accepted-acceptable n t c e)) other
   where
-    other : (r : Refusal) → Refused n t c r → Step (t .clock) (consumed r) (afterRefused t r .clock)
+    other : (r : Refusal) → Refused n t c r → Step (t .counters .clock) (consumed r) (afterRefused t r .counters .clock)
     other r (stays p) = nothing p (rw p (le-refl _))
     other r (spends number p q h f) = rw q (one (number .0) refl (h .positive) (h .from-clock) refl)
 
@@ -61,14 +61,14 @@ lower low low′ [] high h k = le-trans h k
 lower low low′ (x ∷ xs) high h (a, b, k) = (le-trans h a, b, k)
 
 pub reserved-in-order :
-    (n : ℕ) (t : Table) (cs : List Call) → InOrder (t .clock) (reservationsFrom n t cs) (run n t cs .clock)
+    (n : ℕ) (t : Table) (cs : List Call) → InOrder (t .counters .clock) (reservationsFrom n t cs) (run n t cs .counters .clock)
 unfolding run reservationsFrom
 reserved-in-order n t [] = le-refl _
 reserved-in-order n t (c ∷ cs) = go (reserve-step n t c) (reserved-in-order n (after n t c) cs)
   where
-    go : Step (t .clock) (reservesBy (refusal n t c) c) (after n t c .clock) →
-        InOrder (after n t c .clock) (reservationsFrom n (after n t c) cs) (run n (after n t c) cs .clock) →
-        InOrder (t .clock) (reservesBy (refusal n t c) c ++ reservationsFrom n (after n t c) cs) (run n (after n t c) cs .clock)
+    go : Step (t .counters .clock) (reservesBy (refusal n t c) c) (after n t c .counters .clock) →
+        InOrder (after n t c .counters .clock) (reservationsFrom n (after n t c) cs) (run n (after n t c) cs .counters .clock) →
+        InOrder (t .counters .clock) (reservesBy (refusal n t c) c ++ reservationsFrom n (after n t c) cs) (run n (after n t c) cs .counters .clock)
     go (nothing p h) ih = rw p (lower _ _ (reservationsFrom n (after n t c) cs) _ h ih)
     go (one x p a b q) ih = rw p (b, a, lower (x + 1) _ (reservationsFrom n (after n t c) cs) _ (omega arith) ih)
 
@@ -111,13 +111,13 @@ order-listed low (y ∷ ys) high x (a, b, k) e = go (listed-cases x y ys e) (ord
 
 -- every number reserved in a history is from 1 to below its clock
 pub reserved-in-range :
-    (n : ℕ) (cs : List Call) (x : ℕ) → listed x (reservations n cs) ≡ true → (1 ≤ x) × (x < reached n cs .clock)
+    (n : ℕ) (cs : List Call) (x : ℕ) → listed x (reservations n cs) ≡ true → (1 ≤ x) × (x < reached n cs .counters .clock)
 reserved-in-range n cs x e =
     let (a, b, c) = order-listed _ (reservations n cs) _ x (reserved-in-order n (freshTable n) cs) e in
     (b, c)
 
 -- so the clock never falls
-pub clock-never-falls : (n : ℕ) (before later : List Call) → reached n before .clock ≤ reached n (before ++ later) .clock
+pub clock-never-falls : (n : ℕ) (before later : List Call) → reached n before .counters .clock ≤ reached n (before ++ later) .counters .clock
 clock-never-falls n before later =
     rw run-append
     (order-high _ (reservationsFrom n (reached n before) later) _ (reserved-in-order n (reached n before) later))
@@ -156,7 +156,7 @@ pub reserves-above :
     listed y (reservesBy (refusal n (reached n cs) c) c) ≡ true → x < y
 reserves-above n cs c x y e h = go (reserve-step n (reached n cs) c)
   where
-    go : Step (reached n cs .clock) (reservesBy (refusal n (reached n cs) c) c) (after n (reached n cs) c .clock) → x < y
+    go : Step (reached n cs .counters .clock) (reservesBy (refusal n (reached n cs) c) c) (after n (reached n cs) c .counters .clock) → x < y
     go (nothing p k) = absurd (listed-none y (rw p at h))
     go (one z p a b q) = only (listed-cases y z [] (rw p at h))
       where

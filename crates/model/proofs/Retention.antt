@@ -33,7 +33,7 @@ pub record Keeps (n : ℕ) (t : Table) (slot : SlotNo) (id : Txid) (s : Snapshot
   pub few : s .count ≤ n
   pub low : (x : ℕ) → x < s .xmin → Settles s x
   pub retains : Registered t slot id → xminAt t (slot .0) ≡ s .xmin
-  pub settles : Registered t slot id → (x : ℕ) → x < t .line → Settles s x
+  pub settles : Registered t slot id → (x : ℕ) → x < t .counters .line → Settles s x
 
 abbrev pub KeepsLast : ℕ → Table → SlotNo → Txid → Option Snapshot → Type 0
 KeepsLast n t slot id none = Unit
@@ -47,10 +47,10 @@ module _ (n : ℕ) (t : Table) (slot : SlotNo) (id : Txid) (g : Good n t) where
         few = k .few;
         low = k .low;
         retains = λ r. l .same-xmin g r ∙ k .retains (l .was r);
-        settles = λ r x h. go r x h (decLt x (t .line));
+        settles = λ r x h. go r x h (decLt x (t .counters .line));
       }
     where
-      go : Registered u slot id → (x : ℕ) → x < u .line → Dec (x < t .line) → Settles s x
+      go : Registered u slot id → (x : ℕ) → x < u .counters .line → Dec (x < t .counters .line) → Settles s x
       go r x h (yes b) = k .settles (l .was r) x b
       go r x h (no b) = k .low x (omega (arith, l .line-below g r, k .retains (l .was r)))
 
@@ -69,7 +69,7 @@ module _ (n : ℕ) (t : Table) (slot : SlotNo) (id : Txid) (g : Good n t) where
         few = rw (← g .txid-column) (active-length (t .txids));
         low = λ x l. below x _ (λ j h. minimum-member sample _ (txidAt t j) (taken-active (t .txids) j h)) l;
         retains = λ e. getD-set-same (t .«snapshot_xmins») (slot .0) _ 0 (rw (g .xmin-column) (o .inside));
-        settles = λ e x l. below x (t .line) (λ j h. is-taken (g .each j) h .over) l;
+        settles = λ e x l. below x (t .counters .line) (λ j h. is-taken (g .each j) h .over) l;
       }
     where
       below :

@@ -38,11 +38,11 @@ pub record Observes (former clock sample : ℕ) : Type 0 where
   pub within : sample ≤ clock
 
 abbrev pub Acceptable : ℕ → Table → Call → Type 0
-Acceptable n t (begin number) = Reserves (t .clock) (number .0) × Free n t
+Acceptable n t (begin number) = Reserves (t .counters .clock) (number .0) × Free n t
 Acceptable n t (end slot id) = Owns n t slot id
-Acceptable n t (snap clock sample) = Observes (t .clock) clock sample
-Acceptable n t (own slot id clock sample) = Owns n t slot id × Observes (t .clock) clock sample
-Acceptable n t (oldest clock sample) = Observes (t .clock) clock sample
-Acceptable n t (vacuum clock sample) = Observes (t .clock) clock sample
-Acceptable n t (stamp number) = Reserves (t .clock) (number .0)
-Acceptable n t (finish slot id number) = Owns n t slot id × Reserves (t .clock) (number .0)
+Acceptable n t (snap clock sample) = Observes (t .counters .clock) clock sample
+Acceptable n t (own slot id clock sample) = Owns n t slot id × Observes (t .counters .clock) clock sample
+Acceptable n t (oldest clock sample) = Observes (t .counters .clock) clock sample
+Acceptable n t (vacuum clock sample) = Observes (t .counters .clock) clock sample
+Acceptable n t (stamp number) = Reserves (t .counters .clock) (number .0)
+Acceptable n t (finish slot id number) = Owns n t slot id × Reserves (t .counters .clock) (number .0)

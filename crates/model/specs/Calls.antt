@@ -12,9 +12,12 @@ use Rattle.kinds.specs.declared.refusal.Verdict.the-variants.{Pass, Refuse}
 use Rattle.kinds.specs.Verdicts.{then}
 use Rattle.settled.specs.declared.Snapshot.{Snapshot}
 use Rattle.settled.specs.Snapshots.{noSnapshot}
+use Rattle.model.specs.declared.Counters.{Counters}
 use Rattle.model.specs.declared.Table.{Table}
 use Rattle.model.specs.Tally.{active, lowestEmpty, xminOf, xmaxOf, snapshotOf, oldestOf}
-use Rattle.model.specs.Tables.{withSlot, withXmin, withClock, observed, withLine}
+use Rattle.model.specs.declared.SlotChange.the-variants.{Stays, Becomes, Retains}
+use Rattle.model.specs.declared.Change.{Change}
+use Rattle.model.specs.Tables.{change, pastNumber, seenClock, lined, applied}
 use Rattle.model.specs.Answers.{Answer, registered, done, snapped, oldestIs, lineIs, stamped, answerTold}
 use Rattle.model.specs.Tests.{ownerTest, reservationTest, fullTest, observationTest}
 
@@ -31,16 +34,16 @@ pub data Call : Type 0 where
 
 -- the order of checks of each call
 unfoldable pub refusal : ℕ → Table → Call → Verdict
-refusal n t (begin number) = then (reservationTest (t .clock) number) (fullTest n (t .txids) number)
+refusal n t (begin number) = then (reservationTest (t .counters .clock) number) (fullTest n (t .txids) number)
 refusal n t (end slot id) = ownerTest n (t .txids) slot id
-refusal n t (snap clock sample) = observationTest (t .clock) clock sample
+refusal n t (snap clock sample) = observationTest (t .counters .clock) clock sample
 refusal n t (own slot id clock sample) =
-    then (ownerTest n (t .txids) slot id) (observationTest (t .clock) clock sample)
-refusal n t (oldest clock sample) = observationTest (t .clock) clock sample
-refusal n t (vacuum clock sample) = observationTest (t .clock) clock sample
-refusal n t (stamp number) = reservationTest (t .clock) number
+    then (ownerTest n (t .txids) slot id) (observationTest (t .counters .clock) clock sample)
+refusal n t (oldest clock sample) = observationTest (t .counters .clock) clock sample
+refusal n t (vacuum clock sample) = observationTest (t .counters .clock) clock sample
+refusal n t (stamp number) = reservationTest (t .counters .clock) number
 refusal n t (finish slot id number) =
-    then (ownerTest n (t .txids) slot id) (reservationTest (t .clock) number)
+    then (ownerTest n (t .txids) slot id) (reservationTest (t .counters .clock) number)
 
 -- what call 9 finds on this table
 abbrev pub oldestIn : Table → ℕ → ℕ
@@ -48,36 +51,46 @@ oldestIn t sample = oldestOf (t .txids) (t .«snapshot_xmins») sample
 
 -- the line that a vacuum leaves
 abbrev pub raisedLine : Table → ℕ → ℕ
-raisedLine t sample = max (t .line) (oldestIn t sample)
+raisedLine t sample = max (t .counters .line) (oldestIn t sample)
 
--- the table after an accepted call
-unfoldable pub afterAccepted : Table → Call → Table
-afterAccepted t (begin number) =
-    withSlot (lowestEmpty (t .txids)) (number .0) (number .0) (withClock (number .0 + 1) t)
-afterAccepted t (end slot id) = withSlot (slot .0) 0 0 t
-afterAccepted t (snap clock sample) = observed clock sample t
-afterAccepted t (own slot id clock sample) =
-    withXmin (slot .0) (xminOf sample (active (t .txids))) (observed clock sample t)
-afterAccepted t (oldest clock sample) = observed clock sample t
-afterAccepted t (vacuum clock sample) = withLine (raisedLine t sample) (observed clock sample t)
-afterAccepted t (stamp number) = withClock (number .0 + 1) t
-afterAccepted t (finish slot id number) = withSlot (slot .0) 0 0 (withClock (number .0 + 1) t)
+-- what an accepted call changes
+unfoldable pub changeAccepted : Table → Call → Change
+changeAccepted t (begin number) =
+    change (Becomes (lowestEmpty (t .txids)) (number .0) (number .0)) (pastNumber (number .0) (t .counters))
+changeAccepted t (end slot id) = change (Becomes (slot .0) 0 0) (t .counters)
+changeAccepted t (snap clock sample) = change Stays (seenClock clock sample (t .counters))
+changeAccepted t (own slot id clock sample) =
+    change (Retains (slot .0) (xminOf sample (active (t .txids)))) (seenClock clock sample (t .counters))
+changeAccepted t (oldest clock sample) = change Stays (seenClock clock sample (t .counters))
+changeAccepted t (vacuum clock sample) = change Stays (lined (raisedLine t sample) (seenClock clock sample (t .counters)))
+changeAccepted t (stamp number) = change Stays (pastNumber (number .0) (t .counters))
+changeAccepted t (finish slot id number) = change (Becomes (slot .0) 0 0) (pastNumber (number .0) (t .counters))
 
 -- the clock goes past each number that was consumed
-unfoldable pub spent : List ℕ → Table → Table
-spent [] t = t
-spent (number ∷ numbers) t = spent numbers (withClock (number + 1) t)
+unfoldable pub spent : List ℕ → Counters → Counters
+spent [] k = k
+spent (number ∷ numbers) k = spent numbers (pastNumber number k)
 
--- the table after a refusal: nothing moves but by what it consumes
+-- what a call changes; a refused one, nothing but by what it consumes
+abbrev pub changeBy : Verdict → Table → Call → Change
+changeBy Pass t c = changeAccepted t c
+changeBy (Refuse r) t c = change Stays (spent (consumed r) (t .counters))
+
+unfoldable pub changeOf : ℕ → Table → Call → Change
+changeOf n t c = changeBy (refusal n t c) t c
+
+unfoldable pub afterAccepted : Table → Call → Table
+unfolding changeAccepted
+afterAccepted t c = applied t (changeAccepted t c)
+
 unfoldable pub afterRefused : Table → Refusal → Table
-afterRefused t r = spent (consumed r) t
+afterRefused t r = applied t (change Stays (spent (consumed r) (t .counters)))
 
 abbrev pub afterBy : Verdict → Table → Call → Table
-afterBy Pass t c = afterAccepted t c
-afterBy (Refuse r) t c = afterRefused t r
+afterBy v t c = applied t (changeBy v t c)
 
 unfoldable pub after : ℕ → Table → Call → Table
-after n t c = afterBy (refusal n t c) t c
+after n t c = applied t (changeOf n t c)
 
 -- what a snapshot of these txids tells
 abbrev pub snapshotTells : List ℕ → ℕ → Answer
@@ -123,4 +136,9 @@ shown n t c = shownBy (refusal n t c) n t c
 -- a table and an answer are those that the rules give for this call
 pub record Outcome (n : ℕ) (t : Table) (c : Call) (next : Table) (tells : Answer) : Type 0 where
   pub table : next ≡ after n t c
+  pub says : tells ≡ answer n t c
+
+-- a change and an answer are those that the rules give for this call; a host's lent columns and counters are a table
+pub record Decides (n : ℕ) (t : Table) (c : Call) (change : Change) (tells : Answer) : Type 0 where
+  pub changes : change ≡ changeOf n t c
   pub says : tells ≡ answer n t c

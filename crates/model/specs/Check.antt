@@ -35,4 +35,4 @@ passes n txids xmins clock sample line =
     numbersPass n (length txids) clock sample line && (slotsPass clock line txids xmins && differ txids)
 
 abbrev pub tablePasses : ℕ → Table → Bool
-tablePasses n t = passes n (t .txids) (t .«snapshot_xmins») (t .clock) (t .«sampled_clock») (t .line)
+tablePasses n t = passes n (t .txids) (t .«snapshot_xmins») (t .counters .clock) (t .counters .«sampled_clock») (t .counters .line)

@@ -15,9 +15,9 @@ pub data SlotGood (clock line txid xmin : ℕ) : Type 0 where
 pub record Good (n : ℕ) (t : Table) : Type 0 where
   pub txid-column : length (t .txids) ≡ n
   pub xmin-column : length (t .«snapshot_xmins») ≡ n
-  pub sample-from-1 : 1 ≤ t .«sampled_clock»
-  pub sample-to-clock : t .«sampled_clock» ≤ t .clock
-  pub line-from-1 : 1 ≤ t .line
-  pub line-to-clock : t .line ≤ t .clock
-  pub each : (i : ℕ) → SlotGood (t .clock) (t .line) (txidAt t i) (xminAt t i)
+  pub sample-from-1 : 1 ≤ t .counters .«sampled_clock»
+  pub sample-to-clock : t .counters .«sampled_clock» ≤ t .counters .clock
+  pub line-from-1 : 1 ≤ t .counters .line
+  pub line-to-clock : t .counters .line ≤ t .counters .clock
+  pub each : (i : ℕ) → SlotGood (t .counters .clock) (t .counters .line) (txidAt t i) (xminAt t i)
   pub differ : (i j : ℕ) → txidAt t i ≢ 0 → txidAt t i ≡ txidAt t j → i ≡ j

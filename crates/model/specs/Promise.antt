@@ -18,7 +18,7 @@ SettledBelow line s = (x : ℕ) → 1 ≤ x → x < line → settledIn (s .xmax)
 
 -- the line that a history has reached: what the last accepted vacuum answered, 1 before any; what every record prints
 abbrev pub lineAfter : ℕ → List Call → ℕ
-lineAfter n cs = reached n cs .line
+lineAfter n cs = reached n cs .counters .line
 
 -- the snapshots that are covered at the end of a history: the last transaction snapshot of each transaction then registered
 pub data Covered (n : ℕ) (cs : List Call) (s : Snapshot) : Type 0 where

@@ -6,7 +6,7 @@ use lib.ListN.{replicate}
 use Rattle.kinds.specs.declared.Stamp.{Stamp}
 use Rattle.kinds.specs.Kinds.{number, slot, txid}
 use Rattle.model.specs.declared.Table.{Table}
-use Rattle.model.specs.Tables.{freshTable}
+use Rattle.model.specs.Tables.{counted, freshTable}
 use Rattle.model.specs.Answers.{Answer, registered, done, snapped, oldestIs, lineIs}
 use Rattle.model.specs.Calls.{Call, begin, end, snap, oldest, vacuum, after, answer}
 
@@ -25,7 +25,7 @@ pub record Row : Type 0 where
 unfoldable pub seenFrom : ℕ → Table → List Call → List Seen
 seenFrom n t [] = []
 seenFrom n t (c ∷ cs) =
-    record { answers = answer n t c; clock = after n t c .clock; line = after n t c .line } ∷ seenFrom n (after n t c) cs
+    record { answers = answer n t c; clock = after n t c .counters .clock; line = after n t c .counters .line } ∷ seenFrom n (after n t c) cs
 
 -- every row of the list holds at n slots
 unfoldable pub RowsHold : ℕ → List Row → Type 0
@@ -39,7 +39,7 @@ from (suc n) k = k ∷ from n (k + 1)
 
 -- a table whose taken slots, from slot 0 on, retain their own txids
 abbrev holding : List ℕ → ℕ → Table
-holding ids clock = record { txids = ids; «snapshot_xmins» = ids; clock = clock; «sampled_clock» = 1; line = 1 }
+holding ids clock = record { txids = ids; «snapshot_xmins» = ids; counters = counted clock 1 1 }
 
 abbrev seen : Answer → ℕ → ℕ → Seen
 seen a clock line = record { answers = a; clock = clock; line = line }
