@@ -23,7 +23,7 @@ use Rattle.model.specs.Accepted.{Registered}
 use Rattle.model.specs.History.{run, reached, Accepts, lastFrom, lastOwn}
 use Rattle.model.specs.Reservations.{reservationsFrom, reservations}
 use Rattle.model.specs.Counts.{acceptedFrom, begins, endsAndFinishes, takenSlots}
-use Rattle.model.specs.Rows.{seenFrom, RowsHold, rows, orders, AllRowsHold}
+use Rattle.model.specs.Rows.{seenFrom, seenIn, said, RowsHold, rows, orders, AllRowsHold}
 use Rattle.model.specs.Promise.{SettledBelow, lineAfter, Covered, of-transaction, Gives}
 use Rattle.model.proofs.Promise.{covered-settled, own-covered}
 
@@ -158,49 +158,13 @@ vacuums = (refl, refl, refl)
 
 edges-at-four : (any : Stamp) → RowsHold 4 (rows 4 any)
 unfolding consumed active retained lowestEmpty minimum maximum snapshotOf freshTable refusal changeAccepted changeOf spent after
-    answerAccepted answer shownAccepted shown seenFrom RowsHold rows
-edges-at-four any = (refl, (refl, (refl, (refl, (refl, (refl, (refl, (refl, (refl, (refl, (refl, (refl, tt))))))))))))
+    answerAccepted answer shownAccepted shown seenFrom seenIn said rows
+edges-at-four any = refl
 
 orders-at-four : RowsHold 4 (orders 4)
 unfolding consumed active retained lowestEmpty minimum maximum snapshotOf freshTable refusal changeAccepted changeOf spent after
-    answerAccepted answer shownAccepted shown seenFrom RowsHold orders
-orders-at-four = (
-  refl,
-  (
-    refl,
-    (
-      refl,
-      (
-        refl,
-        (
-          refl,
-          (
-            refl,
-            (
-              refl,
-              (
-                refl,
-                (
-                  refl,
-                  (
-                    refl,
-                    (
-                      refl,
-                      (
-                        refl,
-                        (refl, (refl, (refl, (refl, (refl, (refl, (refl, (refl, (refl, (refl, (refl, tt))))))))))),
-                      ),
-                    ),
-                  ),
-                ),
-              ),
-            ),
-          ),
-        ),
-      ),
-    ),
-  ),
-)
+    answerAccepted answer shownAccepted shown seenFrom seenIn said orders
+orders-at-four = refl
 
 pub rows-at-four : AllRowsHold 4
 rows-at-four = record { edges = edges-at-four; in-order = orders-at-four }
