@@ -6,6 +6,7 @@ use mathlib.Core.Bool.{Bool, true, false, false≢true}
 use mathlib.Core.List.{List, []}
 use lib.ListN.{length, take}
 use lib.Seq.{take-all}
+use Rattle.kinds.specs.declared.Stamp.{Stamp}
 use Rattle.kinds.specs.declared.refusal.Verdict.{Verdict}
 use Rattle.kinds.specs.declared.refusal.Verdict.the-variants.{Pass, Refuse}
 use Rattle.model.specs.declared.Table.{Table}
@@ -13,8 +14,9 @@ use Rattle.model.specs.declared.answer.Decision.{Decision}
 use Rattle.model.specs.declared.answer.SnapshotDecision.{SnapshotDecision}
 use Rattle.model.specs.declared.answer.Outcome.{Outcome}
 use Rattle.model.specs.declared.answer.SnapshotOutcome.{SnapshotOutcome}
-use Rattle.model.specs.Tables.{lent, lentTxids}
+use Rattle.model.specs.Tables.{clockOf, lent, lentTxids}
 use Rattle.model.specs.Changes.{applied}
+use Rattle.model.specs.Tests.{reservationTest}
 use Rattle.model.specs.Calls.{Call, begin, end, snap, own, oldest, vacuum, stamp, finish, refusal}
 use Rattle.model.specs.Calls.{changeAccepted, changeBy, changeOf, after, answerAccepted, answerBy, answer}
 use Rattle.model.specs.Calls.{shownAccepted, shownBy, shown, decision, snapshotDecision, outcome, snapshotOutcome}
@@ -89,3 +91,17 @@ module _ (n : ℕ) (t : Table) (c : Call) where
       (snapshotOutcome n t c)
   unfolding after snapshotDecision snapshotOutcome
   snapshot-outcome-of e = rw e
+
+abbrev decidesBy : Verdict → Table → Call → Decision
+decidesBy v t c = record { change = changeBy v t c; answer = answerBy v t c }
+
+-- a stamp reads the counters alone, so it is lent no column
+pub lent-stamps :
+    (n : ℕ) (t : Table) (number : Stamp) →
+    decision n (lentTxids [] (t .counters)) (stamp number) ≡ decision n t (stamp number)
+unfolding refusal changeAccepted changeOf answerAccepted answer decision
+lent-stamps n t number = go (reservationTest (clockOf t) number)
+  where
+    go : (v : Verdict) → decidesBy v (lentTxids [] (t .counters)) (stamp number) ≡ decidesBy v t (stamp number)
+    go Pass = refl
+    go (Refuse r) = refl
