@@ -1,6 +1,6 @@
 -- The change decided on the lent column is made: that is the outcome (model's proofs/Lent.antt).
-use mathlib.Core.Path.{refl, _∙_}
-use Rattle.model.proofs.Lent.{lent-decides, outcome-of}
+use mathlib.Core.Path.{refl}
+use Rattle.model.proofs.Lent.{lent-outcome}
 use borrow.Author.Needs.{needs}
 use Rattle.publication.proofs.finish.finish_transaction.Statement.{statement}
 use Rattle.publication.proofs.finish.finish_transaction.Tie as tie
@@ -12,9 +12,7 @@ apply-requires : tie.Need-apply-requires
 apply-requires c κs = search needs
 
 returns : tie.Need-returns
-returns c =
-    let decided = c .before .before .decide-finish .ensures in
-    rw (c .apply .ensures) (outcome-of _ _ _ (decided ∙ lent-decides _ _ _ refl))
+returns c = rw (c .apply .ensures) (lent-outcome _ _ _ refl (c .before .before .decide-finish .ensures))
 
 pub finish-transaction-spec : {M : Type 1} → statement M
 finish-transaction-spec = tie.close (tie.spec decide-finish-requires apply-requires returns)

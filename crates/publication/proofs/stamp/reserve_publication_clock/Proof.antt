@@ -1,6 +1,5 @@
 -- The change decided on the counters is made: that is the outcome (model's proofs/Lent.antt).
-use mathlib.Core.Path.{_∙_}
-use Rattle.model.proofs.Lent.{lent-stamps, outcome-of}
+use Rattle.model.proofs.Lent.{stamp-outcome}
 use borrow.Author.Needs.{needs}
 use Rattle.publication.proofs.stamp.reserve_publication_clock.Statement.{statement}
 use Rattle.publication.proofs.stamp.reserve_publication_clock.Tie as tie
@@ -12,9 +11,7 @@ apply-requires : tie.Need-apply-requires
 apply-requires c κs = search needs
 
 returns : tie.Need-returns
-returns c =
-    let decided = c .before .before .decide-stamp .ensures in
-    rw (c .apply .ensures) (outcome-of _ _ _ (decided ∙ lent-stamps _ _ _))
+returns c = rw (c .apply .ensures) (stamp-outcome _ _ _ (c .before .before .decide-stamp .ensures))
 
 pub reserve-publication-clock-spec : {M : Type 1} → statement M
 reserve-publication-clock-spec = tie.close (tie.spec decide-stamp-requires apply-requires returns)

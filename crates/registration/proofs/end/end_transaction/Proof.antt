@@ -1,6 +1,6 @@
 -- The change decided on the lent column is made: that is the outcome (model's proofs/Lent.antt).
-use mathlib.Core.Path.{refl, _∙_}
-use Rattle.model.proofs.Lent.{lent-decides, outcome-of}
+use mathlib.Core.Path.{refl}
+use Rattle.model.proofs.Lent.{lent-outcome}
 use borrow.Author.Needs.{needs}
 use Rattle.registration.proofs.end.end_transaction.Statement.{statement}
 use Rattle.registration.proofs.end.end_transaction.Tie as tie
@@ -12,9 +12,7 @@ apply-requires : tie.Need-apply-requires
 apply-requires c κs = search needs
 
 returns : tie.Need-returns
-returns c =
-    let decided = c .before .before .decide-end .ensures in
-    rw (c .apply .ensures) (outcome-of _ _ _ (decided ∙ lent-decides _ _ _ refl))
+returns c = rw (c .apply .ensures) (lent-outcome _ _ _ refl (c .before .before .decide-end .ensures))
 
 pub end-transaction-spec : {M : Type 1} → statement M
 end-transaction-spec = tie.close (tie.spec decide-end-requires apply-requires returns)
