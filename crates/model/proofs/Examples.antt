@@ -15,7 +15,7 @@ use Rattle.settled.specs.Settled.{listed, settledIn}
 use Rattle.kinds.specs.Refusals.{told, consumed}
 use Rattle.model.specs.Tally.{active, retained, lowestEmpty, minimum, maximum, snapshotOf}
 use Rattle.model.specs.declared.answer.Answer.the-variants.{Begun, Done, Oldest, Line, Stamped, Refused}
-use Rattle.model.specs.Answers.{tellsOf, xminTold, numbersOf}
+use Rattle.model.specs.Answers.{tellsOf, xminTold, numbersOf, numbersBeside}
 use Rattle.model.specs.Tables.{freshTable}
 use Rattle.model.specs.Calls.{Call, begin, end, snap, own, vacuum, stamp, finish, refusal, changeAccepted, changeOf, spent, after, answerAccepted, answer, shownAccepted, shown}
 use Rattle.model.specs.Check.{slotsPass, differ, passes, tablePasses}
@@ -178,17 +178,17 @@ abbrev beside : ℕ → ℕ → Snapshot
 beside xmin xmax = snapshot xmin xmax (9 ∷ 0 ∷ []) 1
 
 pub answers-in-numbers :
-    (numbersOf (Begun (slot 3) (txid 5)) (snapshot 0 0 [] 0) 7
+    (numbersBeside (Begun (slot 3) (txid 5)) (snapshot 0 0 [] 0) 7
     ≡ record { told = told-numbers 0 3 5 0; xmin = 0; xmax = 0; «vacuum_line» = 7; count = 0 })
-    × (numbersOf Done (beside 4 6) 7
+    × (numbersBeside Done (beside 4 6) 7
     ≡ record { told = told-numbers 0 0 0 0; xmin = 4; xmax = 6; «vacuum_line» = 7; count = 1 })
-    × (numbersOf (Oldest 8) (snapshot 0 0 [] 0) 7
+    × (numbersBeside (Oldest 8) (snapshot 0 0 [] 0) 7
     ≡ record { told = told-numbers 0 0 0 0; xmin = 8; xmax = 0; «vacuum_line» = 7; count = 0 })
-    × (numbersOf (Line 9) (snapshot 0 0 [] 0) 9
+    × (numbersBeside (Line 9) (snapshot 0 0 [] 0) 9
     ≡ record { told = told-numbers 0 0 0 0; xmin = 0; xmax = 0; «vacuum_line» = 9; count = 0 })
-    × (numbersOf (Stamped (number 6)) (snapshot 0 0 [] 0) 7
+    × (numbersBeside (Stamped (number 6)) (snapshot 0 0 [] 0) 7
     ≡ record { told = told-numbers 0 0 6 0; xmin = 0; xmax = 0; «vacuum_line» = 7; count = 0 })
-    × (numbersOf (Refused (SlotOwnershipMismatch (slot 3) (txid 5) (txid 2))) (snapshot 0 0 [] 0) 7
+    × (numbersBeside (Refused (SlotOwnershipMismatch (slot 3) (txid 5) (txid 2))) (snapshot 0 0 [] 0) 7
     ≡ record { told = told-numbers 3 3 5 2; xmin = 0; xmax = 0; «vacuum_line» = 7; count = 0 })
-unfolding told tellsOf xminTold
+unfolding told tellsOf xminTold numbersOf
 answers-in-numbers = (refl, refl, refl, refl, refl, refl)
