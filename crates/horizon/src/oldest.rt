@@ -19,7 +19,9 @@ pub fn decide_oldest<'a>(
     clock: u64,
     sample: u64,
 ) -> Decision
-    ensures { λ r. do n ← ⟦kinds::SLOTS⟧ .entry; ⌜ r ≡ decision n (lent (now (txids .entry)) (now (xmins .entry)) was) (oldest clock sample) ⌝ }
+    ensures { λ r. do
+      n ← ⟦kinds::SLOTS⟧ .entry
+      ⌜ r ≡ decision n (lent (now (txids .entry)) (now (xmins .entry)) was) (oldest clock sample) ⌝ }
 {
     let verdict = verdicts::observation_test(was.clock, clock, sample);
     match verdict {

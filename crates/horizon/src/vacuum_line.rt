@@ -19,7 +19,9 @@ pub fn decide_vacuum<'a>(
     clock: u64,
     sample: u64,
 ) -> Decision
-    ensures { λ r. do n ← ⟦kinds::SLOTS⟧ .entry; ⌜ r ≡ decision n (lent (now (txids .entry)) (now (xmins .entry)) was) (vacuum clock sample) ⌝ }
+    ensures { λ r. do
+      n ← ⟦kinds::SLOTS⟧ .entry
+      ⌜ r ≡ decision n (lent (now (txids .entry)) (now (xmins .entry)) was) (vacuum clock sample) ⌝ }
 {
     let verdict = verdicts::observation_test(was.clock, clock, sample);
     match verdict {

@@ -22,7 +22,9 @@ fn own_test(
     clock: u64,
     sample: u64,
 ) -> Verdict
-    ensures { λ r. do n ← ⟦kinds::SLOTS⟧ .entry; ⌜ r ≡ refusal n (lentSlots n (now (txids .entry)) was) (own slot id clock sample) ⌝ }
+    ensures { λ r. do
+      n ← ⟦kinds::SLOTS⟧ .entry
+      ⌜ r ≡ refusal n (lentSlots n (now (txids .entry)) was) (own slot id clock sample) ⌝ }
 {
     let owner = verdicts::owner_test(txids, slot, id);
     match owner {
@@ -40,7 +42,9 @@ pub fn decide_own(
     clock: u64,
     sample: u64,
 ) -> SnapshotDecision
-    ensures { λ r. do n ← ⟦kinds::SLOTS⟧ .entry; ⌜ r ≡ snapshotDecision n (lentSlots n (now (txids .entry)) was) (own slot id clock sample) ⌝ }
+    ensures { λ r. do
+      n ← ⟦kinds::SLOTS⟧ .entry
+      ⌜ r ≡ snapshotDecision n (lentSlots n (now (txids .entry)) was) (own slot id clock sample) ⌝ }
 {
     let verdict = own_test(txids, was, slot, id, clock, sample);
     match verdict {

@@ -13,7 +13,9 @@ ghost use Rattle.model.specs.Calls.{snap, snapshotDecision, snapshotOutcome};
 
 // On lent txids. Refusals 7, 8, in this order.
 pub fn decide_snap(txids: &[u64], was: Counters, clock: u64, sample: u64) -> SnapshotDecision
-    ensures { λ r. do n ← ⟦kinds::SLOTS⟧ .entry; ⌜ r ≡ snapshotDecision n (lentSlots n (now (txids .entry)) was) (snap clock sample) ⌝ }
+    ensures { λ r. do
+      n ← ⟦kinds::SLOTS⟧ .entry
+      ⌜ r ≡ snapshotDecision n (lentSlots n (now (txids .entry)) was) (snap clock sample) ⌝ }
 {
     let verdict = verdicts::observation_test(was.clock, clock, sample);
     match verdict {
