@@ -2,6 +2,7 @@
 // for each slot, so no more than that many lent slots are read.
 mod own;
 mod plain;
+mod refused;
 
 pub use own::create_transaction_snapshot;
 pub use own::decide_own;

@@ -1,4 +1,5 @@
 // A transaction's snapshot, whose xmin its slot then retains.
+use crate::refused::refused_snapshot;
 use kinds::SlotNo;
 use kinds::Txid;
 use kinds::Verdict;
@@ -48,17 +49,7 @@ pub fn decide_own(
 {
     let verdict = own_test(txids, was, slot, id, clock, sample);
     match verdict {
-        Verdict::Refuse(r) => {
-            let snapshot = settled::no_snapshot();
-            SnapshotDecision {
-                change: Change {
-                    slot: SlotChange::Stays,
-                    counters: was,
-                },
-                answer: Answer::Refused(r),
-                snapshot,
-            }
-        }
+        Verdict::Refuse(r) => refused_snapshot(was, r),
         Verdict::Pass => {
             let snapshot = scans::take_snapshot(txids, sample);
             let counters = changes::observed(was, clock, sample);

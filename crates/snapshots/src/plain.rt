@@ -1,4 +1,5 @@
 // A plain snapshot, for a reader that isn't registered: no slot changes.
+use crate::refused::refused_snapshot;
 use kinds::Verdict;
 use model::Answer;
 use model::Change;
@@ -19,17 +20,7 @@ pub fn decide_snap(txids: &[u64], was: Counters, clock: u64, sample: u64) -> Sna
 {
     let verdict = verdicts::observation_test(was.clock, clock, sample);
     match verdict {
-        Verdict::Refuse(r) => {
-            let snapshot = settled::no_snapshot();
-            SnapshotDecision {
-                change: Change {
-                    slot: SlotChange::Stays,
-                    counters: was,
-                },
-                answer: Answer::Refused(r),
-                snapshot,
-            }
-        }
+        Verdict::Refuse(r) => refused_snapshot(was, r),
         Verdict::Pass => {
             let snapshot = scans::take_snapshot(txids, sample);
             let counters = changes::observed(was, clock, sample);

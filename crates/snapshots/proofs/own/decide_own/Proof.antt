@@ -13,8 +13,8 @@ own-test-requires c κs = search needs
 enum-known-verdict : tie.Need-enum-known-verdict
 enum-known-verdict c = search needs
 
-no-snapshot-requires : tie.Need-no-snapshot-requires
-no-snapshot-requires c κs = search needs
+refused-snapshot-requires : tie.Need-refused-snapshot-requires
+refused-snapshot-requires c κs = search needs
 
 enum-told : tie.Need-enum-told
 enum-told c = search needs
@@ -29,7 +29,7 @@ returns : tie.Need-returns
 returns c =
     let arm = c .before .before in
     let refused = sym (arm .before .before .own-test .ensures) ∙ arm .verdict .given .1 in
-    rw (c .no-snapshot .ensures) (refused-shows _ _ _ refl refused)
+    rw (c .refused-snapshot .ensures) (refused-shows _ _ _ refl refused)
 
 returns-2 : tie.Need-returns-2
 unfolding changeAccepted answerAccepted shownAccepted snapshotOf
@@ -45,7 +45,7 @@ decide-own-spec =
     (tie.spec
     own-test-requires
     enum-known-verdict
-    no-snapshot-requires
+    refused-snapshot-requires
     enum-told
     take-snapshot-requires
     observed-requires
