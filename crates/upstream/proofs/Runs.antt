@@ -38,21 +38,21 @@ stateBy v t history c = stateOf (applied t (changeBy v t c)) (historyBy v histor
 abbrev Strict : Verdict → Type 0
 Strict v = Foreseen v → v ≡ Pass
 
-strict-cond : (b : Bool) (r : Refusal) (v : Verdict) → 3 < told r .number → Strict v → Strict (cond b (Refuse r) v)
-strict-cond true r v h s f = absurd (omega arith)
+strict-cond : (b : Bool) (r : Refusal) (v : Verdict) → (Foreseen (Refuse r) → ⊥) → Strict v → Strict (cond b (Refuse r) v)
+strict-cond true r v h s f = absurd (h f)
 strict-cond false r v h s f = s f
 
 pub reservation-strict : (clock : ℕ) (k : Stamp) → Strict (reservationTest clock k)
 unfolding told
 reservation-strict clock k =
-    strict-cond (leb top clock) ClockExhausted _ (omega arith)
-    (strict-cond (eqb (k .0) 0 || (ltb (k .0) clock || leb top (k .0))) BadReservation Pass (omega arith) (λ f. refl))
+    strict-cond (leb top clock) ClockExhausted _ (λ f. omega arith)
+    (strict-cond (eqb (k .0) 0 || (ltb (k .0) clock || leb top (k .0))) BadReservation Pass (λ f. omega arith) (λ f. refl))
 
 pub observation-strict : (former clock sample : ℕ) → Strict (observationTest former clock sample)
 unfolding told
 observation-strict former clock sample =
-    strict-cond (ltb clock former) BadClock _ (omega arith)
-    (strict-cond (eqb sample 0 || ltb clock sample) BadSample Pass (omega arith) (λ f. refl))
+    strict-cond (ltb clock former) BadClock _ (λ f. omega arith)
+    (strict-cond (eqb sample 0 || ltb clock sample) BadSample Pass (λ f. omega arith) (λ f. refl))
 
 -- a begin: its number may be reserved, and then a slot is empty or all are taken
 pub data Beginning (n : ℕ) (t : Table) (k : Stamp) : Verdict → Type 0 where
@@ -94,7 +94,7 @@ owning n t slot id c second strict order f =
         (a : Bool) → leb n (slot .0) ≡ a → (b : Bool) → eqb (id .0) 0 ≡ b → (o : Bool) →
         eqb (txidAt t (slot .0)) (id .0) ≡ o → Owning n t slot id c (refusal n t c)
     go true p b q o r = rw (order, p) (outside (leb-true n (slot .0) p))
-    go false p true q o r = let g : 4 ≤ 3 = rw (order, p, q) at f in absurd (omega arith)
+    go false p true q o r = absurd (omega (arith, rw (order, p, q) at f))
     go false p false q true r =
         let e : refusal n t c ≡ Pass = order ∙ rw (p, q, r) (strict (rw (order, p, q, r) at f)) in
         rw e (owned (accepted-acceptable n t c e))
