@@ -19,7 +19,7 @@ use Rattle.model.proofs.Accepted.{accepted-acceptable}
 use Rattle.model.proofs.Calls.{after-accepted}
 use Rattle.model.proofs.Check.{passes-good}
 
-emptied-gone :
+pub emptied-gone :
     (n : ℕ) (t : Table) (slot : SlotNo) (id : Txid) → Good n t → Owns n t slot id → (i : ℕ) →
     getD (set (t .txids) (slot .0) 0) i 0 ≢ id .0
 emptied-gone n t slot id g o i e = go (stored 0 (t .txids) (slot .0) 0 i)
