@@ -15,7 +15,8 @@ use std::os::fd::{AsRawFd, RawFd};
 unsafe extern "C" {
     // A slice is a pointer and a length; crates/exports/sockhurdle.h says what each answers.
     fn sockhurdle_read(from: c_int, into: *mut u8, into_len: usize) -> usize;
-    fn sockhurdle_replay(input: *const u8, input_len: usize, out: *mut u8, out_len: usize) -> usize;
+    fn sockhurdle_replay(input: *const u8, input_len: usize, out: *mut u8, out_len: usize)
+    -> usize;
     fn sockhurdle_replay_to(input: *const u8, input_len: usize, to: c_int) -> c_int;
 }
 
@@ -52,9 +53,18 @@ pub extern "C" fn main() -> c_int {
         },
         [name] => match File::open(name) {
             Ok(file) => run(file.as_raw_fd(), &name.to_string_lossy()),
-            Err(error) => stop(2, &format!("{}: {error}; nothing was run", name.to_string_lossy())),
+            Err(error) => stop(
+                2,
+                &format!("{}: {error}; nothing was run", name.to_string_lossy()),
+            ),
         },
-        many => stop(2, &format!("one file at a time, {} were given; --help says more", many.len())),
+        many => stop(
+            2,
+            &format!(
+                "one file at a time, {} were given; --help says more",
+                many.len()
+            ),
+        ),
     }
 }
 
@@ -63,18 +73,32 @@ fn run(from: RawFd, name: &str) -> c_int {
     let size = unsafe { sockhurdle_read(from, buffer.as_mut_ptr(), buffer.len()) };
     if size == usize::MAX {
         let error = io::Error::last_os_error();
-        return stop(2, &format!("{name} could not be read to its end: {error}; nothing was run"));
+        return stop(
+            2,
+            &format!("{name} could not be read to its end: {error}; nothing was run"),
+        );
     }
     let text = &buffer[..size];
     match unsafe { sockhurdle_replay_to(text.as_ptr(), text.len(), STDOUT) } {
         0 => 0,
         3 => {
             let line = broken_line(text);
-            stop(3, &format!("{name} is no trace, so nothing was run. {}", why::why(text, line)))
+            stop(
+                3,
+                &format!(
+                    "{name} is no trace, so nothing was run. {}",
+                    why::why(text, line)
+                ),
+            )
         }
         _ => {
             let error = io::Error::last_os_error();
-            stop(1, &format!("the output could not be written: {error}; what arrived is a beginning of it"))
+            stop(
+                1,
+                &format!(
+                    "the output could not be written: {error}; what arrived is a beginning of it"
+                ),
+            )
         }
     }
 }
@@ -82,7 +106,8 @@ fn run(from: RawFd, name: &str) -> c_int {
 /// The line that refusal 9 names, by the library: its two lines are `answer=9` and `at=`.
 fn broken_line(text: &[u8]) -> usize {
     let mut said = [0; 64];
-    let size = unsafe { sockhurdle_replay(text.as_ptr(), text.len(), said.as_mut_ptr(), said.len()) };
+    let size =
+        unsafe { sockhurdle_replay(text.as_ptr(), text.len(), said.as_mut_ptr(), said.len()) };
     let said = std::str::from_utf8(&said[..size]).unwrap_or("");
     let line = said.lines().find_map(|line| line.strip_prefix("at="));
     line.and_then(|number| number.parse().ok()).unwrap_or(0)

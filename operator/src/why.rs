@@ -22,7 +22,11 @@ pub fn why(text: &[u8], line: usize) -> String {
     let lines: Vec<&[u8]> = text.split(|&byte| byte == b'\n').collect();
     // What follows the last newline is a line only if it is not empty.
     let ended = lines.len() - 1;
-    let place = if line == 1 { None } else { Some((line - 2) % 6) };
+    let place = if line == 1 {
+        None
+    } else {
+        Some((line - 2) % 6)
+    };
     let expected = match place {
         None => "`trace=proc-1`".to_string(),
         Some(place) => format!("`{}=` of record {}", KEYS[place], (line - 2) / 6 + 1),
@@ -44,7 +48,10 @@ pub fn why(text: &[u8], line: usize) -> String {
             Some(place) => field(found, KEYS[place], lines[line - 1 - place]),
         }
     };
-    format!("Line {line} is {}: {reason} ({expected} has to stand there).", quoted(found))
+    format!(
+        "Line {line}, where {expected} has to stand, is {}: {reason}.",
+        quoted(found)
+    )
 }
 
 /// The first line, which has its newline.
@@ -67,7 +74,10 @@ fn op(found: &[u8]) -> String {
     if name.is_empty() {
         return "it names no op".to_string();
     }
-    if OPS.iter().any(|(known, _)| name.starts_with(known.as_bytes()) && is_space(&name[known.len()..])) {
+    if OPS
+        .iter()
+        .any(|(known, _)| name.starts_with(known.as_bytes()) && is_space(&name[known.len()..]))
+    {
         return space(name);
     }
     let names: Vec<&str> = OPS.iter().map(|(name, _)| *name).collect();
@@ -76,7 +86,10 @@ fn op(found: &[u8]) -> String {
 
 /// A field of the record whose first line is `op_line`.
 fn field(found: &[u8], key: &str, op_line: &[u8]) -> String {
-    let Some(value) = found.strip_prefix(key.as_bytes()).and_then(|rest| rest.strip_prefix(b"=")) else {
+    let Some(value) = found
+        .strip_prefix(key.as_bytes())
+        .and_then(|rest| rest.strip_prefix(b"="))
+    else {
         return other_key(found, key);
     };
     let Some(&head) = value.first() else {
@@ -86,12 +99,18 @@ fn field(found: &[u8], key: &str, op_line: &[u8]) -> String {
         return "a number has no sign".to_string();
     }
     if let Some(&byte) = value.iter().find(|byte| !byte.is_ascii_digit()) {
-        return if is_space(&[byte]) { space(value) } else { format!("{} is no digit", quoted(&[byte])) };
+        return if is_space(&[byte]) {
+            space(value)
+        } else {
+            format!("{} is no digit", quoted(&[byte]))
+        };
     }
     if head == b'0' && value.len() > 1 {
         return "a number has no leading zero".to_string();
     }
-    let number = value.iter().try_fold(0u64, |sum, digit| sum.checked_mul(10)?.checked_add(u64::from(digit - b'0')));
+    let number = value.iter().try_fold(0u64, |sum, digit| {
+        sum.checked_mul(10)?.checked_add(u64::from(digit - b'0'))
+    });
     let Some(number) = number else {
         return "a number is at most 18446744073709551615".to_string();
     };
@@ -99,7 +118,11 @@ fn field(found: &[u8], key: &str, op_line: &[u8]) -> String {
         return "a slot is at most 65535".to_string();
     }
     let name = op_line.strip_prefix(b"op=").unwrap_or(b"");
-    if number != 0 && OPS.iter().any(|(known, reads)| known.as_bytes() == name && !reads.contains(&key)) {
+    if number != 0
+        && OPS
+            .iter()
+            .any(|(known, reads)| known.as_bytes() == name && !reads.contains(&key))
+    {
         return format!("{} reads no {key}, so it has to be 0", name.escape_ascii());
     }
     "it breaks a rule of docs/TRACE.md".to_string()
@@ -129,7 +152,11 @@ fn other_key(found: &[u8], key: &str) -> String {
 /// What stands after a text that would be right without it.
 fn after(found: &[u8], right: &[u8]) -> String {
     let rest = found.strip_prefix(right).unwrap_or(found);
-    if is_space(rest) || rest.len() == found.len() { space(found) } else { "more stands on the line".to_string() }
+    if is_space(rest) || rest.len() == found.len() {
+        space(found)
+    } else {
+        "more stands on the line".to_string()
+    }
 }
 
 fn is_space(text: &[u8]) -> bool {
