@@ -6,7 +6,8 @@ use mathlib.Core.List.{List}
 use lib.IntN.{ℤ, pos, negsuc}
 use lib.ListN.{length}
 use Rattle.trace.specs.Trace.{traceOf}
-use Rattle.replay.specs.Into.{Into, whole, cut}
+use Rattle.text.specs.Write.{spliced}
+use Rattle.replay.specs.Into.{Into, whole, cut, textIn, intoOf}
 use Rattle.replay.specs.Sent.{isTrace}
 use Rattle.exports.specs.declared.input.Input.{Input}
 use Rattle.exports.specs.declared.input.Input.the-variants.{All, Failed}
@@ -15,6 +16,13 @@ use Rattle.exports.specs.declared.input.Input.the-variants.{All, Failed}
 abbrev pub answered : Into → ℕ
 answered (whole t) = length t
 answered (cut t) = 0
+
+abbrev pub answerOf : ℕ → List ℕ → List ℕ → ℕ
+answerOf n s xs = answered (intoOf n (length xs) s)
+
+-- and what it leaves in the buffer: that text, or as many records as had room, and past it what was there
+abbrev pub leftOf : ℕ → List ℕ → List ℕ → List ℕ
+leftOf n s xs = spliced xs 0 (textIn (intoOf n (length xs) s))
 
 -- what was read lies inside the buffer
 abbrev pub InputFits : ℕ → Input → Type 0

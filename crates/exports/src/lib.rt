@@ -8,9 +8,7 @@ use replay::Replayed;
 use replay::Sent;
 ghost use mathlib.Core.Path.{_≡_};
 ghost use lib.ListN.{length};
-ghost use Rattle.text.specs.Write.{spliced};
-ghost use Rattle.replay.specs.Into.{textIn, intoOf};
-ghost use Rattle.exports.specs.Status.{answered, ReadFits, StatusFits, RunFits};
+ghost use Rattle.exports.specs.Status.{answerOf, leftOf, ReadFits, StatusFits, RunFits};
 
 // One byte more than a trace may have, to know that there is one.
 const ROOM: usize = replay::LONGEST + 1;
@@ -19,8 +17,8 @@ const ROOM: usize = replay::LONGEST + 1;
 // begins with as many of its records as had. An output is never empty.
 #[no_mangle]
 pub extern "C" fn sockhurdle_replay(input: &[u8], out: &mut [u8]) -> usize
-    ensures { λ r. do ⌜ r ≡ answered (intoOf (← ⟦kinds::SLOTS⟧ .entry) (length (now (out .entry))) (now (input .entry))) ⌝ }
-    ensures { λ _. do ⌜ now (out .exit) ≡ spliced (now (out .entry)) 0 (textIn (intoOf (← ⟦kinds::SLOTS⟧ .entry) (length (now (out .entry))) (now (input .entry)))) ⌝ }
+    ensures { λ r. do ⌜ r ≡ answerOf (← ⟦kinds::SLOTS⟧ .entry) (now (input .entry)) (now (out .entry)) ⌝ }
+    ensures { λ _. do ⌜ now (out .exit) ≡ leftOf (← ⟦kinds::SLOTS⟧ .entry) (now (input .entry)) (now (out .entry)) ⌝ }
 {
     let said = replay::replay_into(input, out);
     match said {

@@ -24,7 +24,8 @@ unfolding spliced
 begins-with xs t e = rw e (take-append-seam t (drop (0 + length t) xs))
 
 -- and holds it whole
-pub put-inside : (xs t : List ℕ) {ys : List ℕ} {size : ℕ} → size ≡ length t → ys ≡ spliced xs 0 t → length ys ≡ length xs → size ≤ length ys
+pub put-inside :
+    (xs t : List ℕ) {ys : List ℕ} {size : ℕ} → size ≡ length t → ys ≡ spliced xs 0 t → length ys ≡ length xs → size ≤ length ys
 put-inside xs t k e same =
     let fit = inside-of xs 0 t (omega arith) (ap length (sym e) ∙ same) in
     omega (arith, k, same, fit)

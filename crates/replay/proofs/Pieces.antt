@@ -104,8 +104,8 @@ module _ {n : ℕ} {s : List ℕ} (h : Handed) where
 
   -- where one piece is left, all have gone when it has
   pub all-went :
-      {t : List ℕ} {to : ℤ} {trace : Bool} {r : Handed} → isTrace (traceOf s) ≡ trace → drop (h .pieces) (piecesOf n s) ≡ t ∷ [] → h .to ≡ to →
-      r ≡ handed (h .to) (h .pieces + 1) → AllWent n s to trace r
+      {t : List ℕ} {to : ℤ} {trace : Bool} {r : Handed} → isTrace (traceOf s) ≡ trace →
+      drop (h .pieces) (piecesOf n s) ≡ t ∷ [] → h .to ≡ to → r ≡ handed (h .to) (h .pieces + 1) → AllWent n s to trace r
   all-went read e same g =
       let all : length (piecesOf n s) ≡ h .pieces + 1 = omega (arith, sym (length-drop (h .pieces) (piecesOf n s)) ∙ ap length e) in
       record { read = read; pieces = g ∙ rw (same, all) }

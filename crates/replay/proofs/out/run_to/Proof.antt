@@ -1,5 +1,6 @@
 -- Invariant: the buffer keeps its size, and the pieces that have not gone are those of the records that are left and the last
--- line (`Sending`, in Sending.antt); they went to the descriptor that the first one was for. Each turn hands on one piece, and fewer records are left.
+-- line (`Sending`, in Sending.antt); they went to the descriptor that the first one was for. Each turn hands on one piece,
+-- and fewer records are left.
 use mathlib.Core.Path.{_≡_, refl, sym, ap, _∙_}
 use native.Mathlib.Omega.{arith}
 use mir.Facts.{toZ-ofZ}
