@@ -1,0 +1,5 @@
+pub mod Facts
+pub mod Walk
+pub mod Grammar
+pub mod Refusal
+pub mod Count
