@@ -3,3 +3,4 @@ pub mod Walk
 pub mod Grammar
 pub mod Refusal
 pub mod Count
+pub mod Named

@@ -1,0 +1,175 @@
+-- `fields_at` meets its contract, line after line. A place `x-read` is where the line x was read: there its call's answer is known.
+-- What the five lines are together is the definition `fieldsAt`, unfolded once for each of them.
+use native.Mathlib.Omega.{arith}
+use mathlib.Core.Path.{sym, _∙_}
+use Rattle.text.specs.Line.{linesAt}
+use Rattle.text.specs.FiveLines.{fieldRules, fieldsAt}
+use Rattle.text.proofs.FiveLines.{slot-fits}
+use borrow.Author.Needs.{needs}
+use Rattle.text.proofs.five_lines.fields_at.Statement.{statement}
+use Rattle.text.proofs.five_lines.fields_at.Tie as tie
+
+slice-aggregate-field-if : tie.Need-slice-aggregate-field-if
+slice-aggregate-field-if c = search needs
+
+field-if-requires : tie.Need-field-if-requires
+field-if-requires c κs = search needs
+
+enum-known-slot : tie.Need-enum-known-slot
+enum-known-slot c = search needs
+
+enum-told : tie.Need-enum-told
+enum-told c = search needs
+
+returns : tie.Need-returns
+unfolding fieldsAt fieldRules linesAt
+returns c = rw (sym (c .before .before .field-if .ensures) ∙ c .enum-told .given .1)
+
+slice-aggregate-field-if-2 : tie.Need-slice-aggregate-field-if-2
+slice-aggregate-field-if-2 c = search needs
+
+field-if-requires-2 : tie.Need-field-if-requires-2
+field-if-requires-2 c κs = search needs
+
+enum-known-id : tie.Need-enum-known-id
+enum-known-id c = search needs
+
+enum-told-2 : tie.Need-enum-told-2
+enum-told-2 c = search needs
+
+returns-2 : tie.Need-returns-2
+unfolding fieldsAt fieldRules linesAt
+returns-2 c =
+    let slot-read = c .before .before .before .before .before in
+    rw (
+      sym (slot-read .before .before .field-if .ensures) ∙ slot-read .slot .given .1,
+      sym (c .before .before .field-if2 .ensures) ∙ c .enum-told2 .given .1,
+    )
+
+field-if-requires-3 : tie.Need-field-if-requires-3
+field-if-requires-3 c κs = search needs
+
+enum-known-third : tie.Need-enum-known-third
+enum-known-third c = search needs
+
+enum-told-3 : tie.Need-enum-told-3
+enum-told-3 c = search needs
+
+returns-3 : tie.Need-returns-3
+unfolding fieldsAt fieldRules linesAt
+returns-3 c =
+    let id-read = c .before .before .before .before in
+    let slot-read = id-read .before .before .before .before .before in
+    rw (
+      sym (slot-read .before .before .field-if .ensures) ∙ slot-read .slot .given .1,
+      sym (id-read .before .before .field-if2 .ensures) ∙ id-read .id .given .1,
+      sym (c .before .before .field-if3 .ensures) ∙ c .enum-told3 .given .1,
+    )
+
+slice-aggregate-field-if-3 : tie.Need-slice-aggregate-field-if-3
+slice-aggregate-field-if-3 c = search needs
+
+field-if-requires-4 : tie.Need-field-if-requires-4
+field-if-requires-4 c κs = search needs
+
+enum-known-clock : tie.Need-enum-known-clock
+enum-known-clock c = search needs
+
+enum-told-4 : tie.Need-enum-told-4
+enum-told-4 c = search needs
+
+returns-4 : tie.Need-returns-4
+unfolding fieldsAt fieldRules linesAt
+returns-4 c =
+    let third-read = c .before .before .before .before .before in
+    let id-read = third-read .before .before .before .before in
+    let slot-read = id-read .before .before .before .before .before in
+    rw (
+      sym (slot-read .before .before .field-if .ensures) ∙ slot-read .slot .given .1,
+      sym (id-read .before .before .field-if2 .ensures) ∙ id-read .id .given .1,
+      sym (third-read .before .before .field-if3 .ensures) ∙ third-read .third .given .1,
+      sym (c .before .before .field-if4 .ensures) ∙ c .enum-told4 .given .1,
+    )
+
+slice-aggregate-field-if-4 : tie.Need-slice-aggregate-field-if-4
+slice-aggregate-field-if-4 c = search needs
+
+field-if-requires-5 : tie.Need-field-if-requires-5
+field-if-requires-5 c κs = search needs
+
+enum-known-sample : tie.Need-enum-known-sample
+enum-known-sample c = search needs
+
+enum-told-5 : tie.Need-enum-told-5
+enum-told-5 c = search needs
+
+returns-5 : tie.Need-returns-5
+unfolding fieldsAt fieldRules linesAt
+returns-5 c =
+    let clock-read = c .before .before .before .before .before in
+    let third-read = clock-read .before .before .before .before .before in
+    let id-read = third-read .before .before .before .before in
+    let slot-read = id-read .before .before .before .before .before in
+    rw (
+      sym (slot-read .before .before .field-if .ensures) ∙ slot-read .slot .given .1,
+      sym (id-read .before .before .field-if2 .ensures) ∙ id-read .id .given .1,
+      sym (third-read .before .before .field-if3 .ensures) ∙ third-read .third .given .1,
+      sym (clock-read .before .before .field-if4 .ensures) ∙ clock-read .clock .given .1,
+      sym (c .before .before .field-if5 .ensures) ∙ c .enum-told5 .given .1,
+    )
+
+cast-slot-no : tie.Need-cast-slot-no
+cast-slot-no c =
+    let sample-read = c .before in
+    let clock-read = sample-read .before .before .before .before .before in
+    let third-read = clock-read .before .before .before .before .before in
+    let id-read = third-read .before .before .before .before in
+    let slot-read = id-read .before .before .before .before .before in
+    omega (arith, slot-fits _ _ _ _ _ _ (sym (slot-read .before .before .field-if .ensures) ∙ slot-read .slot .given .1))
+
+returns-6 : tie.Need-returns-6
+unfolding fieldsAt fieldRules linesAt
+returns-6 c =
+    let sample-read = c .before in
+    let clock-read = sample-read .before .before .before .before .before in
+    let third-read = clock-read .before .before .before .before .before in
+    let id-read = third-read .before .before .before .before in
+    let slot-read = id-read .before .before .before .before .before in
+    rw (
+      sym (slot-read .before .before .field-if .ensures) ∙ slot-read .slot .given .1,
+      sym (id-read .before .before .field-if2 .ensures) ∙ id-read .id .given .1,
+      sym (third-read .before .before .field-if3 .ensures) ∙ third-read .third .given .1,
+      sym (clock-read .before .before .field-if4 .ensures) ∙ clock-read .clock .given .1,
+      sym (sample-read .before .before .field-if5 .ensures) ∙ sample-read .sample .given .1,
+    )
+
+pub fields-at-spec : {M : Type 1} → statement M
+fields-at-spec =
+    tie.close
+    (tie.spec
+    slice-aggregate-field-if
+    field-if-requires
+    enum-known-slot
+    enum-told
+    returns
+    slice-aggregate-field-if-2
+    field-if-requires-2
+    enum-known-id
+    enum-told-2
+    returns-2
+    field-if-requires-3
+    enum-known-third
+    enum-told-3
+    returns-3
+    slice-aggregate-field-if-3
+    field-if-requires-4
+    enum-known-clock
+    enum-told-4
+    returns-4
+    slice-aggregate-field-if-4
+    field-if-requires-5
+    enum-known-sample
+    enum-told-5
+    returns-5
+    cast-slot-no
+    returns-6)
