@@ -4,9 +4,9 @@ use Prim.Native.Nat.{ℕ, _+_, _*_, _≤_}
 use native.Mathlib.Omega.{arith}
 use mathlib.Core.Path.{_≡_, refl, ap, _∙_}
 use mathlib.Core.List.{List}
-use mathlib.Core.Option.{some}
 use lib.ListN.{length}
 use borrow.Author.Tests.{le-ltb}
+use Rattle.grammar.specs.Names.{Named, nameAt}
 use Rattle.grammar.specs.Items.{Is, Broken, Found, Items, Breaks, withFirst, foundFrom}
 use Rattle.grammar.specs.Texts.{Kind, longest, under, readText, Count, Many, Refused, counted, countText}
 use Rattle.grammar.proofs.Facts.{Laws}
@@ -25,9 +25,9 @@ module _ {H I : Type 0} (t : Kind H I) (laws : Laws t) (s : List ℕ) (h : H) wh
   none-before (Items xs) = ap (Many h) (omega arith)
   none-before (Breaks k) = refl
 
-  pub counting-start : length s ≤ longest → t .headOf s ≡ some h → Counting (length (t .first h)) 0
+  pub counting-start : (e : ℕ) → length s ≤ longest → nameAt (t .heads) s 0 ≡ Named h e → Counting e 0
   unfolding countText readText
-  counting-start l q = rw (le-ltb longest (length s) l, q) (none-before (foundFrom (t .form h) s (length (t .first h)) 1))
+  counting-start e l q = rw (le-ltb longest (length s) l, q) (none-before (foundFrom (t .form h) s e 1))
 
   one-before : (n : ℕ) (x : I) (y : Found I) → countFrom h n (withFirst x y) ≡ countFrom h (n + 1) y
   one-before n x (Items xs) = ap (Many h) (omega arith)

@@ -3,13 +3,12 @@ use Prim.Native.Nat.{ℕ, _+_, _≤_, _<_}
 use mathlib.Core.Path.{_≡_}
 use mathlib.Core.Bool.{true}
 use mathlib.Core.List.{List, [], _∷_, _++_}
-use mathlib.Core.Option.{some}
 use lib.ListN.{length, take, drop}
-use Rattle.text.specs.Bytes.{starts}
 use Rattle.text.specs.Line.{joined, oneLine}
 use Rattle.text.proofs.Places.{There}
 use Rattle.grammar.specs.Items.{Form, Is, Broken, itemText}
 use Rattle.grammar.specs.Texts.{Kind}
+use Rattle.grammar.proofs.Names.{NameLaws}
 
 -- lines, each of which ends in a newline and has no other
 pub data AllLines : List (List ℕ) → Type 0 where
@@ -52,11 +51,9 @@ pub record Facts {I : Type 0} (f : Form I) : Type 0 where
       → drop at s ≡ joined (take j (f .lines x)) ++ rest → f .at s at ≡ Broken k → j < k
   pub six : (x : I) → SixLines (f .lines x)
 
--- of a kind of text: the first line that a text has is the one that is found, and the items under each are as above
+-- of a kind of text: a first line is known where it stands, and the items under it are as above
 pub record Laws {H I : Type 0} (t : Kind H I) : Type 0 where
   -- one of the first lines, where there is no text to find one in
   pub any : H
-  pub head-stands : (s : List ℕ) (h : H) → t .headOf s ≡ some h → starts (t .first h) s ≡ true
-  pub stands-head : (s : List ℕ) (h : H) → starts (t .first h) s ≡ true → t .headOf s ≡ some h
-  pub first-line : (h : H) → oneLine (t .first h) ≡ true
+  pub heads : NameLaws (t .heads)
   pub facts : (h : H) → Facts (t .form h)

@@ -5,19 +5,17 @@ use native.Mathlib.Nat.{zero-add}
 use mathlib.Core.Path.{_≡_, refl, sym, ap, _∙_}
 use mathlib.Core.List.{List, [], _∷_, _++_}
 use mathlib.Core.Bool.{Bool, true, false, cond}
-use mathlib.Core.Option as option
-use mathlib.Core.Option.{Option}
 use lib.Dec.{ltb}
 use lib.ListN.{length, drop, length-append}
 use lib.Seq.{drop-length}
 use borrow.Author.Tests.{le-ltb, ltb-false}
-use Rattle.text.specs.Bytes.{starts}
 use Rattle.text.specs.Line.{joined}
-use Rattle.text.proofs.Bytes.{starts-of, starts-text}
-use Rattle.text.proofs.Places.{rest-of}
+use Rattle.text.proofs.Places.{rest-of, There}
 use Rattle.text.proofs.Lines.{joined-append}
 use Rattle.grammar.specs.Items.{Is, Form, itemText, linesOf, AllGood, none, also, Found, Items, Breaks, withFirst, foundFrom}
-use Rattle.grammar.specs.Texts.{Kind, longest, textLines, wholeText, Read, Whole, Broken, under, onHead, readText}
+use Rattle.grammar.specs.Texts.{Kind, firstLine, longest, textLines, wholeText, Read, Whole, Broken, under, onHead, readText}
+use Rattle.grammar.specs.Names.{NameAt, Named, Unknown, nameAt}
+use Rattle.grammar.proofs.Names.{line-of, line-there}
 use Rattle.grammar.proofs.Facts.{AllLines, SixLines, Facts, Laws}
 use Rattle.grammar.proofs.Facts.{none as no-line, also as one-more}
 use Rattle.grammar.proofs.Walk.{no-items, found-end, found-next, Past, along, At, ended, broke, went, look}
@@ -86,47 +84,53 @@ module _ {H I : Type 0} (t : Kind H I) (laws : Laws t) where
   pub no-whole : (k : ℕ) (h : H) (xs : List I) → Broken k ≡ Whole h xs → ⊥
   no-whole k h xs e = let z : _≡_ {A = ℕ} 0 1 = cc in omega arith
 
-  text-is : (h : H) (xs : List I) → wholeText t h xs ≡ t .first h ++ joined (linesOf (t .form h) xs)
+  text-is : (h : H) (xs : List I) → wholeText t h xs ≡ firstLine t h ++ joined (linesOf (t .form h) xs)
   unfolding wholeText textLines joined
   text-is h xs = refl
 
   pub text-length : (h : H) (xs : List I)
-      → length (t .first h) + length (joined (linesOf (t .form h) xs)) ≡ length (wholeText t h xs)
-  text-length h xs = sym (ap length (text-is h xs) ∙ length-append (t .first h) (joined (linesOf (t .form h) xs)))
+      → length (firstLine t h) + length (joined (linesOf (t .form h) xs)) ≡ length (wholeText t h xs)
+  text-length h xs = sym (ap length (text-is h xs) ∙ length-append (firstLine t h) (joined (linesOf (t .form h) xs)))
+
+  -- a first line is known where it stands, and what is known as one stands there
+  pub head-of : (s : List ℕ) (h : H) (rest : List ℕ) → s ≡ firstLine t h ++ rest → nameAt (t .heads) s 0 ≡ Named h (length (firstLine t h))
+  unfolding firstLine
+  head-of s h rest e = line-of (t .heads) (laws .heads) s 0 h rest e ∙ ap (Named h) (zero-add (length (firstLine t h)))
+
+  pub head-there : (s : List ℕ) (h : H) (e : ℕ) → nameAt (t .heads) s 0 ≡ Named h e → There s 0 (firstLine t h) e
+  unfolding firstLine
+  head-there s h e = line-there (t .heads) (laws .heads) s 0 h e
 
   -- what is accepted is the text of its first line and its items
   pub record Accepted (s : List ℕ) (h : H) (xs : List I) : Type 0 where
     pub text : s ≡ wholeText t h xs
     pub good : AllGood (t .form h) xs
     pub short : length s ≤ longest
-    pub head : t .headOf s ≡ option.some h
-    pub found : foundFrom (t .form h) s (length (t .first h)) 1 ≡ Items xs
+    pub found : foundFrom (t .form h) s (length (firstLine t h)) 1 ≡ Items xs
 
   pub accepted : (s : List ℕ) (h : H) (xs : List I) → readText t s ≡ Whole h xs → Accepted s h xs
   unfolding readText
-  accepted s h xs = go (ltb longest (length s)) refl (t .headOf s) refl
+  accepted s h xs = go (ltb longest (length s)) refl (nameAt (t .heads) s 0) refl
     where
-      rest : (g : H) (x : Found I) → ltb longest (length s) ≡ false → t .headOf s ≡ option.some g
-          → foundFrom (t .form g) s (length (t .first g)) 1 ≡ x → under g x ≡ Whole h xs → Accepted s h xs
-      rest g (Breaks k) p q r e = absurd (no-whole k h xs e)
-      rest g (Items ys) p q r e =
+      rest : (g : H) (e : ℕ) (x : Found I) → ltb longest (length s) ≡ false → There s 0 (firstLine t g) e
+          → foundFrom (t .form g) s e 1 ≡ x → under g x ≡ Whole h xs → Accepted s h xs
+      rest g e (Breaks k) p q r c = absurd (no-whole k h xs c)
+      rest g e (Items ys) p q r c =
           let same : g ≡ h = cc in
           let all : ys ≡ xs = cc in
-          let w = rest-text (t .form g) (laws .facts g) s (length (t .first g)) 1 ys r in
-          let first = starts-text (t .first g) s (laws .head-stands s g q) in
+          let w = rest-text (t .form g) (laws .facts g) s e 1 ys r in
           rw (← same, ← all) (record {
-            text = first ∙ ap (λ (z : List ℕ). t .first g ++ z) (w .text) ∙ sym (text-is g ys);
+            text = q .text ∙ ap (λ (z : List ℕ). firstLine t g ++ z) (w .text) ∙ sym (text-is g ys);
             good = w .good;
             short = ltb-false longest (length s) p;
-            head = q;
-            found = r;
+            found = rw (q .past ∙ zero-add (length (firstLine t g))) at r;
           })
 
-      go : (b : Bool) → ltb longest (length s) ≡ b → (o : Option H) → t .headOf s ≡ o
-          → cond b (Broken 0) (onHead o (λ g. under g (foundFrom (t .form g) s (length (t .first g)) 1))) ≡ Whole h xs → Accepted s h xs
-      go true p o q e = absurd (no-whole 0 h xs e)
-      go false p option.none q e = absurd (no-whole 1 h xs e)
-      go false p (option.some g) q e = rest g (foundFrom (t .form g) s (length (t .first g)) 1) p q refl e
+      go : (b : Bool) → ltb longest (length s) ≡ b → (n : NameAt H) → nameAt (t .heads) s 0 ≡ n
+          → cond b (Broken 0) (onHead n (λ g e. under g (foundFrom (t .form g) s e 1))) ≡ Whole h xs → Accepted s h xs
+      go true p n q c = absurd (no-whole 0 h xs c)
+      go false p Unknown q c = absurd (no-whole 1 h xs c)
+      go false p (Named g e) q c = rest g e (foundFrom (t .form g) s e 1) p (head-there s g e q) refl c
 
   -- the text of a first line and good items, if it is not too long, is accepted as them
   pub accepts : (h : H) (xs : List I) → AllGood (t .form h) xs → length (wholeText t h xs) ≤ longest
@@ -135,10 +139,9 @@ module _ {H I : Type 0} (t : Kind H I) (laws : Laws t) where
   accepts h xs g l =
       let s = wholeText t h xs in
       let u = joined (linesOf (t .form h) xs) in
-      let head = laws .stands-head s h (rw (text-is h xs) (starts-of (t .first h) u)) in
-      let past = rw zero-add at (rest-of s (t .first h) u 0 (text-is h xs)) in
-      let found = rest-found (t .form h) (laws .facts h) xs s (length (t .first h)) 1 g past (text-length h xs) in
-      rw (le-ltb longest (length s) l, head, found)
+      let past = rw zero-add at (rest-of s (firstLine t h) u 0 (text-is h xs)) in
+      let found = rest-found (t .form h) (laws .facts h) xs s (length (firstLine t h)) 1 g past (text-length h xs) in
+      rw (le-ltb longest (length s) l, head-of s h u (text-is h xs), found)
 
   -- so no two first lines and lists of items have one text
   pub one-text : (h g : H) (xs ys : List I) → AllGood (t .form h) xs → AllGood (t .form g) ys → length (wholeText t h xs) ≤ longest
@@ -147,5 +150,5 @@ module _ {H I : Type 0} (t : Kind H I) (laws : Laws t) where
 
   -- each line of a text is one line
   pub text-one : (h : H) (xs : List I) → AllLines (textLines t h xs)
-  unfolding textLines
-  text-one h xs = one-more (laws .first-line h) (lines-one (t .form h) (laws .facts h) xs)
+  unfolding textLines firstLine
+  text-one h xs = one-more (laws .heads .one h) (lines-one (t .form h) (laws .facts h) xs)

@@ -3,75 +3,22 @@ use Prim.Native.Nat.{ℕ, zero, suc, _+_, _≤_, _<_}
 use native.Mathlib.Omega.{arith}
 use mathlib.Core.Path.{_≡_, refl, sym, ap, subst, _∙_}
 use mathlib.Core.List.{List, [], _∷_, _++_, append-assoc}
-use mathlib.Core.Bool.{Bool, true, false, cond, false≢true}
+use mathlib.Core.Bool.{Bool, true, false, cond}
 use lib.ListN.{length, take, drop, length-append, length-drop}
-use Rattle.text.specs.Bytes.{starts}
 use Rattle.text.specs.Keys.{slotKey, idKey, clockKey, sampleKey}
 use Rattle.text.specs.Line.{joined, oneLine, lineTexts}
 use Rattle.text.specs.FiveLines.{valuesOf, fieldRules, Fits, fiveLines, fieldsAt}
 use Rattle.text.specs.declared.Values.{Values}
 use Rattle.text.specs.declared.Fields.{Fields}
 use Rattle.text.specs.declared.Fields.the-variants as fields
-use Rattle.text.proofs.Bytes.{starts-of}
-use Rattle.text.proofs.Places.{rest-of, There, then, key-there}
+use Rattle.text.proofs.Places.{rest-of, There, then}
 use Rattle.text.proofs.Lines.{line-one}
 use Rattle.text.proofs.FiveLines.{zeros-fit, fields-of, fields-text, fields-open, fields-late}
 use Rattle.grammar.specs.Items.{ItemAt, Is, Broken, Form, itemText}
-use Rattle.grammar.specs.Named.{Names, nameLine, NameAt, Named, Unknown, firstNamed, nameAt}
+use Rattle.grammar.specs.Names.{Names, nameLine, NameAt, Named, Unknown, nameAt}
 use Rattle.grammar.specs.Named.{Shape, onName, onFields, itemAt, sixLines, Expressed, formOf}
+use Rattle.grammar.proofs.Names.{NameLaws, line-of, line-there, line-length}
 use Rattle.grammar.proofs.Facts.{AllLines, none, also, Written, BrokenOff, SixLines, Facts}
-
--- what has to be proved of the names: each is found where it stands, and its line is one line
-pub record NameLaws {K : Type 0} (w : Names K) : Type 0 where
-  pub found : (k : K) (s : List ℕ) (at : ℕ) (rest : List ℕ) → drop at s ≡ w .name k ++ rest
-      → firstNamed (w .name) (w .kinds) s at ≡ Named k (at + length (w .name k))
-  pub one : (k : K) → oneLine (nameLine w k) ≡ true
-
-module _ {K : Type 0} (w : Names K) (laws : NameLaws w) where
-  name-there : (ks : List K) (s : List ℕ) (at : ℕ) (k : K) (e : ℕ) → firstNamed (w .name) ks s at ≡ Named k e → There s at (w .name k) e
-  unfolding firstNamed
-  name-there [] s at k e h = absurd (let z : _≡_ {A = ℕ} 0 1 = cc in omega arith)
-  name-there (p ∷ ks) s at k e h = go (starts (w .name p) (drop at s)) refl (name-there ks s at k e) h
-    where
-      go : (x : Bool) → starts (w .name p) (drop at s) ≡ x → (firstNamed (w .name) ks s at ≡ Named k e → There s at (w .name k) e)
-          → cond x (Named p (at + length (w .name p))) (firstNamed (w .name) ks s at) ≡ Named k e → There s at (w .name k) e
-      go false q ih h = ih h
-      go true q ih h =
-          let same : p ≡ k = cc in
-          let past : at + length (w .name p) ≡ e = cc in
-          rw (past, same) at (key-there s at (w .name p) q)
-
-  pub line-of : (s : List ℕ) (at : ℕ) (k : K) (rest : List ℕ) → drop at s ≡ nameLine w k ++ rest
-      → nameAt w s at ≡ Named k (at + length (nameLine w k))
-  unfolding nameAt nameLine
-  line-of s at k rest e =
-      let e' : drop at s ≡ w .key ++ (w .name k ++ rest) = e ∙ append-assoc (w .key) (w .name k) rest in
-      let key : starts (w .key) (drop at s) ≡ true = rw e' (starts-of (w .key) (w .name k ++ rest)) in
-      rw (key, laws .found k s (at + length (w .key)) rest (rest-of s (w .key) (w .name k ++ rest) at e'))
-      (ap (Named k) (simp length-append (omega arith)))
-
-  pub no-name : (k : K) (e : ℕ) → Unknown ≡ Named k e → ⊥
-  no-name k e h = let z : _≡_ {A = ℕ} 0 1 = cc in omega arith
-
-  pub line-there : (s : List ℕ) (at : ℕ) (k : K) (e : ℕ) → nameAt w s at ≡ Named k e → There s at (nameLine w k) e
-  unfolding nameAt nameLine
-  line-there s at k e = go (starts (w .key) (drop at s)) refl
-    where
-      past : ℕ
-      past = at + length (w .key)
-
-      go : (b : Bool) → starts (w .key) (drop at s) ≡ b → cond b (firstNamed (w .name) (w .kinds) s past) Unknown ≡ Named k e
-          → There s at (nameLine w k) e
-      go false q h = absurd (no-name k e h)
-      go true q h = then s at (w .key) past (w .name k) e (key-there s at (w .key) q) (name-there (w .kinds) s past k e h)
-
-  -- a line that ends in a newline has a byte
-  pub line-length : (k : K) → 0 < length (nameLine w k)
-  line-length k = go (nameLine w k) (laws .one k)
-    where
-      go : (l : List ℕ) → oneLine l ≡ true → 0 < length l
-      go [] h = absurd (false≢true (unfold oneLine in h))
-      go (b ∷ l) h = omega arith
 
 -- what has to be proved of a shape: an item is its kind and its numbers, and the fourth key has no newline
 pub record ShapeLaws {K I : Type 0} (w : Shape K I) : Type 0 where

@@ -7,23 +7,21 @@ use native.Mathlib.Numerals.{add-one}
 use mathlib.Core.Path.{_≡_, refl, sym, ap, _∙_}
 use mathlib.Core.List.{List, [], _∷_, _++_, append-assoc}
 use mathlib.Core.Bool.{Bool, true, false, cond}
-use mathlib.Core.Option as option
-use mathlib.Core.Option.{Option}
 use lib.Dec.{ltb}
 use lib.ListN.{length, take, drop, length-append, take-append-drop}
 use lib.Seq.{take-append-add, take-append-le, take-take}
 use borrow.Author.Tests.{lt-ltb, le-ltb}
-use Rattle.text.specs.Bytes.{starts}
 use Rattle.text.specs.Line.{joined}
-use Rattle.text.proofs.Bytes.{starts-of, starts-text}
-use Rattle.text.proofs.Places.{rest-of}
+use Rattle.text.proofs.Places.{rest-of, There}
 use Rattle.text.proofs.Lines.{joined-append}
+use Rattle.grammar.specs.Names.{NameAt, Named, Unknown, nameAt}
 use Rattle.grammar.specs.Items.{Is, Form, itemText, linesOf, AllGood, none, also, Found, Items, Breaks, withFirst, foundFrom}
-use Rattle.grammar.specs.Texts.{Kind, longest, textLines, wholeText, Read, Whole, Broken, under, onHead, readText}
+use Rattle.grammar.specs.Texts.{Kind, firstLine, longest, textLines, wholeText, Read, Whole, Broken, under, onHead, readText}
 use Rattle.grammar.specs.Texts.{Opens, FirstBroken}
+use Rattle.grammar.proofs.Names.{no-name}
 use Rattle.grammar.proofs.Facts.{Facts, Laws}
 use Rattle.grammar.proofs.Walk.{no-items, found-next, Past, along, At, ended, broke, went, look}
-use Rattle.grammar.proofs.Grammar.{accepted}
+use Rattle.grammar.proofs.Grammar.{head-of, head-there, accepted}
 
 module _ {I : Type 0} (f : Form I) (facts : Facts f) where
   -- the first lines of an item and of those after it
@@ -146,42 +144,38 @@ module _ {H I : Type 0} (t : Kind H I) (laws : Laws t) where
   opens-none s = record { head = laws .any; items = []; good = none; enough = omega arith; rest = s; text = refl }
 
   opens-text : (k : ℕ) (s : List ℕ) (o : Opens t (suc k) s)
-      → s ≡ t .first (o .head) ++ (joined (take k (linesOf (t .form (o .head)) (o .items))) ++ o .rest)
+      → s ≡ firstLine t (o .head) ++ (joined (take k (linesOf (t .form (o .head)) (o .items))) ++ o .rest)
   unfolding textLines joined
-  opens-text k s o = o .text ∙ append-assoc (t .first (o .head)) (joined (take k (linesOf (t .form (o .head)) (o .items)))) (o .rest)
+  opens-text k s o = o .text ∙ append-assoc (firstLine t (o .head)) (joined (take k (linesOf (t .form (o .head)) (o .items)))) (o .rest)
 
-  opens-head : (k : ℕ) (s : List ℕ) (o : Opens t (suc k) s) → t .headOf s ≡ option.some (o .head)
-  opens-head k s o =
-      let later = joined (take k (linesOf (t .form (o .head)) (o .items))) ++ o .rest in
-      laws .stands-head s (o .head) (rw (opens-text k s o) (starts-of (t .first (o .head)) later))
+  opens-head : (k : ℕ) (s : List ℕ) (o : Opens t (suc k) s) → nameAt (t .heads) s 0 ≡ Named (o .head) (length (firstLine t (o .head)))
+  opens-head k s o = head-of t laws s (o .head) (joined (take k (linesOf (t .form (o .head)) (o .items))) ++ o .rest) (opens-text k s o)
 
   late : (k : ℕ) (s : List ℕ) (o : Opens t (suc k) s)
-      → foundFrom (t .form (o .head)) s (length (t .first (o .head))) 1 ≡ Breaks (suc k) → ⊥
+      → foundFrom (t .form (o .head)) s (length (firstLine t (o .head))) 1 ≡ Breaks (suc k) → ⊥
   unfolding textLines
   late k s o h =
       let f = t .form (o .head) in
-      let first = t .first (o .head) in
+      let first = firstLine t (o .head) in
       let u = joined (take k (linesOf f (o .items))) in
       let past = rw zero-add at (rest-of s first (u ++ o .rest) 0 (opens-text k s o)) in
       let more = o .enough in
       omega (arith, late-from f (laws .facts (o .head)) (o .items) s (length first) 1 (suc k) k (o .rest) (o .good) (omega arith) past h)
 
-  from-head : (h : H) (k : ℕ) (s : List ℕ) → t .headOf s ≡ option.some h
-      → foundFrom (t .form h) s (length (t .first h)) 1 ≡ Breaks (suc k) → Opens t k s
+  from-head : (h : H) (e k : ℕ) (s : List ℕ) → There s 0 (firstLine t h) e → foundFrom (t .form h) s e 1 ≡ Breaks (suc k) → Opens t k s
   unfolding textLines joined
-  from-head h k s q e =
-      let first = t .first h in
-      let w = broke-from (t .form h) (laws .facts h) s (length first) 1 (suc k) e in
+  from-head h e k s q c =
+      let first = firstLine t h in
+      let w = broke-from (t .form h) (laws .facts h) s e 1 (suc k) c in
       let u = joined (take (w .before) (linesOf (t .form h) (w .items))) in
       let same : k ≡ suc (w .before) = omega (arith, w .which) in
-      let stands = starts-text first s (laws .head-stands s h q) in
       rw same (record {
         head = h;
         items = w .items;
         good = w .good;
         enough = omega (arith, w .enough);
         rest = w .rest;
-        text = stands ∙ ap (λ (z : List ℕ). first ++ z) (w .text) ∙ sym (append-assoc first u (w .rest));
+        text = q .text ∙ ap (λ (z : List ℕ). first ++ z) (w .text) ∙ sym (append-assoc first u (w .rest));
       })
 
   -- the first lines of a text begin with fewer of them, so only one line can be the first
@@ -220,42 +214,48 @@ module _ {H I : Type 0} (t : Kind H I) (laws : Laws t) where
   -- the line that a refusal names is the first that breaks a rule
   pub first-broken : (s : List ℕ) (k : ℕ) → readText t s ≡ Broken (suc k) → FirstBroken t k s
   unfolding readText
-  first-broken s k = go (ltb longest (length s)) (t .headOf s) refl
+  first-broken s k = go (ltb longest (length s)) (nameAt (t .heads) s 0) refl
     where
-      no-head : (o : Opens t 1 s) → option.none ≡ t .headOf s → ⊥
-      no-head o q = option.Option·none-ne-some (o .head) (q ∙ opens-head 0 s o)
+      no-head : Opens t 1 s → nameAt (t .heads) s 0 ≡ Unknown → ⊥
+      no-head o q = no-name (o .head) (length (firstLine t (o .head))) (sym q ∙ opens-head 0 s o)
 
-      found : (h : H) (x : Found I) → t .headOf s ≡ option.some h
-          → foundFrom (t .form h) s (length (t .first h)) 1 ≡ x → under h x ≡ Broken (suc k) → FirstBroken t k s
-      found h (Items xs) q r e = absurd (let z : _≡_ {A = ℕ} 0 1 = cc in omega arith)
-      found h (Breaks j) q r e =
+      other : (h : H) (e : ℕ) → nameAt (t .heads) s 0 ≡ Named h e → foundFrom (t .form h) s e 1 ≡ Breaks (suc k) → Opens t (suc k) s → ⊥
+      other h e q r o =
+          let one : Named h e ≡ Named (o .head) (length (firstLine t (o .head))) = sym q ∙ opens-head k s o in
+          let same : h ≡ o .head = cc in
+          let past : e ≡ length (firstLine t (o .head)) = cc in
+          late k s o (rw (same, past) at r)
+
+      found : (h : H) (e : ℕ) (x : Found I) → nameAt (t .heads) s 0 ≡ Named h e
+          → foundFrom (t .form h) s e 1 ≡ x → under h x ≡ Broken (suc k) → FirstBroken t k s
+      found h e (Items xs) q r c = absurd (let z : _≡_ {A = ℕ} 0 1 = cc in omega arith)
+      found h e (Breaks j) q r c =
           let same : j ≡ suc k = cc in
           let breaks = r ∙ ap Breaks same in
-          let one : (o : Opens t (suc k) s) → h ≡ o .head = λ o. option.Option·some-injective h (o .head) (sym q ∙ opens-head k s o) in
-          record { before = from-head h k s q breaks; broken = λ o. let o' = rw add-one at o in late k s o' (rw (one o') at breaks) }
+          record { before = from-head h e k s (head-there t laws s h e q) breaks; broken = λ o. other h e q breaks (rw add-one at o) }
 
-      go : (b : Bool) (o : Option H) → t .headOf s ≡ o
-          → cond b (Broken 0) (onHead o (λ h. under h (foundFrom (t .form h) s (length (t .first h)) 1))) ≡ Broken (suc k) → FirstBroken t k s
-      go true o q e = absurd (let z : 0 ≡ suc k = cc in omega arith)
-      go false option.none q e =
+      go : (b : Bool) (n : NameAt H) → nameAt (t .heads) s 0 ≡ n
+          → cond b (Broken 0) (onHead n (λ h e. under h (foundFrom (t .form h) s e 1))) ≡ Broken (suc k) → FirstBroken t k s
+      go true n q c = absurd (let z : 0 ≡ suc k = cc in omega arith)
+      go false Unknown q c =
           let z : 1 ≡ suc k = cc in
           let none : k ≡ 0 = omega arith in
-          rw none (record { before = opens-none s; broken = λ o. no-head o (sym q) })
-      go false (option.some h) q e = found h (foundFrom (t .form h) s (length (t .first h)) 1) q refl e
+          rw none (record { before = opens-none s; broken = λ o. no-head o q })
+      go false (Named h e) q c = found h e (foundFrom (t .form h) s e 1) q refl c
 
   too-long : (s : List ℕ) → readText t s ≡ Broken 0 → length s ≤ longest → ⊥
   unfolding readText
-  too-long s h l = go (t .headOf s) (rw (le-ltb longest (length s) l) at h)
+  too-long s h l = go (nameAt (t .heads) s 0) (rw (le-ltb longest (length s) l) at h)
     where
-      found : (h : H) (x : Found I) → foundFrom (t .form h) s (length (t .first h)) 1 ≡ x → under h x ≡ Broken 0 → ⊥
-      found h (Items xs) r e = let z : _≡_ {A = ℕ} 0 1 = cc in omega arith
-      found h (Breaks j) r e =
+      found : (h : H) (e : ℕ) (x : Found I) → foundFrom (t .form h) s e 1 ≡ x → under h x ≡ Broken 0 → ⊥
+      found h e (Items xs) r c = let z : _≡_ {A = ℕ} 0 1 = cc in omega arith
+      found h e (Breaks j) r c =
           let same : j ≡ 0 = cc in
-          omega (arith, broke-from (t .form h) (laws .facts h) s (length (t .first h)) 1 j r .which)
+          omega (arith, broke-from (t .form h) (laws .facts h) s e 1 j r .which)
 
-      go : (o : Option H) → onHead o (λ h. under h (foundFrom (t .form h) s (length (t .first h)) 1)) ≡ Broken 0 → ⊥
-      go option.none e = let z : _≡_ {A = ℕ} 1 0 = cc in omega arith
-      go (option.some h) e = found h (foundFrom (t .form h) s (length (t .first h)) 1) refl e
+      go : (n : NameAt H) → onHead n (λ h e. under h (foundFrom (t .form h) s e 1)) ≡ Broken 0 → ⊥
+      go Unknown c = let z : _≡_ {A = ℕ} 1 0 = cc in omega arith
+      go (Named h e) c = found h e (foundFrom (t .form h) s e 1) refl c
 
   -- a text that is not too long and is none of this kind is refused at exactly its first broken line
   pub refused : (s : List ℕ) (k : ℕ) → length s ≤ longest

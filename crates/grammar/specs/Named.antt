@@ -1,38 +1,15 @@
 -- An item of six lines: a line that names its kind, and five lines of numbers. What is read of a text, and the item's lines.
-use Prim.Native.Nat.{ℕ, _+_}
+use Prim.Native.Nat.{ℕ}
 use mathlib.Core.Path.{_≡_}
 use mathlib.Core.Bool.{Bool, true, cond}
-use mathlib.Core.List.{List, [], _∷_, _++_}
-use lib.ListN.{length, drop}
-use Rattle.text.specs.Bytes.{starts}
+use mathlib.Core.List.{List, _∷_}
 use Rattle.text.specs.FiveLines.{Fits, fiveLines, fieldsAt}
 use Rattle.text.specs.declared.Reads.{Reads}
 use Rattle.text.specs.declared.Values.{Values}
 use Rattle.text.specs.declared.Fields.{Fields}
 use Rattle.text.specs.declared.Fields.the-variants as fields
+use Rattle.grammar.specs.Names.{Names, nameLine, NameAt, Named, Unknown, nameAt}
 use Rattle.grammar.specs.Items.{ItemAt, Is, Broken, Form}
-
--- the key of the line that names a kind, the kinds and their names, each with its newline
-pub record Names (K : Type 0) : Type 0 where
-  pub key : List ℕ
-  pub kinds : List K
-  pub name : K → List ℕ
-
-unfoldable pub nameLine : {K : Type 0} → Names K → K → List ℕ
-nameLine w k = w .key ++ w .name k
-
--- the kind that is named at a place, with the place past its line, or none
-pub data NameAt (K : Type 0) : Type 0 where
-  Named : K → ℕ → NameAt K
-  Unknown : NameAt K
-
--- the first of some kinds whose name stands at `at`
-unfoldable pub firstNamed : {K : Type 0} → (K → List ℕ) → List K → List ℕ → ℕ → NameAt K
-firstNamed name [] s at = Unknown
-firstNamed name (k ∷ ks) s at = cond (starts (name k) (drop at s)) (Named k (at + length (name k))) (firstNamed name ks s at)
-
-unfoldable pub nameAt : {K : Type 0} → Names K → List ℕ → ℕ → NameAt K
-nameAt w s at = cond (starts (w .key) (drop at s)) (firstNamed (w .name) (w .kinds) s (at + length (w .key))) Unknown
 
 -- items of some kinds: the key of the fourth line, the numbers that each kind reads, and an item as its kind and its numbers
 pub record Shape (K I : Type 0) : Type 0 where

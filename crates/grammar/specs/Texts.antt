@@ -3,17 +3,19 @@ use Prim.Native.Nat.{ℕ, _+_, _≤_}
 use mathlib.Core.Path.{_≡_}
 use mathlib.Core.Bool.{cond}
 use mathlib.Core.List.{List, [], _∷_, _++_}
-use mathlib.Core.Option.{Option, none, some}
 use lib.Dec.{ltb}
 use lib.ListN.{length, take}
 use Rattle.text.specs.Line.{joined}
+use Rattle.grammar.specs.Names.{Names, nameLine, NameAt, Named, Unknown, nameAt}
 use Rattle.grammar.specs.Items.{Form, Found, Items, Breaks, linesOf, AllGood, foundFrom}
 
--- a kind of text: its first lines, each with its newline, which of them a text has, and the items that may follow it
+-- a kind of text: the first lines that are known, and the items that may follow each
 pub record Kind (H I : Type 0) : Type 1 where
-  pub first : H → List ℕ
-  pub headOf : List ℕ → Option H
+  pub heads : Names H
   pub form : H → Form I
+
+unfoldable pub firstLine : {H I : Type 0} → Kind H I → H → List ℕ
+firstLine t h = nameLine (t .heads) h
 
 -- the most bytes that a text may have
 abbrev pub longest : ℕ
@@ -21,7 +23,7 @@ longest = 65536
 
 -- the lines of a text, and the text
 unfoldable pub textLines : {H I : Type 0} → Kind H I → H → List I → List (List ℕ)
-textLines t h xs = t .first h ∷ linesOf (t .form h) xs
+textLines t h xs = firstLine t h ∷ linesOf (t .form h) xs
 
 unfoldable pub wholeText : {H I : Type 0} → Kind H I → H → List I → List ℕ
 wholeText t h xs = joined (textLines t h xs)
@@ -35,16 +37,16 @@ abbrev pub under : {H I : Type 0} → H → Found I → Read H I
 under h (Items xs) = Whole h xs
 under h (Breaks k) = Broken k
 
-abbrev pub onHead : {H I : Type 0} → Option H → (H → Read H I) → Read H I
-onHead none f = Broken 1
-onHead (some h) f = f h
+abbrev pub onHead : {H I : Type 0} → NameAt H → (H → ℕ → Read H I) → Read H I
+onHead (Named h e) f = f h e
+onHead Unknown f = Broken 1
 
 -- the length is tested first, then the first line
 unfoldable pub readText : {H I : Type 0} → Kind H I → List ℕ → Read H I
 readText t s =
     cond (ltb longest (length s))
     (Broken 0)
-    (onHead (t .headOf s) (λ h. under h (foundFrom (t .form h) s (length (t .first h)) 1)))
+    (onHead (nameAt (t .heads) s 0) (λ h e. under h (foundFrom (t .form h) s e 1)))
 
 -- the same, with the number of the items in their place
 pub data Count (H : Type 0) : Type 0 where
