@@ -196,3 +196,13 @@ module _ {K I : Type 0} (w : Shape K I) (laws : ShapeLaws w) (allowed : K → Bo
     item-late = item-late some is;
     six = six;
   }
+
+-- what is read where fewer kinds are allowed is read where more are
+module _ {K I : Type 0} (w : Shape K I) (laws : ShapeLaws w) (allowed more : K → Bool) where
+  pub form-wider : ((k : K) → allowed k ≡ true → more k ≡ true)
+      → (s : List ℕ) (at : ℕ) (x : I) (e : ℕ) → itemAt w allowed s at ≡ Is x e → itemAt w more s at ≡ Is x e
+  unfolding itemText
+  form-wider wide s at x e h =
+      let t = item-text w laws allowed s at x e h in
+      let good : Expressed w more x = record { permitted = wide (w .kind x) (t .good .permitted); fits = t .good .fits } in
+      item-of w laws more x s at (drop e s) good (t .text .text) ∙ ap (Is x) (sym (t .text .past))
