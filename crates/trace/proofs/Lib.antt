@@ -3,3 +3,4 @@ pub mod Shape
 pub mod Loop
 pub mod Grammar
 pub mod Refusal
+mod Examples
