@@ -153,6 +153,20 @@ module _ {I : Type 0} (f : Form I) (facts : Facts f) where
           let y : _≡_ {A = ℕ} 0 1 = cc in
           absurd (omega arith)
 
+  -- no more items are left than bytes
+  pub items-inside : (s : List ℕ) (at : ℕ) → Boundary f s at → at + length (itemsFrom f s at) ≤ length s
+  items-inside s = along s Inside (λ at ih h. go at ih h (look s at 0))
+    where
+      Inside : ℕ → Type 0
+      Inside at = Boundary f s at → at + length (itemsFrom f s at) ≤ length s
+
+      go : (at : ℕ) → Past s Inside at → Boundary f s at → At s at 0 → at + length (itemsFrom f s at) ≤ length s
+      go at ih h (ended p q) = omega (arith, ap length (none-left s at p))
+      go at ih h (broke k p q) = absurd (no-items (0 + k) (itemsFrom f s at) (sym q ∙ h))
+      go at ih h (went x e p q) =
+          let n = next-item s at x e h p in
+          omega (arith, ih x e p (n .again), n .further, ap length (n .first))
+
 -- what is found under one form is found under a wider one
 module _ {I : Type 0} (f : Form I) (facts : Facts f) (g : Form I) (wide : Facts g) where
   abbrev pub Wider : Type 0

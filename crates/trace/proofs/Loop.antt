@@ -1,5 +1,5 @@
 -- What a loop over the records of a trace knows, wherever it stands: the grammar's laws of items, said of `record_at`'s answer.
-use Prim.Native.Nat.{ℕ, _≤_, _<_}
+use Prim.Native.Nat.{ℕ, _+_, _≤_, _<_}
 use mathlib.Core.Path.{_≡_}
 use mathlib.Core.List.{List, [], _∷_}
 use lib.ListN.{length}
@@ -41,3 +41,8 @@ module _ (s : List ℕ) (at : ℕ) where
   pub end-only : Boundary s at → recordsFrom s at ≡ [] → at ≡ length s
   unfolding recordsFrom
   end-only h none = walk.end-only anyForm any-facts s at h none
+
+  -- no more records are left than bytes
+  pub records-inside : Boundary s at → at + length (recordsFrom s at) ≤ length s
+  unfolding recordsFrom
+  records-inside h = walk.items-inside anyForm any-facts s at h

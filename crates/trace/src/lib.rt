@@ -5,6 +5,7 @@ mod versions;
 mod whole;
 
 pub use lines::record_at;
+pub use ops::reads_of;
 pub use whole::LONGEST;
 pub use whole::first_record;
 pub use whole::read_trace;
