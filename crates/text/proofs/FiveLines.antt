@@ -6,7 +6,9 @@ use mathlib.Core.List.{List, [], _++_}
 use mathlib.Core.Bool.{Bool, true, false}
 use lib.ListN.{length, take, drop}
 use Rattle.text.specs.Line.{joined, Within, none, also, Lines, Read, Breaks, lineTexts, fieldAt, linesAt}
-use Rattle.text.specs.FiveLines.{mostSlot, limit, fieldRules, numbersOf, valuesOf, Fits, fiveLines, asFields, fieldsAt}
+use Rattle.text.specs.Keys.{slotKey, idKey, clockKey, sampleKey}
+use Rattle.text.specs.FiveLines.{most, mostSlot, limit, fieldRules, numbersOf, valuesOf, Fits, fiveLines, asFields, fieldsAt}
+use Rattle.text.specs.declared.Number.{Number}
 use Rattle.text.specs.declared.Number.the-variants as number
 use Rattle.text.specs.declared.Reads.{Reads}
 use Rattle.text.specs.declared.Values.{Values}
@@ -114,3 +116,49 @@ module _ (fourth : List ℕ) (reads : Reads) where
       go (Breaks j) q h =
           let same : j ≡ k = cc in
           lines-late (fieldRules fourth reads) (numbersOf v) i s at 2 k rest w e (q ∙ ap Breaks same)
+
+-- the definition, one line at a time
+module _ (s : List ℕ) (at : ℕ) (fourth : List ℕ) (reads : Reads) where
+  abbrev pub slotAt : Number
+  slotAt = fieldAt s at slotKey (limit (reads .slot) mostSlot)
+
+  abbrev pub idAt : ℕ → Number
+  idAt a = fieldAt s a idKey (limit (reads .id) most)
+
+  abbrev pub fourthAt : ℕ → Number
+  fourthAt a = fieldAt s a fourth (limit (reads .fourth) most)
+
+  abbrev pub clockAt : ℕ → Number
+  clockAt a = fieldAt s a clockKey (limit (reads .clock) most)
+
+  abbrev pub sampleAt : ℕ → Number
+  sampleAt a = fieldAt s a sampleKey (limit (reads .clock) most)
+
+  pub broken-slot : slotAt ≡ number.Bad → fieldsAt s at fourth reads ≡ Broken 2
+  unfolding fieldsAt fieldRules linesAt
+  broken-slot x = rw x
+
+  module _ {n a : ℕ} (slot : slotAt ≡ number.Is n a) where
+    pub broken-id : idAt a ≡ number.Bad → fieldsAt s at fourth reads ≡ Broken 3
+    unfolding fieldsAt fieldRules linesAt
+    broken-id x = rw (slot, x)
+
+    module _ {i b : ℕ} (id : idAt a ≡ number.Is i b) where
+      pub broken-fourth : fourthAt b ≡ number.Bad → fieldsAt s at fourth reads ≡ Broken 4
+      unfolding fieldsAt fieldRules linesAt
+      broken-fourth x = rw (slot, id, x)
+
+      module _ {f c : ℕ} (third : fourthAt b ≡ number.Is f c) where
+        pub broken-clock : clockAt c ≡ number.Bad → fieldsAt s at fourth reads ≡ Broken 5
+        unfolding fieldsAt fieldRules linesAt
+        broken-clock x = rw (slot, id, third, x)
+
+        module _ {k d : ℕ} (clock : clockAt c ≡ number.Is k d) where
+          pub broken-sample : sampleAt d ≡ number.Bad → fieldsAt s at fourth reads ≡ Broken 6
+          unfolding fieldsAt fieldRules linesAt
+          broken-sample x = rw (slot, id, third, clock, x)
+
+          pub all-five : {m e : ℕ} → sampleAt d ≡ number.Is m e
+              → fieldsAt s at fourth reads ≡ Are (record { slot = n; id = i; fourth = f; clock = k; sample = m }) e
+          unfolding fieldsAt fieldRules linesAt
+          all-five x = rw (slot, id, third, clock, x)

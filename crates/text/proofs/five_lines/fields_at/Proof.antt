@@ -1,10 +1,8 @@
 -- `fields_at` meets its contract, line after line. A place `x-read` is where the line x was read: there its call's answer is known.
--- What the five lines are together is the definition `fieldsAt`, unfolded once for each of them.
+-- What the five lines are together, once each is known, stands in FiveLines.antt.
 use native.Mathlib.Omega.{arith}
 use mathlib.Core.Path.{sym, _∙_}
-use Rattle.text.specs.Line.{linesAt}
-use Rattle.text.specs.FiveLines.{fieldRules, fieldsAt}
-use Rattle.text.proofs.FiveLines.{slot-fits}
+use Rattle.text.proofs.FiveLines.{slot-fits, broken-slot, broken-id, broken-fourth, broken-clock, broken-sample, all-five}
 use borrow.Author.Needs.{needs}
 use Rattle.text.proofs.five_lines.fields_at.Statement.{statement}
 use Rattle.text.proofs.five_lines.fields_at.Tie as tie
@@ -22,8 +20,7 @@ enum-told : tie.Need-enum-told
 enum-told c = search needs
 
 returns : tie.Need-returns
-unfolding fieldsAt fieldRules linesAt
-returns c = rw (sym (c .before .before .field-if .ensures) ∙ c .enum-told .given .1)
+returns c = sym (broken-slot _ _ _ _ (sym (c .before .before .field-if .ensures) ∙ c .enum-told .given .1))
 
 slice-aggregate-field-if-2 : tie.Need-slice-aggregate-field-if-2
 slice-aggregate-field-if-2 c = search needs
@@ -38,13 +35,11 @@ enum-told-2 : tie.Need-enum-told-2
 enum-told-2 c = search needs
 
 returns-2 : tie.Need-returns-2
-unfolding fieldsAt fieldRules linesAt
 returns-2 c =
     let slot-read = c .before .before .before .before .before in
-    rw (
-      sym (slot-read .before .before .field-if .ensures) ∙ slot-read .slot .given .1,
-      sym (c .before .before .field-if2 .ensures) ∙ c .enum-told2 .given .1,
-    )
+    sym (broken-id _ _ _ _
+    (sym (slot-read .before .before .field-if .ensures) ∙ slot-read .slot .given .1)
+    (sym (c .before .before .field-if2 .ensures) ∙ c .enum-told2 .given .1))
 
 field-if-requires-3 : tie.Need-field-if-requires-3
 field-if-requires-3 c κs = search needs
@@ -56,15 +51,13 @@ enum-told-3 : tie.Need-enum-told-3
 enum-told-3 c = search needs
 
 returns-3 : tie.Need-returns-3
-unfolding fieldsAt fieldRules linesAt
 returns-3 c =
     let id-read = c .before .before .before .before in
     let slot-read = id-read .before .before .before .before .before in
-    rw (
-      sym (slot-read .before .before .field-if .ensures) ∙ slot-read .slot .given .1,
-      sym (id-read .before .before .field-if2 .ensures) ∙ id-read .id .given .1,
-      sym (c .before .before .field-if3 .ensures) ∙ c .enum-told3 .given .1,
-    )
+    sym (broken-fourth _ _ _ _
+    (sym (slot-read .before .before .field-if .ensures) ∙ slot-read .slot .given .1)
+    (sym (id-read .before .before .field-if2 .ensures) ∙ id-read .id .given .1)
+    (sym (c .before .before .field-if3 .ensures) ∙ c .enum-told3 .given .1))
 
 slice-aggregate-field-if-3 : tie.Need-slice-aggregate-field-if-3
 slice-aggregate-field-if-3 c = search needs
@@ -79,17 +72,15 @@ enum-told-4 : tie.Need-enum-told-4
 enum-told-4 c = search needs
 
 returns-4 : tie.Need-returns-4
-unfolding fieldsAt fieldRules linesAt
 returns-4 c =
     let third-read = c .before .before .before .before .before in
     let id-read = third-read .before .before .before .before in
     let slot-read = id-read .before .before .before .before .before in
-    rw (
-      sym (slot-read .before .before .field-if .ensures) ∙ slot-read .slot .given .1,
-      sym (id-read .before .before .field-if2 .ensures) ∙ id-read .id .given .1,
-      sym (third-read .before .before .field-if3 .ensures) ∙ third-read .third .given .1,
-      sym (c .before .before .field-if4 .ensures) ∙ c .enum-told4 .given .1,
-    )
+    sym (broken-clock _ _ _ _
+    (sym (slot-read .before .before .field-if .ensures) ∙ slot-read .slot .given .1)
+    (sym (id-read .before .before .field-if2 .ensures) ∙ id-read .id .given .1)
+    (sym (third-read .before .before .field-if3 .ensures) ∙ third-read .third .given .1)
+    (sym (c .before .before .field-if4 .ensures) ∙ c .enum-told4 .given .1))
 
 slice-aggregate-field-if-4 : tie.Need-slice-aggregate-field-if-4
 slice-aggregate-field-if-4 c = search needs
@@ -104,19 +95,17 @@ enum-told-5 : tie.Need-enum-told-5
 enum-told-5 c = search needs
 
 returns-5 : tie.Need-returns-5
-unfolding fieldsAt fieldRules linesAt
 returns-5 c =
     let clock-read = c .before .before .before .before .before in
     let third-read = clock-read .before .before .before .before .before in
     let id-read = third-read .before .before .before .before in
     let slot-read = id-read .before .before .before .before .before in
-    rw (
-      sym (slot-read .before .before .field-if .ensures) ∙ slot-read .slot .given .1,
-      sym (id-read .before .before .field-if2 .ensures) ∙ id-read .id .given .1,
-      sym (third-read .before .before .field-if3 .ensures) ∙ third-read .third .given .1,
-      sym (clock-read .before .before .field-if4 .ensures) ∙ clock-read .clock .given .1,
-      sym (c .before .before .field-if5 .ensures) ∙ c .enum-told5 .given .1,
-    )
+    sym (broken-sample _ _ _ _
+    (sym (slot-read .before .before .field-if .ensures) ∙ slot-read .slot .given .1)
+    (sym (id-read .before .before .field-if2 .ensures) ∙ id-read .id .given .1)
+    (sym (third-read .before .before .field-if3 .ensures) ∙ third-read .third .given .1)
+    (sym (clock-read .before .before .field-if4 .ensures) ∙ clock-read .clock .given .1)
+    (sym (c .before .before .field-if5 .ensures) ∙ c .enum-told5 .given .1))
 
 cast-slot-no : tie.Need-cast-slot-no
 cast-slot-no c =
@@ -128,20 +117,18 @@ cast-slot-no c =
     omega (arith, slot-fits _ _ _ _ _ _ (sym (slot-read .before .before .field-if .ensures) ∙ slot-read .slot .given .1))
 
 returns-6 : tie.Need-returns-6
-unfolding fieldsAt fieldRules linesAt
 returns-6 c =
     let sample-read = c .before in
     let clock-read = sample-read .before .before .before .before .before in
     let third-read = clock-read .before .before .before .before .before in
     let id-read = third-read .before .before .before .before in
     let slot-read = id-read .before .before .before .before .before in
-    rw (
-      sym (slot-read .before .before .field-if .ensures) ∙ slot-read .slot .given .1,
-      sym (id-read .before .before .field-if2 .ensures) ∙ id-read .id .given .1,
-      sym (third-read .before .before .field-if3 .ensures) ∙ third-read .third .given .1,
-      sym (clock-read .before .before .field-if4 .ensures) ∙ clock-read .clock .given .1,
-      sym (sample-read .before .before .field-if5 .ensures) ∙ sample-read .sample .given .1,
-    )
+    sym (all-five _ _ _ _
+    (sym (slot-read .before .before .field-if .ensures) ∙ slot-read .slot .given .1)
+    (sym (id-read .before .before .field-if2 .ensures) ∙ id-read .id .given .1)
+    (sym (third-read .before .before .field-if3 .ensures) ∙ third-read .third .given .1)
+    (sym (clock-read .before .before .field-if4 .ensures) ∙ clock-read .clock .given .1)
+    (sym (sample-read .before .before .field-if5 .ensures) ∙ sample-read .sample .given .1))
 
 pub fields-at-spec : {M : Type 1} → statement M
 fields-at-spec =
