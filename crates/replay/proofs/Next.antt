@@ -13,7 +13,7 @@ use Rattle.text.specs.Keys.{recordsKey}
 use Rattle.text.specs.Line.{lineText}
 use Rattle.text.specs.Write.{spliced, written}
 use Rattle.trace.specs.declared.Reading.the-variants.{Broken}
-use Rattle.trace.specs.Trace.{traceOf, reading}
+use Rattle.trace.specs.Trace.{reading}
 use Rattle.trace.proofs.Refusal.{trace-breaks}
 use Rattle.replay.specs.Replay.{brokenText, replayOf}
 use Rattle.replay.specs.Into.{BrokenFits, EndFits}
@@ -77,7 +77,7 @@ broken-is line {xs} {ys} {r} {end} f e k = go (leb 33 (length xs)) refl
 
 broken-replay : (n : ℕ) (s : List ℕ) (line : ℕ) → reading s ≡ Broken line → replayOf n s ≡ brokenText line
 unfolding reading replayOf
-broken-replay n s line e = rw (trace-breaks (traceOf s) line e)
+broken-replay n s line e = rw (trace-breaks s line e)
 
 pub broken-next :
     {n : ℕ} {s : List ℕ} {line : ℕ} {xs ys : List ℕ} {k : ℕ} → reading s ≡ Broken line → PutNext (brokenText line) xs ys k →

@@ -16,7 +16,9 @@ use Rattle.model.proofs.Facts.{good-after}
 use Rattle.text.specs.Keys.{recordsKey}
 use Rattle.text.specs.Line.{lineText}
 use Rattle.trace.specs.declared.Record.{Record}
-use Rattle.trace.specs.Trace.{Found, Records, Breaks, traceOf}
+use Rattle.grammar.specs.Texts.{Read, Whole, Broken}
+use Rattle.trace.specs.declared.Version.{Version}
+use Rattle.trace.specs.Trace.{traceOf}
 use Rattle.render.specs.Output.{need, fits}
 use Rattle.step.specs.Named.{callOf, outputOf}
 use Rattle.replay.specs.Replay.{tableAfter, textOf, brokenText, replayBy, replayOf}
@@ -72,9 +74,9 @@ pub whole-is-replay : (n size : ℕ) (s : List ℕ) {text : List ℕ} → intoOf
 unfolding intoOf replayOf
 whole-is-replay n size s {text} e = go (traceOf s) e
   where
-    go : (f : Found) → intoBy n size f ≡ whole text → text ≡ replayBy n f
-    go (Breaks line) h = broken-whole (leb 33 size) line h
-    go (Records rs) h =
+    go : (f : Read Version Record) → intoBy n size f ≡ whole text → text ≡ replayBy n f
+    go (Broken line) h = broken-whole (leb 33 size) line h
+    go (Whole v rs) h =
         let w = end-whole size (length rs) (partOf n size 0 (freshTable n) rs .left) (partOf n size 0 (freshTable n) rs .text) h in
         w .1 ∙ ap (λ (t : List ℕ). t ++ lineText recordsKey (length rs)) (part-whole n size (freshTable n) rs (w .0))
 
@@ -113,9 +115,9 @@ into-begins n size s = go (traceOf s)
     broken true line = record { rest = []; joined = rw append-nil }
     broken false line = record { rest = brokenText line; joined = refl }
 
-    go : (f : Found) → Beginning (textIn (intoBy n size f)) (replayBy n f)
-    go (Breaks line) = broken (leb 33 size) line
-    go (Records rs) =
+    go : (f : Read Version Record) → Beginning (textIn (intoBy n size f)) (replayBy n f)
+    go (Broken line) = broken (leb 33 size) line
+    go (Whole v rs) =
         end-begins n size (length rs) rs (partOf n size 0 (freshTable n) rs) (parts-join n size 0 (freshTable n) rs)
 
 -- with room for the whole text and for one record of the most ids, every record goes in
@@ -135,9 +137,9 @@ pub room-is-whole : (n size : ℕ) (s : List ℕ) → length (replayOf n s) + ne
 unfolding intoOf replayOf
 room-is-whole n size s = go (traceOf s)
   where
-    go : (f : Found) → length (replayBy n f) + need n ≤ size → intoBy n size f ≡ whole (replayBy n f)
-    go (Breaks line) h = rw (le-leb 33 size (omega arith))
-    go (Records rs) h =
+    go : (f : Read Version Record) → length (replayBy n f) + need n ≤ size → intoBy n size f ≡ whole (replayBy n f)
+    go (Broken line) h = rw (le-leb 33 size (omega arith))
+    go (Whole v rs) h =
         let text = textOf n (freshTable n) rs in
         let line = lineText recordsKey (length rs) in
         let long = length-append text line in

@@ -11,12 +11,12 @@ use Rattle.model.specs.Facts.{Good}
 use Rattle.model.proofs.Moves.{good-fresh}
 use Rattle.text.specs.Keys.{recordsKey}
 use Rattle.text.specs.Line.{lineText}
+use Rattle.trace.specs.declared.Version.{Version}
 use Rattle.trace.specs.declared.Record.{Record}
 use Rattle.trace.specs.declared.Reading.the-variants.{Whole}
 use Rattle.trace.specs.Trace.{reading, recordsFrom, firstRecord, Boundary}
 use Rattle.trace.proofs.Grammar.{accepted, opened}
-use Rattle.trace.proofs.Walk.{At, ended, broke, went, look, no-records}
-use Rattle.trace.proofs.Loop.{next-record, none-left, end-only}
+use Rattle.trace.proofs.Loop.{records-inside, none-left, end-only}
 use Rattle.render.specs.Output.{need}
 use Rattle.replay.specs.Replay.{textOf, replayOf}
 use Rattle.replay.specs.Part.{partOf, PartFits}
@@ -27,23 +27,6 @@ use Rattle.replay.specs.Sent.{SentOf, StandsNext}
 use Rattle.replay.proofs.Parts.{parts-join}
 use Rattle.replay.proofs.Room.{part-good, part-goes-on}
 use Rattle.replay.proofs.Next.{begins-with}
-
--- no more records are left than bytes
-records-inside : (s : List ℕ) (rs : List Record) (at : ℕ) → Boundary s at → recordsFrom s at ≡ rs → at + length rs ≤ length s
-records-inside s [] at h e = omega (arith, end-only s at h e)
-records-inside s (r ∷ rs) at h e = go (look s at 0) (records-inside s rs)
-  where
-    go : At s at 0 → ((i : ℕ) → Boundary s i → recordsFrom s i ≡ rs → i + length rs ≤ length s) → at + length (r ∷ rs) ≤ length s
-    go (ended p f) ih =
-        let none = none-left s at p in
-        let z : _≡_ {A = ℕ} 0 1 = cc in
-        absurd (omega arith)
-    go (broke k q f) ih = absurd (no-records (0 + k) (recordsFrom s at) (sym f ∙ h))
-    go (went q i x f) ih =
-        let m = next-record s at q i h x in
-        let first = m .first in
-        let same : recordsFrom s i ≡ rs = cc in
-        omega (arith, ih i (m .again) same, m .further)
 
 -- what a part prints, and what is to come after it
 abbrev partText : ℕ → List ℕ → Table → ℕ → List ℕ → List ℕ
@@ -80,12 +63,12 @@ to-fresh {n} {t₀} e w =
     rw size w
 
 module _ (n : ℕ) (s : List ℕ) (count : ℕ) where
-  pub sending-start : reading s ≡ Whole count → Sending n s count (freshTable n) firstRecord 0
+  pub sending-start : (version : Version) → reading s ≡ Whole version count → Sending n s count (freshTable n) firstRecord 0
   unfolding replayOf
-  sending-start e =
-      let b = opened s count e in
-      let short = accepted s (recordsFrom s firstRecord) (b .records) .short in
-      let few = records-inside s (recordsFrom s firstRecord) firstRecord (b .boundary) refl in
+  sending-start version e =
+      let b = opened s version count e in
+      let short = accepted s version (recordsFrom s firstRecord) (b .records) .short in
+      let few = records-inside s firstRecord (b .boundary) in
       record {
         boundary = b .boundary;
         good = good-fresh n;

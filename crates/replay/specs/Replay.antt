@@ -10,7 +10,9 @@ use Rattle.model.specs.Tables.{freshTable}
 use Rattle.text.specs.Keys.{answerKey, recordsKey, atKey}
 use Rattle.text.specs.Line.{lineText}
 use Rattle.trace.specs.declared.Record.{Record}
-use Rattle.trace.specs.Trace.{Found, Records, Breaks, traceOf}
+use Rattle.grammar.specs.Texts.{Read, Whole, Broken}
+use Rattle.trace.specs.declared.Version.{Version}
+use Rattle.trace.specs.Trace.{traceOf}
 use Rattle.step.specs.Named.{callOf, outputOf}
 
 -- the table after records, and what they print
@@ -27,9 +29,9 @@ unfoldable pub brokenText : ℕ → List ℕ
 brokenText line = lineText answerKey (told (BadTrace line) .number) ++ lineText atKey (told (BadTrace line) .at)
 
 -- a whole trace prints its records and their number; refusal 9 prints two lines, and no record is run
-abbrev pub replayBy : ℕ → Found → List ℕ
-replayBy n (Records rs) = textOf n (freshTable n) rs ++ lineText recordsKey (length rs)
-replayBy n (Breaks line) = brokenText line
+abbrev pub replayBy : ℕ → Read Version Record → List ℕ
+replayBy n (Whole v rs) = textOf n (freshTable n) rs ++ lineText recordsKey (length rs)
+replayBy n (Broken line) = brokenText line
 
 unfoldable pub replayOf : ℕ → List ℕ → List ℕ
 replayOf n s = replayBy n (traceOf s)

@@ -4,6 +4,7 @@ use crate::into::put_broken;
 use crate::into::put_records;
 use crate::part::run_part;
 use trace::Reading;
+use trace::Version;
 ghost use Prim.Native.Nat.{_+_, _≤_, _<_, _^_};
 ghost use mathlib.Core.Path.{_≡_};
 ghost use lib.ListN.{length};
@@ -48,8 +49,8 @@ fn broken_to(s: &[u8], line: usize, fd: i32) -> Sent
 
 // Runs the records of a trace that was read, a buffer's worth at a time, and says how many there are.
 // It stops at the first write that fails: the output is then a beginning of the right one, without the last line.
-fn run_to(s: &[u8], count: usize, fd: i32) -> Sent
-    requires { ⌜ reading (now s) ≡ Whole count ⌝ }
+fn run_to(s: &[u8], version: Version, count: usize, fd: i32) -> Sent
+    requires { ⌜ reading (now s) ≡ Whole version count ⌝ }
     ensures { λ r. do ⌜ SentFits (← ⟦kinds::SLOTS⟧ .entry) (now (s .entry)) r ⌝ }
 {
     let mut buf = io::large_buffer();
@@ -80,6 +81,6 @@ pub fn replay_to(s: &[u8], fd: i32) -> Sent
     let reading = trace::read_trace(s);
     match reading {
         Reading::Broken(line) => broken_to(s, line, fd),
-        Reading::Whole(count) => run_to(s, count, fd),
+        Reading::Whole(version, count) => run_to(s, version, count, fd),
     }
 }

@@ -29,7 +29,7 @@ loop-holds : tie.Need-loop-holds Inv-loop μ-loop
 loop-holds c =
     let first = c .first-record .ensures in
     let fresh = c .before .fresh .ensures in
-    (refl, to-fresh fresh (rw (first, fresh) (sending-start _ _ _ (c .before .before .before .before .pre))))
+    (refl, to-fresh fresh (rw (first, fresh) (sending-start _ _ _ _ (c .before .before .before .before .pre))))
 
 slice-aggregate-run-part : tie.Need-slice-aggregate-run-part Inv-loop μ-loop
 slice-aggregate-run-part c = search needs

@@ -1,6 +1,5 @@
 use native.Mathlib.Nat.{le-of-eq}
-use Rattle.trace.proofs.Records.{moves}
-use Rattle.trace.proofs.Loop.{none-broken}
+use Rattle.trace.proofs.Loop.{moves, none-broken}
 use Rattle.changes.proofs.Stored.{stored-length, stored-applied}
 use Prim.Native.Nat.{_-_}
 use mathlib.Core.Path.{_≡_, refl, sym, ap, _∙_}
