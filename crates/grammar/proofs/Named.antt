@@ -121,7 +121,8 @@ module _ {K I : Type 0} (w : Shape K I) (laws : ShapeLaws w) (allowed : K → Bo
       }
 
       numbers : (o : K) (a : ℕ) → There s at (nameLine (w .names) o) a → allowed o ≡ true
-          → (y : Fields) → fieldsAt s a (w .fourth) (w .reads o) ≡ y → onFields (w .item o) y ≡ Broken k → BrokenOff (formOf w allowed) s at k
+          → (y : Fields) → fieldsAt s a (w .fourth) (w .reads o) ≡ y → onFields (w .item o) y ≡ Broken k
+          → BrokenOff (formOf w allowed) s at k
       numbers o a p l (fields.Are v b) q h = absurd (no-item k (w .item o v) b (sym h))
       numbers o a p l (fields.Broken j) q h =
           let same : j ≡ k = cc in
@@ -142,7 +143,8 @@ module _ {K I : Type 0} (w : Shape K I) (laws : ShapeLaws w) (allowed : K → Bo
           }
 
       permitted : (o : K) (a : ℕ) → There s at (nameLine (w .names) o) a → (b : Bool) → allowed o ≡ b
-          → cond b (onFields (w .item o) (fieldsAt s a (w .fourth) (w .reads o))) (Broken 1) ≡ Broken k → BrokenOff (formOf w allowed) s at k
+          → cond b (onFields (w .item o) (fieldsAt s a (w .fourth) (w .reads o))) (Broken 1) ≡ Broken k
+          → BrokenOff (formOf w allowed) s at k
       permitted o a p false l h = at-name (cc)
       permitted o a p true l h = numbers o a p l (fieldsAt s a (w .fourth) (w .reads o)) refl h
 

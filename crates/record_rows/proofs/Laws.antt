@@ -67,7 +67,8 @@ both : (a b : Bool) → (a && b) ≡ true → (a ≡ true) × (b ≡ true)
 both true b h = (refl, h)
 both false b h = absurd (false≢true h)
 
-no-record : (r : Record) → (row.SlotTooLarge ≡ row.Record r → ⊥) × (row.UnreadNumber ≡ row.Record r → ⊥) × (row.UnknownOp ≡ row.Record r → ⊥)
+no-record : (r : Record)
+    → (row.SlotTooLarge ≡ row.Record r → ⊥) × (row.UnreadNumber ≡ row.Record r → ⊥) × (row.UnknownOp ≡ row.Record r → ⊥)
 no-record r = (
   λ h. let z : _≡_ {A = ℕ} 0 1 = cc in omega arith,
   λ h. let z : _≡_ {A = ℕ} 0 1 = cc in omega arith,

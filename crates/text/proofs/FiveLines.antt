@@ -69,7 +69,8 @@ module _ (fourth : List ℕ) (reads : Reads) where
           let t = lines-text (fieldRules fourth reads) s at 2 ns b q in
           let same : valuesOf ns ≡ v = cc in
           let past : b ≡ e = cc in
-          let here : There s at (joined (lineTexts (fieldRules fourth reads) (numbersOf (valuesOf ns)))) b = rw (← made ns (t .within)) (t .text) in
+          let lines = joined (lineTexts (fieldRules fourth reads) (numbersOf (valuesOf ns))) in
+          let here : There s at lines b = rw (← made ns (t .within)) (t .text) in
           rw (← same, ← past) (record { text = here; fits = fits-made ns (t .within) })
 
   -- the line that breaks its rule: the lines before it are the first of some values that keep the rules

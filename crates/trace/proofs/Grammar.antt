@@ -14,7 +14,8 @@ use Rattle.grammar.proofs.Grammar as grammar
 use Rattle.grammar.proofs.Grammar.{text-length}
 use Rattle.trace.specs.Version.{allowed}
 use Rattle.trace.specs.Record.{recordShape, recordForm, everyOp, anyForm}
-use Rattle.trace.specs.Trace.{traceKind, firstRecord, longest, traceText, AllExpressible, traceOf, asReading, reading, recordsFrom, Boundary}
+use Rattle.trace.specs.Trace.{traceKind, firstRecord, longest, traceText, AllExpressible, traceOf, asReading, reading}
+use Rattle.trace.specs.Trace.{recordsFrom, Boundary}
 use Rattle.trace.specs.declared.Version.{Version}
 use Rattle.trace.specs.declared.Record.{Record}
 use Rattle.trace.specs.declared.Reading.the-variants as reading

@@ -11,13 +11,13 @@ slice-aggregate-field-if : tie.Need-slice-aggregate-field-if
 slice-aggregate-field-if c = search needs
 
 field-if-requires : tie.Need-field-if-requires
-field-if-requires c κs = search needs
+field-if-requires c κs = tt
 
 enum-known-slot : tie.Need-enum-known-slot
-enum-known-slot c = search needs
+enum-known-slot c = c .match .keys1
 
 enum-told : tie.Need-enum-told
-enum-told c = search needs
+enum-told c = c .match .keys2
 
 returns : tie.Need-returns
 returns c = sym (broken-slot _ _ _ _ (sym (c .before .before .field-if .ensures) ∙ c .enum-told .given .1))
@@ -26,13 +26,13 @@ slice-aggregate-field-if-2 : tie.Need-slice-aggregate-field-if-2
 slice-aggregate-field-if-2 c = search needs
 
 field-if-requires-2 : tie.Need-field-if-requires-2
-field-if-requires-2 c κs = search needs
+field-if-requires-2 c κs = tt
 
 enum-known-id : tie.Need-enum-known-id
-enum-known-id c = search needs
+enum-known-id c = c .match2 .keys1
 
 enum-told-2 : tie.Need-enum-told-2
-enum-told-2 c = search needs
+enum-told-2 c = c .match2 .keys2
 
 returns-2 : tie.Need-returns-2
 returns-2 c =
@@ -42,13 +42,13 @@ returns-2 c =
     (sym (c .before .before .field-if2 .ensures) ∙ c .enum-told2 .given .1))
 
 field-if-requires-3 : tie.Need-field-if-requires-3
-field-if-requires-3 c κs = search needs
+field-if-requires-3 c κs = tt
 
 enum-known-third : tie.Need-enum-known-third
-enum-known-third c = search needs
+enum-known-third c = c .match3 .keys1
 
 enum-told-3 : tie.Need-enum-told-3
-enum-told-3 c = search needs
+enum-told-3 c = c .match3 .keys2
 
 returns-3 : tie.Need-returns-3
 returns-3 c =
@@ -63,13 +63,13 @@ slice-aggregate-field-if-3 : tie.Need-slice-aggregate-field-if-3
 slice-aggregate-field-if-3 c = search needs
 
 field-if-requires-4 : tie.Need-field-if-requires-4
-field-if-requires-4 c κs = search needs
+field-if-requires-4 c κs = tt
 
 enum-known-clock : tie.Need-enum-known-clock
-enum-known-clock c = search needs
+enum-known-clock c = c .match4 .keys1
 
 enum-told-4 : tie.Need-enum-told-4
-enum-told-4 c = search needs
+enum-told-4 c = c .match4 .keys2
 
 returns-4 : tie.Need-returns-4
 returns-4 c =
@@ -86,13 +86,13 @@ slice-aggregate-field-if-4 : tie.Need-slice-aggregate-field-if-4
 slice-aggregate-field-if-4 c = search needs
 
 field-if-requires-5 : tie.Need-field-if-requires-5
-field-if-requires-5 c κs = search needs
+field-if-requires-5 c κs = tt
 
 enum-known-sample : tie.Need-enum-known-sample
-enum-known-sample c = search needs
+enum-known-sample c = c .match5 .keys1
 
 enum-told-5 : tie.Need-enum-told-5
-enum-told-5 c = search needs
+enum-told-5 c = c .match5 .keys2
 
 returns-5 : tie.Need-returns-5
 returns-5 c =

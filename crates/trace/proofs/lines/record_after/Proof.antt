@@ -20,10 +20,14 @@ enum-known-fields-2 : tie.Need-enum-known-fields-2
 enum-known-fields-2 c = search needs
 
 returns : tie.Need-returns
-returns c = rw (← c .before .before .before .before .reads-of .ensures, sym (c .before .before .before .fields-at .ensures) ∙ c .before .fields .given .1)
+returns c =
+    let asked = c .before .before .before in
+    rw (← asked .before .reads-of .ensures, sym (asked .fields-at .ensures) ∙ c .before .fields .given .1)
 
 returns-2 : tie.Need-returns-2
-returns-2 c = rw (← c .before .before .before .before .reads-of .ensures, sym (c .before .before .before .fields-at .ensures) ∙ c .before .fields2 .given .1)
+returns-2 c =
+    let asked = c .before .before .before in
+    rw (← asked .before .reads-of .ensures, sym (asked .fields-at .ensures) ∙ c .before .fields2 .given .1)
 
 pub record-after-spec : {M : Type 1} → statement M
 record-after-spec =
