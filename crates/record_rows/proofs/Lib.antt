@@ -1,0 +1,2 @@
+pub mod OpNumbers
+pub mod Laws
