@@ -8,7 +8,7 @@ use lib.ListN.{length}
 use borrow.Author.Tests.{le-ltb}
 use Rattle.grammar.specs.Names.{Named, nameAt}
 use Rattle.grammar.specs.Items.{Is, Broken, Found, Items, Breaks, withFirst, foundFrom}
-use Rattle.grammar.specs.Texts.{Kind, longest, under, readText, Count, Many, Refused, counted, countText}
+use Rattle.grammar.specs.Texts.{Format, longest, under, readText, Count, Many, Refused, counted, countText}
 use Rattle.grammar.proofs.Facts.{Laws}
 use Rattle.grammar.proofs.Walk.{found-end, found-broken, found-next}
 
@@ -17,7 +17,7 @@ abbrev pub countFrom : {H I : Type 0} → H → ℕ → Found I → Count H
 countFrom h n (Items xs) = Many h (n + length xs)
 countFrom h n (Breaks k) = Refused k
 
-module _ {H I : Type 0} (t : Kind H I) (laws : Laws t) (s : List ℕ) (h : H) where
+module _ {H I : Type 0} (t : Format H I) (laws : Laws t) (s : List ℕ) (h : H) where
   abbrev pub Counting : ℕ → ℕ → Type 0
   Counting at n = countText t s ≡ countFrom h n (foundFrom (t .form h) s at (1 + 6 * n))
 

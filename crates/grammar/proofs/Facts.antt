@@ -1,4 +1,4 @@
--- What has to be proved of a kind of item, and of a kind of text, for the laws of this crate to hold of it.
+-- What has to be proved of a kind of item, and of a format, for the laws of this crate to hold of it.
 use Prim.Native.Nat.{ℕ, _+_, _≤_, _<_}
 use mathlib.Core.Path.{_≡_}
 use mathlib.Core.Bool.{true}
@@ -7,7 +7,7 @@ use lib.ListN.{length, take, drop}
 use Rattle.text.specs.Line.{joined, oneLine}
 use Rattle.text.proofs.Places.{There}
 use Rattle.grammar.specs.Items.{Form, Is, Broken, itemText}
-use Rattle.grammar.specs.Texts.{Kind}
+use Rattle.grammar.specs.Texts.{Format}
 use Rattle.grammar.proofs.Names.{NameLaws}
 
 -- lines, each of which ends in a newline and has no other
@@ -51,8 +51,8 @@ pub record Facts {I : Type 0} (f : Form I) : Type 0 where
       → drop at s ≡ joined (take j (f .lines x)) ++ rest → f .at s at ≡ Broken k → j < k
   pub six : (x : I) → SixLines (f .lines x)
 
--- of a kind of text: a first line is known where it stands, and the items under it are as above
-pub record Laws {H I : Type 0} (t : Kind H I) : Type 0 where
+-- of a format: a first line is known where it stands, and the items under it are as above
+pub record Laws {H I : Type 0} (t : Format H I) : Type 0 where
   -- one of the first lines, where there is no text to find one in
   pub any : H
   pub heads : NameLaws (t .heads)

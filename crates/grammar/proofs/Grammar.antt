@@ -13,7 +13,7 @@ use Rattle.text.specs.Line.{joined}
 use Rattle.text.proofs.Places.{rest-of, There}
 use Rattle.text.proofs.Lines.{joined-append}
 use Rattle.grammar.specs.Items.{Is, Form, itemText, linesOf, AllGood, none, also, Found, Items, Breaks, withFirst, foundFrom}
-use Rattle.grammar.specs.Texts.{Kind, firstLine, longest, textLines, wholeText, Read, Whole, Broken, under, onHead, readText}
+use Rattle.grammar.specs.Texts.{Format, firstLine, longest, textLines, wholeText, Read, Whole, Broken, under, onHead, readText}
 use Rattle.grammar.specs.Names.{NameAt, Named, Unknown, nameAt}
 use Rattle.grammar.proofs.Names.{line-of, line-there}
 use Rattle.grammar.proofs.Facts.{AllLines, SixLines, Facts, Laws}
@@ -80,7 +80,7 @@ module _ {I : Type 0} (f : Form I) (facts : Facts f) where
   lines-one [] = no-line
   lines-one (x ∷ xs) = append-lines (f .lines x) (linesOf f xs) (facts .six x .each) (lines-one xs)
 
-module _ {H I : Type 0} (t : Kind H I) (laws : Laws t) where
+module _ {H I : Type 0} (t : Format H I) (laws : Laws t) where
   pub no-whole : (k : ℕ) (h : H) (xs : List I) → Broken k ≡ Whole h xs → ⊥
   no-whole k h xs e = let z : _≡_ {A = ℕ} 0 1 = cc in omega arith
 

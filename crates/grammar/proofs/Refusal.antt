@@ -16,7 +16,7 @@ use Rattle.text.proofs.Places.{rest-of, There}
 use Rattle.text.proofs.Lines.{joined-append}
 use Rattle.grammar.specs.Names.{NameAt, Named, Unknown, nameAt}
 use Rattle.grammar.specs.Items.{Is, Form, itemText, linesOf, AllGood, none, also, Found, Items, Breaks, withFirst, foundFrom}
-use Rattle.grammar.specs.Texts.{Kind, firstLine, longest, textLines, wholeText, Read, Whole, Broken, under, onHead, readText}
+use Rattle.grammar.specs.Texts.{Format, firstLine, longest, textLines, wholeText, Read, Whole, Broken, under, onHead, readText}
 use Rattle.grammar.specs.Texts.{Opens, FirstBroken}
 use Rattle.grammar.proofs.Names.{no-name}
 use Rattle.grammar.proofs.Facts.{Facts, Laws}
@@ -138,7 +138,7 @@ module _ {I : Type 0} (f : Form I) (facts : Facts f) where
       go (no c) w ih = inside (omega arith) w
       go (yes c) w ih = past c ih
 
-module _ {H I : Type 0} (t : Kind H I) (laws : Laws t) where
+module _ {H I : Type 0} (t : Format H I) (laws : Laws t) where
   opens-none : (s : List ℕ) → Opens t 0 s
   unfolding joined
   opens-none s = record { head = laws .any; items = []; good = none; enough = omega arith; rest = s; text = refl }
@@ -257,7 +257,7 @@ module _ {H I : Type 0} (t : Kind H I) (laws : Laws t) where
       go Unknown c = let z : _≡_ {A = ℕ} 1 0 = cc in omega arith
       go (Named h e) c = found h e (foundFrom (t .form h) s e 1) refl c
 
-  -- a text that is not too long and is none of this kind is refused at exactly its first broken line
+  -- a text that is not too long and is none of this format is refused at exactly its first broken line
   pub refused : (s : List ℕ) (k : ℕ) → length s ≤ longest
       → ((h : H) (xs : List I) → AllGood (t .form h) xs → s ≡ wholeText t h xs → ⊥) → FirstBroken t k s → readText t s ≡ Broken (suc k)
   refused s k l n p = go (readText t s) refl

@@ -9,12 +9,12 @@ use Rattle.text.specs.Line.{joined}
 use Rattle.grammar.specs.Names.{Names, nameLine, NameAt, Named, Unknown, nameAt}
 use Rattle.grammar.specs.Items.{Form, Found, Items, Breaks, linesOf, AllGood, foundFrom}
 
--- a kind of text: the first lines that are known, and the items that may follow each
-pub record Kind (H I : Type 0) : Type 1 where
+-- a format: the first lines that are known, and the items that may follow each
+pub record Format (H I : Type 0) : Type 1 where
   pub heads : Names H
   pub form : H → Form I
 
-unfoldable pub firstLine : {H I : Type 0} → Kind H I → H → List ℕ
+unfoldable pub firstLine : {H I : Type 0} → Format H I → H → List ℕ
 firstLine t h = nameLine (t .heads) h
 
 -- the most bytes that a text may have
@@ -22,10 +22,10 @@ abbrev pub longest : ℕ
 longest = 65536
 
 -- the lines of a text, and the text
-unfoldable pub textLines : {H I : Type 0} → Kind H I → H → List I → List (List ℕ)
+unfoldable pub textLines : {H I : Type 0} → Format H I → H → List I → List (List ℕ)
 textLines t h xs = firstLine t h ∷ linesOf (t .form h) xs
 
-unfoldable pub wholeText : {H I : Type 0} → Kind H I → H → List I → List ℕ
+unfoldable pub wholeText : {H I : Type 0} → Format H I → H → List I → List ℕ
 wholeText t h xs = joined (textLines t h xs)
 
 -- what a text is read as: its first line and its items, or the first line that breaks a rule; 0 stands for a text that is too long
@@ -42,7 +42,7 @@ onHead (Named h e) f = f h e
 onHead Unknown f = Broken 1
 
 -- the length is tested first, then the first line
-unfoldable pub readText : {H I : Type 0} → Kind H I → List ℕ → Read H I
+unfoldable pub readText : {H I : Type 0} → Format H I → List ℕ → Read H I
 readText t s =
     cond (ltb longest (length s))
     (Broken 0)
@@ -57,11 +57,11 @@ abbrev pub counted : {H I : Type 0} → Read H I → Count H
 counted (Whole h xs) = Many h (length xs)
 counted (Broken k) = Refused k
 
-unfoldable pub countText : {H I : Type 0} → Kind H I → List ℕ → Count H
+unfoldable pub countText : {H I : Type 0} → Format H I → List ℕ → Count H
 countText t s = counted (readText t s)
 
--- s begins with the first k lines of some text of this kind, each with its newline
-pub record Opens {H I : Type 0} (t : Kind H I) (k : ℕ) (s : List ℕ) : Type 0 where
+-- s begins with the first k lines of some text of this format, each with its newline
+pub record Opens {H I : Type 0} (t : Format H I) (k : ℕ) (s : List ℕ) : Type 0 where
   pub head : H
   pub items : List I
   pub good : AllGood (t .form head) items
@@ -69,7 +69,7 @@ pub record Opens {H I : Type 0} (t : Kind H I) (k : ℕ) (s : List ℕ) : Type 0
   pub rest : List ℕ
   pub text : s ≡ joined (take k (textLines t head items)) ++ rest
 
--- line k + 1 is the first that breaks a rule: s begins with the first k lines of some text of this kind, and with no first k + 1
-pub record FirstBroken {H I : Type 0} (t : Kind H I) (k : ℕ) (s : List ℕ) : Type 0 where
+-- line k + 1 is the first that breaks a rule: s begins with the first k lines of some text of this format, and with no first k + 1
+pub record FirstBroken {H I : Type 0} (t : Format H I) (k : ℕ) (s : List ℕ) : Type 0 where
   pub before : Opens t k s
   pub broken : Opens t (k + 1) s → ⊥

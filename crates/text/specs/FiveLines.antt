@@ -20,7 +20,7 @@ mostSlot = 65535
 unfoldable pub limit : Bool → ℕ → ℕ
 limit reads n = cond reads n 0
 
--- the rules of the five lines, the third of which has the key `fourth`
+-- the rules of lines 2 to 6 of an item, of which line 4 has the key `fourth`
 unfoldable pub fieldRules : List ℕ → Reads → List Rule
 fieldRules fourth reads =
     (record { key = slotKey; most = limit (reads .slot) mostSlot })

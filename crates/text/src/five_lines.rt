@@ -26,7 +26,7 @@ fn field_if(s: &[u8], at: usize, key: &[u8], reads: bool, most: u64) -> Number
     crate::read::field_at(s, at, key, limit_of(reads, most))
 }
 
-// The numbers of the five lines at `at`, of which the third has the key `fourth`. The line above them counts as the first of six.
+// The numbers of the five lines at `at`: lines 2 to 6 of an item, of which line 4 has the key `fourth`.
 pub fn fields_at(s: &[u8], at: usize, fourth: &[u8], reads: Reads) -> Fields
     ensures { λ r. ⌜ r ≡ fieldsAt (now (s .entry)) at (now (fourth .entry)) reads ⌝ }
 {
@@ -36,7 +36,7 @@ pub fn fields_at(s: &[u8], at: usize, fourth: &[u8], reads: Reads) -> Fields
     let Number::Is(id, b) = field_if(s, a, b"id=", reads.id, u64::MAX) else {
         return Fields::Broken(3);
     };
-    let Number::Is(third, c) = field_if(s, b, fourth, reads.fourth, u64::MAX) else {
+    let Number::Is(number, c) = field_if(s, b, fourth, reads.fourth, u64::MAX) else {
         return Fields::Broken(4);
     };
     let Number::Is(clock, d) = field_if(s, c, b"clock=", reads.clock, u64::MAX) else {
@@ -50,7 +50,7 @@ pub fn fields_at(s: &[u8], at: usize, fourth: &[u8], reads: Reads) -> Fields
         Values {
             slot: slot_no,
             id,
-            fourth: third,
+            fourth: number,
             clock,
             sample,
         },

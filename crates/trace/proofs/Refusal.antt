@@ -7,7 +7,7 @@ use lib.ListN.{length}
 use Rattle.grammar.specs.Texts.{Read, Whole, counted, countText}
 use Rattle.grammar.specs.Texts as texts
 use Rattle.grammar.proofs.Refusal as grammar
-use Rattle.trace.specs.Trace.{traceKind, longest, traceText, AllExpressible, traceOf, asReading, reading, FirstBroken}
+use Rattle.trace.specs.Trace.{traceFormat, longest, traceText, AllExpressible, traceOf, asReading, reading, FirstBroken}
 use Rattle.trace.specs.declared.Version.{Version}
 use Rattle.trace.specs.declared.Record.{Record}
 use Rattle.trace.specs.declared.Reading.the-variants.{Broken}
@@ -20,7 +20,7 @@ breaks (texts.Broken j) k h = let same : j ≡ k = cc in ap texts.Broken same
 
 pub trace-breaks : (s : List ℕ) (k : ℕ) → reading s ≡ Broken k → traceOf s ≡ texts.Broken k
 unfolding reading countText traceOf
-trace-breaks s k h = breaks (texts.readText traceKind s) k h
+trace-breaks s k h = breaks (texts.readText traceFormat s) k h
 
 said : (s : List ℕ) (k : ℕ) → traceOf s ≡ texts.Broken k → reading s ≡ Broken k
 unfolding reading countText traceOf
@@ -29,22 +29,22 @@ said s k q = ap (λ (x : Read Version Record). asReading (counted x)) q
 -- the line that a refusal names is the first that breaks a rule, and there is one such line
 pub first-broken : (s : List ℕ) (k : ℕ) → reading s ≡ Broken (suc k) → FirstBroken k s
 unfolding traceOf
-first-broken s k h = grammar.first-broken traceKind trace-laws s k (trace-breaks s (suc k) h)
+first-broken s k h = grammar.first-broken traceFormat trace-laws s k (trace-breaks s (suc k) h)
 
 pub one-first : (j k : ℕ) (s : List ℕ) → FirstBroken j s → FirstBroken k s → j ≡ k
-one-first j k s p q = grammar.one-first traceKind trace-laws j k s p q
+one-first j k s p q = grammar.one-first traceFormat trace-laws j k s p q
 
 -- a text that is not too long and is no trace is refused at exactly its first broken line
 pub refused : (s : List ℕ) (k : ℕ) → length s ≤ longest
     → ((v : Version) (rs : List Record) → AllExpressible v rs → s ≡ traceText v rs → ⊥) → FirstBroken k s → reading s ≡ Broken (suc k)
 unfolding traceOf
-refused s k l n p = said s (suc k) (grammar.refused traceKind trace-laws s k l n p)
+refused s k l n p = said s (suc k) (grammar.refused traceFormat trace-laws s k l n p)
 
 -- and one that is too long at line 0, and nothing else is
 pub long-refused : (s : List ℕ) → longest < length s → reading s ≡ Broken 0
 unfolding traceOf
-long-refused s h = said s 0 (grammar.long-refused traceKind trace-laws s h)
+long-refused s h = said s 0 (grammar.long-refused traceFormat trace-laws s h)
 
 pub refused-long : (s : List ℕ) → reading s ≡ Broken 0 → longest < length s
 unfolding traceOf
-refused-long s h = grammar.refused-long traceKind trace-laws s (trace-breaks s 0 h)
+refused-long s h = grammar.refused-long traceFormat trace-laws s (trace-breaks s 0 h)

@@ -16,7 +16,7 @@ use Rattle.grammar.proofs.Grammar.{text-one}
 use Rattle.trace.specs.Op.{opName, ops, opNames}
 use Rattle.trace.specs.Version.{versionName, versions, headerOf, allowed}
 use Rattle.trace.specs.Record.{recordShape, recordForm, everyOp, anyForm}
-use Rattle.trace.specs.Trace.{traceKind, firstRecord}
+use Rattle.trace.specs.Trace.{traceFormat, firstRecord}
 use Rattle.trace.specs.declared.Op.{Op}
 use Rattle.trace.specs.declared.Op.the-variants.{Begin, End, Snap, Own, Oldest, Vacuum, Stamp, Finish}
 use Rattle.trace.specs.declared.Record.{Record}
@@ -79,12 +79,12 @@ version-one Proc1 = refl
 pub version-laws : NameLaws versions
 version-laws = record { found = version-found; one = version-one }
 
-pub trace-laws : Laws traceKind
+pub trace-laws : Laws traceFormat
 trace-laws = record { any = Proc1; heads = version-laws; facts = under-facts }
 
 -- for `FirstBroken`, which counts the lines of a trace: each of them ends in a newline and has no other
-pub trace-one : (v : Version) (rs : List Record) → AllLines (textLines traceKind v rs)
-trace-one v rs = text-one traceKind trace-laws v rs
+pub trace-one : (v : Version) (rs : List Record) → AllLines (textLines traceFormat v rs)
+trace-one v rs = text-one traceFormat trace-laws v rs
 
 -- all headers have one length
 pub header-length : (v : Version) → length (headerOf v) ≡ firstRecord

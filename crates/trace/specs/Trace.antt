@@ -4,7 +4,7 @@ use mathlib.Core.List.{List}
 use lib.ListN.{length}
 use Rattle.grammar.specs.Items.{AllGood, itemsFrom}
 use Rattle.grammar.specs.Items as items
-use Rattle.grammar.specs.Texts.{Kind, Read, Count, Many, Refused, wholeText, readText, countText}
+use Rattle.grammar.specs.Texts.{Format, Read, Count, Many, Refused, wholeText, readText, countText}
 use Rattle.grammar.specs.Texts as texts
 use Rattle.trace.specs.Version.{versions, headerOf}
 use Rattle.trace.specs.Record.{recordForm, anyForm}
@@ -15,8 +15,8 @@ use Rattle.trace.specs.declared.Reading.{Reading}
 use Rattle.trace.specs.declared.Reading.the-variants.{Whole, Broken}
 
 -- a header, and records under it
-abbrev pub traceKind : Kind Version Record
-traceKind = record { heads = versions; form = recordForm }
+abbrev pub traceFormat : Format Version Record
+traceFormat = record { heads = versions; form = recordForm }
 
 -- the place of the first record, one for all headers
 abbrev pub firstRecord : ℕ
@@ -28,7 +28,7 @@ longest = texts.longest
 
 -- the text of a trace
 abbrev pub traceText : Version → List Record → List ℕ
-traceText v rs = wholeText traceKind v rs
+traceText v rs = wholeText traceFormat v rs
 
 -- records that the text can express under a header, each of them
 abbrev pub AllExpressible : Version → List Record → Type 0
@@ -36,7 +36,7 @@ AllExpressible v rs = AllGood (recordForm v) rs
 
 -- the header and the records of a whole text, or the first line that breaks a rule
 unfoldable pub traceOf : List ℕ → Read Version Record
-traceOf s = readText traceKind s
+traceOf s = readText traceFormat s
 
 -- the header and how many records, or the first line that breaks a rule
 abbrev pub asReading : Count Version → Reading
@@ -44,7 +44,7 @@ asReading (Many v n) = Whole v n
 asReading (Refused k) = Broken k
 
 unfoldable pub reading : List ℕ → Reading
-reading s = asReading (countText traceKind s)
+reading s = asReading (countText traceFormat s)
 
 -- the records that are left from `at` on
 unfoldable pub recordsFrom : List ℕ → ℕ → List Record
@@ -56,4 +56,4 @@ Boundary s at = items.Boundary anyForm s at
 
 -- line k + 1 is the first that breaks a rule: s begins with the first k lines of some trace, and with no first k + 1
 abbrev pub FirstBroken : ℕ → List ℕ → Type 0
-FirstBroken k s = texts.FirstBroken traceKind k s
+FirstBroken k s = texts.FirstBroken traceFormat k s

@@ -44,8 +44,8 @@ returns-2 c =
 field-if-requires-3 : tie.Need-field-if-requires-3
 field-if-requires-3 c κs = tt
 
-enum-known-third : tie.Need-enum-known-third
-enum-known-third c = c .match3 .keys1
+enum-known-number : tie.Need-enum-known-number
+enum-known-number c = c .match3 .keys1
 
 enum-told-3 : tie.Need-enum-told-3
 enum-told-3 c = c .match3 .keys2
@@ -73,13 +73,13 @@ enum-told-4 c = c .match4 .keys2
 
 returns-4 : tie.Need-returns-4
 returns-4 c =
-    let third-read = c .before .before .before .before .before in
-    let id-read = third-read .before .before .before .before in
+    let fourth-read = c .before .before .before .before .before in
+    let id-read = fourth-read .before .before .before .before in
     let slot-read = id-read .before .before .before .before .before in
     sym (broken-clock _ _ _ _
     (sym (slot-read .before .before .field-if .ensures) ∙ slot-read .slot .given .1)
     (sym (id-read .before .before .field-if2 .ensures) ∙ id-read .id .given .1)
-    (sym (third-read .before .before .field-if3 .ensures) ∙ third-read .third .given .1)
+    (sym (fourth-read .before .before .field-if3 .ensures) ∙ fourth-read .number .given .1)
     (sym (c .before .before .field-if4 .ensures) ∙ c .enum-told4 .given .1))
 
 slice-aggregate-field-if-4 : tie.Need-slice-aggregate-field-if-4
@@ -97,13 +97,13 @@ enum-told-5 c = c .match5 .keys2
 returns-5 : tie.Need-returns-5
 returns-5 c =
     let clock-read = c .before .before .before .before .before in
-    let third-read = clock-read .before .before .before .before .before in
-    let id-read = third-read .before .before .before .before in
+    let fourth-read = clock-read .before .before .before .before .before in
+    let id-read = fourth-read .before .before .before .before in
     let slot-read = id-read .before .before .before .before .before in
     sym (broken-sample _ _ _ _
     (sym (slot-read .before .before .field-if .ensures) ∙ slot-read .slot .given .1)
     (sym (id-read .before .before .field-if2 .ensures) ∙ id-read .id .given .1)
-    (sym (third-read .before .before .field-if3 .ensures) ∙ third-read .third .given .1)
+    (sym (fourth-read .before .before .field-if3 .ensures) ∙ fourth-read .number .given .1)
     (sym (clock-read .before .before .field-if4 .ensures) ∙ clock-read .clock .given .1)
     (sym (c .before .before .field-if5 .ensures) ∙ c .enum-told5 .given .1))
 
@@ -111,8 +111,8 @@ cast-slot-no : tie.Need-cast-slot-no
 cast-slot-no c =
     let sample-read = c .before in
     let clock-read = sample-read .before .before .before .before .before in
-    let third-read = clock-read .before .before .before .before .before in
-    let id-read = third-read .before .before .before .before in
+    let fourth-read = clock-read .before .before .before .before .before in
+    let id-read = fourth-read .before .before .before .before in
     let slot-read = id-read .before .before .before .before .before in
     omega (arith, slot-fits _ _ _ _ _ _ (sym (slot-read .before .before .field-if .ensures) ∙ slot-read .slot .given .1))
 
@@ -120,13 +120,13 @@ returns-6 : tie.Need-returns-6
 returns-6 c =
     let sample-read = c .before in
     let clock-read = sample-read .before .before .before .before .before in
-    let third-read = clock-read .before .before .before .before .before in
-    let id-read = third-read .before .before .before .before in
+    let fourth-read = clock-read .before .before .before .before .before in
+    let id-read = fourth-read .before .before .before .before in
     let slot-read = id-read .before .before .before .before .before in
     sym (all-five _ _ _ _
     (sym (slot-read .before .before .field-if .ensures) ∙ slot-read .slot .given .1)
     (sym (id-read .before .before .field-if2 .ensures) ∙ id-read .id .given .1)
-    (sym (third-read .before .before .field-if3 .ensures) ∙ third-read .third .given .1)
+    (sym (fourth-read .before .before .field-if3 .ensures) ∙ fourth-read .number .given .1)
     (sym (clock-read .before .before .field-if4 .ensures) ∙ clock-read .clock .given .1)
     (sym (sample-read .before .before .field-if5 .ensures) ∙ sample-read .sample .given .1))
 
@@ -145,7 +145,7 @@ fields-at-spec =
     enum-told-2
     returns-2
     field-if-requires-3
-    enum-known-third
+    enum-known-number
     enum-told-3
     returns-3
     slice-aggregate-field-if-3

@@ -7,14 +7,14 @@ use borrow.Author.Tests.{lt-ltb, le-ltb}
 use lib.ListN.{length}
 use Rattle.grammar.specs.Texts.{countText, readText}
 use Rattle.grammar.proofs.Count.{Counting, counting-start, counting-next, counting-broken, counting-end}
-use Rattle.trace.specs.Trace.{traceKind, longest, asReading, reading}
+use Rattle.trace.specs.Trace.{traceFormat, longest, asReading, reading}
 use Rattle.trace.proofs.Shape.{trace-laws, under-facts, head-inside}
 use Rattle.trace.proofs.Answers.{header-is, no-header, under-is, under-broken}
 use Rattle.trace.proofs.whole.read_trace.Statement.{statement}
 use Rattle.trace.proofs.whole.read_trace.Tie as tie
 
 abbrev Inv-loop : tie.InvT-loop
-Inv-loop s version first at₀ n₀ at n = (length s ≤ longest) × (at ≤ length s) × (n ≤ at) × Counting traceKind trace-laws s version at n
+Inv-loop s version first at₀ n₀ at n = (length s ≤ longest) × (at ≤ length s) × (n ≤ at) × Counting traceFormat trace-laws s version at n
 
 abbrev μ-loop : tie.MeasureT-loop
 μ-loop s version first at₀ n₀ at n = length s - at
@@ -43,7 +43,7 @@ loop-holds c =
     let asked = c .before .before .before in
     let short = asked .before .if1 .left in
     let head = header-is _ (sym (asked .header-at .ensures) ∙ c .before .version .given .1) in
-    (short, head-inside _ _ _ head, omega arith, counting-start traceKind trace-laws _ _ _ short head)
+    (short, head-inside _ _ _ head, omega arith, counting-start traceFormat trace-laws _ _ _ short head)
 
 record-under-requires : tie.Need-record-under-requires Inv-loop μ-loop
 record-under-requires c κs = tt
@@ -68,7 +68,7 @@ loop-again c =
     let read = under-is _ _ _ (sym (c .before .before .before .record-under .ensures) ∙ c .before .r .given .1) in
     let m = under-facts _ .moves _ _ _ _ read in
     let at-loop = c .before .before .before .before .before .loop in
-    (omega arith, m .1, omega (arith, m .0), counting-next traceKind trace-laws _ _ _ _ _ _ (at-loop .inv .3) read)
+    (omega arith, m .1, omega (arith, m .0), counting-next traceFormat trace-laws _ _ _ _ _ _ (at-loop .inv .3) read)
 
 enum-known-r-2 : tie.Need-enum-known-r-2 Inv-loop μ-loop
 enum-known-r-2 c = c .match2 .keys2
@@ -90,11 +90,11 @@ unfolding reading
 returns-3 c =
     let read = under-broken _ _ _ (sym (c .before .before .before .record-under .ensures) ∙ c .before .r2 .given .1) in
     let tested = c .before .before .before .before in
-    sym (ap asReading (counting-broken traceKind trace-laws _ _ _ _ _ (tested .before .loop .inv .3) (tested .loop-test .taken) read))
+    sym (ap asReading (counting-broken traceFormat trace-laws _ _ _ _ _ (tested .before .loop .inv .3) (tested .loop-test .taken) read))
 
 returns-4 : tie.Need-returns-4 Inv-loop μ-loop
 unfolding reading
-returns-4 c = sym (ap asReading (counting-end traceKind trace-laws _ _ _ _ (c .before .loop .inv .3) (c .loop-test .left)))
+returns-4 c = sym (ap asReading (counting-end traceFormat trace-laws _ _ _ _ (c .before .loop .inv .3) (c .loop-test .left)))
 
 pub read-trace-spec : {M : Type 1} → statement M
 read-trace-spec =
