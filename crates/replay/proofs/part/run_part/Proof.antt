@@ -57,16 +57,19 @@ enum-told-2 c = search needs
 same-length-2 : tie.Need-same-length-2 Inv-loop μ-loop
 same-length-2 c =
     let ran = c .before .before .before .before .before in
-    let found = ran .before .before .before .before .before .before .before .before in
+    let read = ran .before .before .before .before .before in
+    let found = read .before .before .before .before in
     ran .run-record .kept .1 .1 .1 .1 .0 ∙ found .before .before .before .before .loop .inv .0
 
 returns-2 : tie.Need-returns-2 Inv-loop μ-loop
 returns-2 c =
     λ h.
     let ran = c .before .before .before .before .before in
-    let found = ran .before .before .before .before .before .before .before .before in
-    let l = found .before .before .before .before .loop in
-    let size = simp length-map at (found .before .before .before .before .before .before .before .good .1 .1 .0 .1 .1 .0 .1 .0 .1) in
+    let read = ran .before .before .before .before .before in
+    let found = read .before .before .before .before in
+    let looped = found .before .before .before .before in
+    let l = looped .loop in
+    let size = simp length-map at (looped .before .before .before .good .1 .1 .0 .1 .1 .0 .1 .0 .1) in
     let q = sym (found .before .before .next-record .ensures) ∙ found .found .given .1 in
     let o = ran .run-record .ensures in
     let there = ran-there (l .inv .1 ∙ size) (o .0) (o .1) in
@@ -80,24 +83,30 @@ store-xmin-requires c κs = search needs
 
 loop-less : tie.Need-loop-less Inv-loop μ-loop
 loop-less c =
-    let put = c .before .before .before .before .before .before in
+    let stored = c .before .before .before .before in
+    let put = stored .before .before .before .before .before in
     let ran = put .before .before .before .before .before in
-    let found = ran .before .before .before .before .before .before .before .before in
-    let l = found .before .before .before .before .loop in
+    let read = ran .before .before .before .before .before in
+    let found = read .before .before .before .before in
+    let looped = found .before .before .before .before in
+    let l = looped .loop in
     let q = sym (found .before .before .next-record .ensures) ∙ found .found .given .1 in
     let m = moves _ _ _ _ q in
     omega arith
 
 loop-again : tie.Need-loop-again Inv-loop μ-loop
 loop-again c =
-    let put = c .before .before .before .before .before .before in
+    let stored = c .before .before .before .before in
+    let put = stored .before .before .before .before .before in
     let ran = put .before .before .before .before .before in
-    let found = ran .before .before .before .before .before .before .before .before in
-    let l = found .before .before .before .before .loop in
-    let s = found .before .before .before .before .before .before .before in
+    let read = ran .before .before .before .before .before in
+    let found = read .before .before .before .before in
+    let looped = found .before .before .before .before in
+    let l = looped .loop in
+    let s = looped .before .before .before in
     let kept = ran .run-record .kept .1 .1 .1 .1 .0 in
-    let one = c .before .before .before .store-txid .ensures in
-    let two = c .before .store-xmin .ensures in
+    let one = stored .before .before .store-txid .ensures in
+    let two = stored .store-xmin .ensures in
     let size = simp length-map at (s .good .1 .1 .0 .1 .1 .0 .1 .0 .1) in
     let size′ = simp length-map at (s .good .1 .1 .0 .1 .1 .1 .0 .1 .0 .1) in
     let txids = l .inv .1 ∙ size in
