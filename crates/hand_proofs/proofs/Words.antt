@@ -24,14 +24,15 @@ pub use denote.Ref.{RefT, now}
 pub use denote.Slice.{ShrSlice, Room, sliceVal, sliceTy}
 pub use Rattle.hand_proofs.proofs.World.{World, Promise, promise, Callee, Proved, world, known, proves}
 pub use Rattle.hand_proofs.proofs.Meets.{Call, Tokens, Reached, Walk, walks, walks-if, ends, ends-as}
-pub use Rattle.hand_proofs.proofs.Plains.{Plain, word, truth, row-of, record-of, owned, made}
+pub use Rattle.hand_proofs.proofs.Plains.{Plain, word, truth, row-of, record-of, choice-of, owned, made}
 pub use Rattle.hand_proofs.proofs.Params.{by-value, number, lent, struct}
 pub use Rattle.hand_proofs.proofs.Begin.{Typed, frame, deaths, cells}
 pub use Rattle.hand_proofs.proofs.Leave.{leaves}
 pub use Rattle.hand_proofs.proofs.Entries.{back, first-only, empties}
 pub use Rattle.hand_proofs.proofs.Locals.{local, member, through, locals, sets, sets-last, resets, resets-last, lands, lands-last}
-pub use Rattle.hand_proofs.proofs.Calls.{hands-on, hands, hands-none, calls, calls-as, calls-last}
+pub use Rattle.hand_proofs.proofs.Calls.{hands-on, hands, hands-none, calls, calls-is, calls-as, calls-last}
 pub use Rattle.hand_proofs.proofs.Constants.{constant}
+pub use Rattle.hand_proofs.proofs.Structs.{of-fields, is-whole, is-spelled, shuts-struct, opens-struct, twice}
 pub use Rattle.hand_proofs.proofs.Lent.{looks, shuts, run, lends, returns}
 pub use Rattle.hand_proofs.proofs.Arrays.{spreads, gathers, cuts, joins, takes, puts}
 pub use Rattle.hand_proofs.proofs.Loops.{Turn, goes-on, rounds}
