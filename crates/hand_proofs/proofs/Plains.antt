@@ -1,6 +1,6 @@
 -- Plain data: how a value is spelled as machine values, that these have the type's MIR types,
 -- and that what it owns can be had twice, and for nothing.
---     word, truth      a u64 or a usize; a bool
+--     word, truth, unit    a u64 or a usize; a bool; `()`
 --     record-of D L c p    a struct of plain data, by its generated type, laws, `the-copy` and `the-plain`
 --     choice-of D L c p    an enum of plain data, likewise
 --     row-of r n       an array of n
@@ -19,6 +19,7 @@ use denote.Laws.{Is, Ises, Are, Tells, Makes, Copy, Lawful}
 use denote.Array.{Array, array-vals, array-tells, array-copy, array-makes, array-lawful}
 use denote.Builtin.{u64}
 use denote.Plain.{Boolean, uint-vals, uint-tells, uint-copy, uint-makes, uint-lawful, bool-vals, bool-tells, bool-copy, bool-makes, bool-lawful}
+use denote.Plain.{Nothing, nothing-vals, nothing-tells, nothing-copy, nothing-makes, nothing-lawful}
 use denote.Enum.Declared as ED
 use denote.Enum.Enum.{Few, Plainss}
 use denote.Enum.Laws as EL
@@ -51,6 +52,15 @@ module _ {M : Type 1} {𝓤 : URA M} {H : Heap 𝓤} (w : World 𝓤 H) where
     copy = bool-copy 𝓤 H (w .atoms) (w .given);
     makes = bool-makes 𝓤 H (w .atoms) (w .given);
     lawful = bool-lawful 𝓤 H (w .atoms) (w .given);
+  }
+
+  abbrev pub unit : Plain Nothing
+  unit = record {
+    vals = nothing-vals;
+    tells = nothing-tells;
+    copy = nothing-copy 𝓤 H (w .atoms) (w .given);
+    makes = nothing-makes 𝓤 H (w .atoms) (w .given);
+    lawful = nothing-lawful 𝓤 H (w .atoms) (w .given);
   }
 
   abbrev pub row-of : {R : RattleType} → Plain R → (n : ℕ) → Plain (Array R n)
