@@ -25,7 +25,7 @@ pub use denote.Slice.{ShrSlice, Room, sliceVal, sliceTy}
 pub use Rattle.hand_proofs.proofs.World.{World, Promise, promise, Callee, Proved, world, known, proves}
 pub use Rattle.hand_proofs.proofs.Meets.{Call, Tokens, Reached, Walk, walks, walks-if, ends, ends-as}
 pub use Rattle.hand_proofs.proofs.Plains.{Plain, word, truth, unit, row-of, record-of, choice-of, owned, made}
-pub use Rattle.hand_proofs.proofs.Params.{by-value, number, lent, struct}
+pub use Rattle.hand_proofs.proofs.Params.{Param, by-value, number, lent, struct}
 pub use Rattle.hand_proofs.proofs.Begin.{Typed, frame, deaths, cells}
 pub use Rattle.hand_proofs.proofs.Leave.{leaves}
 pub use Rattle.hand_proofs.proofs.Entries.{back, first-only, empties}

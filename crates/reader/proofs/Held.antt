@@ -3,8 +3,9 @@
 use lib.ListN.{length}
 use package.mir.Syntax.{Lifetime}
 use types.Kit.{Goal, Step, step, use2, fsplit, fjoin}
+use denote.Exit.{yes}
 use denote.Ref.{NamedLft}
-use denote.Signature.{namedLft}
+use denote.Signature.{plain, namedLft}
 use denote.Steps.{nothing}
 use denote.Struct.Declared.{Declared}
 use denote.Struct.Laws as LL
@@ -13,7 +14,7 @@ use Rattle.trace.specs.declared.RecordAt.{RecordAt}
 use Rattle.trace.proofs.RecordAt as F
 use Rattle.trace.proofs.RecordAt.Laws as F′
 use Rattle.hand_proofs.proofs.Words.{refl, ℕ, _<_, _^_, List, [], _∷_, URA, Heap, World, RattleType, usize, RefT, sliceVal, Is, Typed}
-use Rattle.hand_proofs.proofs.Words.{Lft, Fml, Val, vint, w64, Item, _$_, ‵, move, drop, Plain, word, choice-of, owned, is-whole, is-spelled, shuts-struct, opens-struct}
+use Rattle.hand_proofs.proofs.Words.{Lft, Fml, Val, vint, w64, Item, _$_, ‵, move, drop, Lfts, Param, struct, Plain, word, choice-of, owned, is-whole, is-spelled, shuts-struct, opens-struct}
 use Rattle.reader.specs.Reader.{standing}
 use Rattle.reader.specs.declared.Reader.{Reader}
 use Rattle.reader.specs.declared.Step as A
@@ -72,6 +73,10 @@ module _ (κ : Lft) where
 module _ {M : Type 1} {𝓤 : URA M} {H : Heap 𝓤} (w : World 𝓤 H) where
   abbrev pub found : Plain w F.the-row
   found = choice-of w F.the-type F′.the-laws tt F′.the-copy F′.the-plain
+
+  -- a reader as the parameter of a function
+  abbrev pub a-reader : Param w {n = 1} (plain (λ (κs : Lfts 1). T.the-row (namedLft 1 0 tt κs))) yes
+  a-reader = struct w (λ κs. T.the-type (namedLft 1 0 tt κs)) (λ κs. T′.the-laws (namedLft 1 0 tt κs)) (λ κs x f. refl)
 
   -- the machine values have their types, whichever lifetime MIR writes
   pub found-typed : (x : RecordAt) → IsFound x → Typed F′.mir (F′.lowered x)

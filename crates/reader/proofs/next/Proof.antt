@@ -3,8 +3,8 @@
 -- No fact is carried but the callees' equations, which together are `stepOf`.
 use package.mir.Syntax.{erased}
 use denote.Signature.{namedLft}
-use Rattle.hand_proofs.proofs.Words.{_≡_, refl, ℕ, _<_, _^_, [], _∷_, URA, Heap, Lfts, Shares, named, w64, vint, Typed, now, usize, emp, id⊢, factI}
-use Rattle.hand_proofs.proofs.Words.{World, Promise, promise, Callee, Proved, Call, Walk, world, known, proves, walks, ends, leaves, struct, word, made}
+use Rattle.hand_proofs.proofs.Words.{_≡_, refl, ℕ, [], _∷_, URA, Heap, Lfts, Shares, named, w64, vint, Typed, usize, emp, id⊢, factI}
+use Rattle.hand_proofs.proofs.Words.{World, Promise, promise, Callee, Proved, Call, Walk, world, known, proves, walks, ends, leaves, word, made}
 use Rattle.hand_proofs.proofs.Words.{_$_, !, by, move, drop, first-only, sets, member, local, locals, of-opd, agg, and-then, no-more}
 use Rattle.hand_proofs.proofs.Words.{hands-on, hands-none, calls-is, lands, opens-struct, twice}
 use Rattle.trace.proofs.RecordAt as F
@@ -12,10 +12,10 @@ use Rattle.trace.proofs.RecordAt.Laws as F′
 use Rattle.trace.proofs.record_at as g
 use Rattle.reader.specs.Reader.{standing, pastOf, foundBy, stepOf}
 use Rattle.reader.specs.declared.Reader.{Reader}
-use Rattle.reader.proofs.Reader as T
+use Rattle.reader.specs.declared.Step.{Step}
 use Rattle.reader.proofs.Reader.Laws as T′
 use Rattle.reader.proofs.Step.Laws as S′
-use Rattle.reader.proofs.Held.{Reading, IsReader, spelled, found, moved, made-step, found-typed, reader-typed, step-typed, steps}
+use Rattle.reader.proofs.Held.{Reading, IsReader, spelled, a-reader, found, moved, made-step, found-typed, reader-typed, step-typed, steps}
 use Rattle.reader.proofs.place_past as h
 use Rattle.reader.proofs.next as f
 
@@ -41,9 +41,15 @@ module _ {M : Type 1} {𝓤 : URA M} {H : Heap 𝓤} (w : World 𝓤 H) where
       abbrev to-past : Call w Past
       to-past = ((tt, tt, tt, (foundBy r, (r .at, tt)), (F′.lowered (foundBy r) ∷ [], (vint w64 (r .at) ∷ [], tt))), tt)
 
-      -- the place past what was found
+      -- the place past what was found, the reader there, and the step
       abbrev n : ℕ
       n = pastOf (foundBy r) (r .at)
+
+      abbrev q : Reader
+      q = standing (r .text) n
+
+      abbrev s : Step
+      s = record { found = foundBy r; reader = q }
 
       walk : IsReader (κs .0) r → Typed (T′.mir (named 0)) (T′.lowered r) → Walk w P f.Code.function y
       walk is typed = λ l₀ l₁ l₂ l₃ l₄ l₅ l₆ l₇ l₈.
@@ -62,20 +68,21 @@ module _ {M : Type 1} {𝓤 : URA M} {H : Heap 𝓤} (w : World 𝓤 H) where
           hands-none w ! Past to-past (id⊢ 𝓤 (emp 𝓤))
           (made w (F.the-row ∷ usize ∷ []) (found w, (word w, tt)) (to-past .0 .3) (to-past .0 .4) (x-is, ((refl, typed .1 .1 .0 .fits), tt))) $
           calls-is w ! Past past to-past (id⊢ 𝓤 (emp 𝓤)) n (λ m ws. id⊢ 𝓤 _) (word w .tells) (locals ! 3 (refl, (refl, tt))) (λ n-is.
-          let r-is = moved (κs .0) r n is (n-is .1) in
+          let q-is = moved (κs .0) r n is (n-is .1) in
           drop ! $ drop ! $ lands ! 2 refl (tt, record { fits = n-is .1 }) $
           sets ! 2 (of-opd ! (member ! 2 refl refl)) refl (tt, typed .1 .0) $
           sets ! 2 (agg ! (and-then ! (local ! 2 refl) (and-then ! (local ! 2 refl) (no-more !)))) refl
-          (reader-typed w (κs .0) erased (standing (r .text) n) r-is) $
+          (reader-typed w (κs .0) erased q q-is) $
           sets ! 2 (agg ! (and-then ! (local ! 2 refl) (and-then ! (local ! 2 refl) (no-more !)))) refl
-          (step-typed w (κs .0) (named 0) (stepOf r) (made-step (κs .0) (stepOf r) x-is r-is)) $
+          (step-typed w (κs .0) (named 0) s (made-step (κs .0) s x-is q-is)) $
           leaves ! 2 refl refl $ move ! (1 ∷ 0 ∷ []) $ steps w ! (κs .0) r (foundBy r) n x-is (n-is .1) $
-          by ! (ends w P y (S′.lowered (stepOf r)) (stepOf r) (tt, tt) (factI 𝓤 _ (emp 𝓤) refl))))
+          by ! (ends w P y (S′.lowered s) s (tt, tt) (factI 𝓤 _ (emp 𝓤) is-step))))
+        where
+          is-step : s ≡ stepOf r
+          is-step = refl
 
     meets : Proved w P f.Code.function
-    meets =
-        let reader = struct w (λ (κs : Lfts 1). T.the-type (namedLft 1 0 tt κs)) (λ κs. T′.the-laws (namedLft 1 0 tt κs)) (λ κs x f. refl) in
-        walks w P f.Code.function (reader, tt) (λ κs a t. t) (λ κs qs bounds a g are typed h. walk κs qs (a .0) (are .0) (typed .0))
+    meets = walks w P f.Code.function (a-reader w, tt) (λ κs a t. t) (λ κs qs bounds a g are typed h. walk κs qs (a .0) (are .0) (typed .0))
 
 pub next-spec : {M : Type 1} → f.Statement.statement M
 unfolding f.Code.routine

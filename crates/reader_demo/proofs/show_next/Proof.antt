@@ -1,18 +1,16 @@
 -- A walk of `show_next`: the reader is asked, what it found is shown, and the reader of its answer is handed back.
 -- No fact is carried but that the answer is `stepOf`. What a step owns beside its reader is plain data, and is dropped.
 use package.mir.Syntax.{erased}
-use denote.Signature.{namedLft}
 use Rattle.trace.proofs.RecordAt as F
 use Rattle.trace.proofs.RecordAt.Laws as F′
 use Rattle.hand_proofs.proofs.Words.{refl, [], _∷_, URA, Heap, Lfts, Shares, named, emp, id⊢, factI}
-use Rattle.hand_proofs.proofs.Words.{World, Promise, promise, Callee, Proved, Call, Walk, world, known, proves, walks, ends, leaves, struct, unit, made}
+use Rattle.hand_proofs.proofs.Words.{World, Promise, promise, Callee, Proved, Call, Walk, world, known, proves, walks, ends, leaves, unit, made}
 use Rattle.hand_proofs.proofs.Words.{_$_, !, by, drop, sets, local, member, locals, of-opd, hands-on, hands-none, calls-is, lands}
 use Rattle.reader.specs.Reader.{foundBy, stepOf}
 use Rattle.reader.specs.declared.Reader.{Reader}
-use Rattle.reader.proofs.Reader as T
 use Rattle.reader.proofs.Reader.Laws as T′
 use Rattle.reader.proofs.Step.Laws as S′
-use Rattle.reader.proofs.Held.{IsReader, lft, found, found-of, reader-of, found-typed, reader-typed, step-typed, moves-on}
+use Rattle.reader.proofs.Held.{IsReader, lft, a-reader, found, found-of, reader-of, found-typed, reader-typed, step-typed, moves-on}
 use Rattle.reader.proofs.next as g
 use Rattle.reader_demo.proofs.show as h
 use Rattle.reader_demo.proofs.show_next as f
@@ -52,9 +50,7 @@ module _ {M : Type 1} {𝓤 : URA M} {H : Heap 𝓤} (w : World 𝓤 H) where
         by ! (ends w P y (T′.lowered (stepOf r .reader)) (stepOf r .reader) (tt, tt) (factI 𝓤 _ (emp 𝓤) refl))))
 
   meets : Callee w Next g.Symbol.name → Callee w Show h.Symbol.name → Proved w P f.Code.function
-  meets next show =
-      let reader = struct w (λ (κs : Lfts 1). T.the-type (namedLft 1 0 tt κs)) (λ κs. T′.the-laws (namedLft 1 0 tt κs)) (λ κs x f. refl) in
-      walks w P f.Code.function (reader, tt) (λ κs a t. t) (λ κs qs bounds a g are typed h. walk next show κs qs (a .0) (are .0))
+  meets next show = walks w P f.Code.function (a-reader w, tt) (λ κs a t. t) (λ κs qs bounds a g are typed h. walk next show κs qs (a .0) (are .0))
 
 pub show-next-spec : {M : Type 1} → f.Statement.statement M
 unfolding f.Code.routine
