@@ -18,7 +18,8 @@ use denote.RattleType.{RattleType, Denots, Valss, owns}
 use denote.Laws.{Is, Ises, Are, Tells, Makes, Copy, Lawful}
 use denote.Array.{Array, array-vals, array-tells, array-copy, array-makes, array-lawful}
 use denote.Builtin.{u64}
-use denote.Plain.{Boolean, uint-vals, uint-tells, uint-copy, uint-makes, uint-lawful, bool-vals, bool-tells, bool-copy, bool-makes, bool-lawful}
+use denote.Plain.{uint-vals, uint-tells, uint-copy, uint-makes, uint-lawful}
+use denote.Plain.{Boolean, bool-vals, bool-tells, bool-copy, bool-makes, bool-lawful}
 use denote.Plain.{Nothing, nothing-vals, nothing-tells, nothing-copy, nothing-makes, nothing-lawful}
 use denote.Enum.Declared as ED
 use denote.Enum.Enum.{Few, Plainss}
@@ -81,7 +82,8 @@ module _ {M : Type 1} {𝓤 : URA M} {H : Heap 𝓤} (w : World 𝓤 H) where
     lawful = LL.lawful D L 𝓤 H (w .atoms) (w .given);
   }
 
-  abbrev pub choice-of : (D : ED.Declared) (L : EL.Laws D) → Few (ED.shape D) → EL.Copyabless (D .parts) → Plainss (ED.variants D) → Plain (ED.row D)
+  abbrev pub choice-of : (D : ED.Declared) (L : EL.Laws D) → Few (ED.shape D) → EL.Copyabless (D .parts)
+      → Plainss (ED.variants D) → Plain (ED.row D)
   choice-of D L few c p = record {
     vals = EL.vals D L;
     tells = EL.tells D L;

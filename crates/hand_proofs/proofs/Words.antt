@@ -30,7 +30,7 @@ pub use Rattle.hand_proofs.proofs.Begin.{Typed, frame, deaths, cells}
 pub use Rattle.hand_proofs.proofs.Leave.{leaves}
 pub use Rattle.hand_proofs.proofs.Entries.{back, first-only, empties}
 pub use Rattle.hand_proofs.proofs.Locals.{local, member, through, locals, sets, sets-last, resets, resets-last, lands, lands-last}
-pub use Rattle.hand_proofs.proofs.Calls.{hands-on, hands, hands-none, calls, calls-is, calls-as, calls-last}
+pub use Rattle.hand_proofs.proofs.Calls.{nil, hands-on, hands, hands-none, calls, calls-is, calls-as, calls-last}
 pub use Rattle.hand_proofs.proofs.Constants.{constant}
 pub use Rattle.hand_proofs.proofs.Structs.{of-fields, is-whole, is-spelled, shuts-struct, opens-struct, twice}
 pub use Rattle.hand_proofs.proofs.Lent.{looks, shuts, run, lends, returns}

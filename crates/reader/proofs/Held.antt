@@ -13,8 +13,9 @@ use denote.Struct.Rest.{own-put}
 use Rattle.trace.specs.declared.RecordAt.{RecordAt}
 use Rattle.trace.proofs.RecordAt as F
 use Rattle.trace.proofs.RecordAt.Laws as F′
-use Rattle.hand_proofs.proofs.Words.{refl, ℕ, _<_, _^_, List, [], _∷_, URA, Heap, World, RattleType, usize, RefT, sliceVal, Is, Typed}
-use Rattle.hand_proofs.proofs.Words.{Lft, Fml, Val, vint, w64, Item, _$_, ‵, move, drop, Lfts, Param, struct, Plain, word, choice-of, owned, is-whole, is-spelled, shuts-struct, opens-struct}
+use Rattle.hand_proofs.proofs.Words.{refl, ℕ, _<_, _^_, List, [], _∷_, URA, Heap, Lft, Lfts, Fml, Val, vint, w64, RefT, sliceVal, Is, Typed}
+use Rattle.hand_proofs.proofs.Words.{World, Param, struct, Plain, word, choice-of, owned, is-whole, is-spelled, shuts-struct, opens-struct}
+use Rattle.hand_proofs.proofs.Words.{Item, _$_, ‵, move, drop}
 use Rattle.reader.specs.Reader.{standing}
 use Rattle.reader.specs.declared.Reader.{Reader}
 use Rattle.reader.specs.declared.Step as A

@@ -2,11 +2,10 @@
 -- at the place past what was found. The reader is Copy: what it owns is had twice, once for the parser and once for the answer.
 -- No fact is carried but the callees' equations, which together are `stepOf`.
 use package.mir.Syntax.{erased}
-use denote.Signature.{namedLft}
 use Rattle.hand_proofs.proofs.Words.{_≡_, refl, ℕ, [], _∷_, URA, Heap, Lfts, Shares, named, w64, vint, Typed, usize, emp, id⊢, factI}
-use Rattle.hand_proofs.proofs.Words.{World, Promise, promise, Callee, Proved, Call, Walk, world, known, proves, walks, ends, leaves, word, made}
+use Rattle.hand_proofs.proofs.Words.{World, Promise, promise, Callee, Proved, Call, Walk, world, known, proves, walks, ends, leaves}
 use Rattle.hand_proofs.proofs.Words.{_$_, !, by, move, drop, first-only, sets, member, local, locals, of-opd, agg, and-then, no-more}
-use Rattle.hand_proofs.proofs.Words.{hands-on, hands-none, calls-is, lands, opens-struct, twice}
+use Rattle.hand_proofs.proofs.Words.{word, made, nil, hands-on, hands-none, calls-is, lands, opens-struct, twice}
 use Rattle.trace.proofs.RecordAt as F
 use Rattle.trace.proofs.RecordAt.Laws as F′
 use Rattle.trace.proofs.record_at as g
@@ -15,7 +14,8 @@ use Rattle.reader.specs.declared.Reader.{Reader}
 use Rattle.reader.specs.declared.Step.{Step}
 use Rattle.reader.proofs.Reader.Laws as T′
 use Rattle.reader.proofs.Step.Laws as S′
-use Rattle.reader.proofs.Held.{Reading, IsReader, spelled, a-reader, found, moved, made-step, found-typed, reader-typed, step-typed, steps}
+use Rattle.reader.proofs.Held.{Reading, IsReader, lft, spelled, a-reader, found, moved, made-step}
+use Rattle.reader.proofs.Held.{found-typed, reader-typed, step-typed, steps}
 use Rattle.reader.proofs.place_past as h
 use Rattle.reader.proofs.next as f
 
@@ -56,18 +56,19 @@ module _ {M : Type 1} {𝓤 : URA M} {H : Heap 𝓤} (w : World 𝓤 H) where
           -- [the tokens; what the reader owns; _0; ..; _8; ..]
           sets ! 2 (of-opd ! (member ! 2 refl refl)) refl (tt, typed .1 .0) $
           sets ! 2 (of-opd ! (member ! 2 refl refl)) refl (tt, typed .1 .1 .0) $
-          first-only ! $ move ! (1 ∷ []) $ twice w ! (Reading (κs .0)) (T′.the-copy (namedLft 1 0 tt κs)) r (T′.lowered r) $
-          opens-struct w ! (Reading (κs .0)) (T′.the-laws (namedLft 1 0 tt κs)) (r .text, (r .at, tt)) (T′.lowered r) $
+          first-only ! $ move ! (1 ∷ []) $ twice w ! (Reading (κs .0)) (T′.the-copy (lft (κs .0))) r (T′.lowered r) $
+          opens-struct w ! (Reading (κs .0)) (T′.the-laws (lft (κs .0))) (r .text, (r .at, tt)) (T′.lowered r) $
           -- [what its text and place own; what the reader owns; the tokens; _0; ..]
           move ! (2 ∷ 0 ∷ []) $ hands-on w ! Parser to-parser $
-          calls-is w ! Parser parser to-parser (id⊢ 𝓤 (emp 𝓤)) (foundBy r) (λ x ws. id⊢ 𝓤 _) (F′.lowers .val-is)
+          calls-is w ! Parser parser to-parser (nil 𝓤) (foundBy r) (λ x ws. id⊢ 𝓤 _) (F′.lowers .val-is)
           (locals ! 2 (refl, (refl, tt))) (λ x-is.
           drop ! $ lands ! 2 refl (found-typed w (foundBy r) x-is) $
           -- [the tokens; what the reader owns; _0; ..]
           sets ! 2 (of-opd ! (member ! 2 refl refl)) refl (tt, typed .1 .1 .0) $
-          hands-none w ! Past to-past (id⊢ 𝓤 (emp 𝓤))
-          (made w (F.the-row ∷ usize ∷ []) (found w, (word w, tt)) (to-past .0 .3) (to-past .0 .4) (x-is, ((refl, typed .1 .1 .0 .fits), tt))) $
-          calls-is w ! Past past to-past (id⊢ 𝓤 (emp 𝓤)) n (λ m ws. id⊢ 𝓤 _) (word w .tells) (locals ! 3 (refl, (refl, tt))) (λ n-is.
+          hands-none w ! Past to-past (nil 𝓤)
+          (made w (F.the-row ∷ usize ∷ []) (found w, (word w, tt)) (to-past .0 .3) (to-past .0 .4)
+          (x-is, ((refl, typed .1 .1 .0 .fits), tt))) $
+          calls-is w ! Past past to-past (nil 𝓤) n (λ m ws. id⊢ 𝓤 _) (word w .tells) (locals ! 3 (refl, (refl, tt))) (λ n-is.
           let q-is = moved (κs .0) r n is (n-is .1) in
           drop ! $ drop ! $ lands ! 2 refl (tt, record { fits = n-is .1 }) $
           sets ! 2 (of-opd ! (member ! 2 refl refl)) refl (tt, typed .1 .0) $
@@ -82,7 +83,9 @@ module _ {M : Type 1} {𝓤 : URA M} {H : Heap 𝓤} (w : World 𝓤 H) where
           is-step = refl
 
     meets : Proved w P f.Code.function
-    meets = walks w P f.Code.function (a-reader w, tt) (λ κs a t. t) (λ κs qs bounds a g are typed h. walk κs qs (a .0) (are .0) (typed .0))
+    meets =
+        walks w P f.Code.function (a-reader w, tt) (λ κs a t. t)
+        (λ κs qs bounds a g are typed h. walk κs qs (a .0) (are .0) (typed .0))
 
 pub next-spec : {M : Type 1} → f.Statement.statement M
 unfolding f.Code.routine

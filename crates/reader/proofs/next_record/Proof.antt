@@ -2,8 +2,9 @@
 -- No fact is carried but the callees' equations: what was found is read of the very step that `stepOf` says.
 use package.mir.Syntax.{erased}
 use Rattle.hand_proofs.proofs.Words.{refl, ℕ, List, [], _∷_, URA, Heap, Lfts, Shares, w64, vint, u8, RefT, emp, id⊢, factI}
-use Rattle.hand_proofs.proofs.Words.{World, Promise, promise, Callee, Proved, Call, Walk, world, known, proves, walks, ends, leaves, number, lent}
-use Rattle.hand_proofs.proofs.Words.{_$_, !, by, move, drop, sets, member, of-opd, locals, owned, hands-on, hands, calls-is, lands}
+use Rattle.hand_proofs.proofs.Words.{World, Promise, promise, Callee, Proved, Call, Walk, world, known, proves, walks, ends, leaves}
+use Rattle.hand_proofs.proofs.Words.{_$_, !, by, move, drop, sets, member, of-opd, locals, number, lent, owned}
+use Rattle.hand_proofs.proofs.Words.{nil, hands-on, hands, calls-is, lands}
 use Rattle.trace.proofs.RecordAt.Laws as F′
 use Rattle.reader.specs.Reader.{standing, foundBy, stepOf}
 use Rattle.reader.specs.declared.Reader.{Reader}
@@ -40,12 +41,13 @@ module _ {M : Type 1} {𝓤 : URA M} {H : Heap 𝓤} (w : World 𝓤 H) where
       walk = λ l₀ l₁ l₂ l₃ l₄.
           -- [the tokens; what the arguments own; _0; ..; _4; ..]: what is had is what `at_place` is handed
           hands-on w ! Make y $
-          calls-is w ! Make make y (id⊢ 𝓤 (emp 𝓤)) r (λ x ws. id⊢ 𝓤 _) (T′.lowers (lft (κs .0)) .val-is) (locals ! 1 (refl, (refl, tt))) (λ r-is.
+          calls-is w ! Make make y (nil 𝓤) r (λ x ws. id⊢ 𝓤 _)
+          (T′.lowers (lft (κs .0)) .val-is) (locals ! 1 (refl, (refl, tt))) (λ r-is.
           -- [what the reader owns; the tokens; _0; ..]
           lands ! 2 refl (reader-typed w (κs .0) erased r r-is) $ move ! (1 ∷ 0 ∷ []) $
-          hands w ! Next to-next refl (id⊢ 𝓤 (emp 𝓤)) $
-          calls-is w ! Next next to-next (id⊢ 𝓤 (emp 𝓤)) (stepOf r) (λ x ws. id⊢ 𝓤 _) (S′.lowers (lft (κs .0)) .val-is)
-          (locals ! 1 (refl, tt)) (λ s-is.
+          hands w ! Next to-next refl (nil 𝓤) $
+          calls-is w ! Next next to-next (nil 𝓤) (stepOf r) (λ x ws. id⊢ 𝓤 _)
+          (S′.lowers (lft (κs .0)) .val-is) (locals ! 1 (refl, tt)) (λ s-is.
           let x-is = found-of (κs .0) (stepOf r) s-is in
           -- [what the step owns; the tokens; _0; ..]
           drop ! $ lands ! 1 refl (step-typed w (κs .0) erased (stepOf r) s-is) $
@@ -54,7 +56,9 @@ module _ {M : Type 1} {𝓤 : URA M} {H : Heap 𝓤} (w : World 𝓤 H) where
           by ! (ends w P y (F′.lowered (foundBy r)) (foundBy r) (tt, (tt, tt)) (factI 𝓤 _ (emp 𝓤) refl))))
 
     meets : Proved w P f.Code.function
-    meets = walks w P f.Code.function (lent w 0 tt u8, (number w, tt)) (λ κs a t. t) (λ κs qs bounds a g are typed h. walk κs qs (a .0) (a .1 .0))
+    meets =
+        walks w P f.Code.function (lent w 0 tt u8, (number w, tt)) (λ κs a t. t)
+        (λ κs qs bounds a g are typed h. walk κs qs (a .0) (a .1 .0))
 
 pub next-record-spec : {M : Type 1} → f.Statement.statement M
 unfolding f.Code.routine

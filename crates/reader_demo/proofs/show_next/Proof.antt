@@ -4,8 +4,9 @@ use package.mir.Syntax.{erased}
 use Rattle.trace.proofs.RecordAt as F
 use Rattle.trace.proofs.RecordAt.Laws as F′
 use Rattle.hand_proofs.proofs.Words.{refl, [], _∷_, URA, Heap, Lfts, Shares, named, emp, id⊢, factI}
-use Rattle.hand_proofs.proofs.Words.{World, Promise, promise, Callee, Proved, Call, Walk, world, known, proves, walks, ends, leaves, unit, made}
-use Rattle.hand_proofs.proofs.Words.{_$_, !, by, drop, sets, local, member, locals, of-opd, hands-on, hands-none, calls-is, lands}
+use Rattle.hand_proofs.proofs.Words.{World, Promise, promise, Callee, Proved, Call, Walk, world, known, proves, walks, ends, leaves}
+use Rattle.hand_proofs.proofs.Words.{_$_, !, by, drop, sets, local, member, locals, of-opd, unit, made}
+use Rattle.hand_proofs.proofs.Words.{nil, hands-on, hands-none, calls-is, lands}
 use Rattle.reader.specs.Reader.{foundBy, stepOf}
 use Rattle.reader.specs.declared.Reader.{Reader}
 use Rattle.reader.proofs.Reader.Laws as T′
@@ -37,20 +38,24 @@ module _ {M : Type 1} {𝓤 : URA M} {H : Heap 𝓤} (w : World 𝓤 H) where
     walk is = λ l₀ l₁ l₂ l₃ l₄ l₅.
         -- [the tokens; what the reader owns; _0; ..; _5; ..]: what is had is what `next` is handed
         sets ! 2 (of-opd ! (local ! 2 refl)) refl (reader-typed w (κs .0) erased r is) $ hands-on w ! Next y $
-        calls-is w ! Next next y (id⊢ 𝓤 (emp 𝓤)) (stepOf r) (λ x ws. id⊢ 𝓤 _) (S′.lowers (lft (κs .0)) .val-is) (locals ! 1 (refl, tt)) (λ s-is.
+        calls-is w ! Next next y (nil 𝓤) (stepOf r) (λ x ws. id⊢ 𝓤 _)
+        (S′.lowers (lft (κs .0)) .val-is) (locals ! 1 (refl, tt)) (λ s-is.
         let x-is = found-of (κs .0) (stepOf r) s-is in
+        let q-is = reader-of (κs .0) (stepOf r) s-is in
         -- [what the step owns; the tokens; _0; ..]
         lands ! 2 refl (step-typed w (κs .0) erased (stepOf r) s-is) $
         sets ! 2 (of-opd ! (member ! 2 refl refl)) refl (found-typed w (foundBy r) x-is) $
-        hands-none w ! Show to-show (id⊢ 𝓤 (emp 𝓤)) (made w (F.the-row ∷ []) (found w, tt) (foundBy r, tt) (to-show .0 .4) (x-is, tt)) $
-        calls-is w ! Show show to-show (id⊢ 𝓤 (emp 𝓤)) tt (λ x ws. factI 𝓤 _ _ refl) (unit w .tells) (locals ! 3 (refl, tt)) (λ _.
+        hands-none w ! Show to-show (nil 𝓤) (made w (F.the-row ∷ []) (found w, tt) (foundBy r, tt) (to-show .0 .4) (x-is, tt)) $
+        calls-is w ! Show show to-show (nil 𝓤) tt (λ x ws. factI 𝓤 _ _ refl) (unit w .tells) (locals ! 3 (refl, tt)) (λ _.
         drop ! $ drop ! $ lands ! 2 refl (tt, tt) $
-        sets ! 2 (of-opd ! (member ! 2 refl refl)) refl (reader-typed w (κs .0) (named 0) (stepOf r .reader) (reader-of (κs .0) (stepOf r) s-is)) $
+        sets ! 2 (of-opd ! (member ! 2 refl refl)) refl (reader-typed w (κs .0) (named 0) (stepOf r .reader) q-is) $
         leaves ! 2 refl refl $ moves-on w ! (κs .0) (stepOf r) $
         by ! (ends w P y (T′.lowered (stepOf r .reader)) (stepOf r .reader) (tt, tt) (factI 𝓤 _ (emp 𝓤) refl))))
 
   meets : Callee w Next g.Symbol.name → Callee w Show h.Symbol.name → Proved w P f.Code.function
-  meets next show = walks w P f.Code.function (a-reader w, tt) (λ κs a t. t) (λ κs qs bounds a g are typed h. walk next show κs qs (a .0) (are .0))
+  meets next show =
+      walks w P f.Code.function (a-reader w, tt) (λ κs a t. t)
+      (λ κs qs bounds a g are typed h. walk next show κs qs (a .0) (are .0))
 
 pub show-next-spec : {M : Type 1} → f.Statement.statement M
 unfolding f.Code.routine
