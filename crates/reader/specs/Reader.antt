@@ -21,6 +21,6 @@ pastOf (Broken k) at = at
 abbrev pub foundBy : Reader → RecordAt
 foundBy r = recordAt (now (r .text)) (r .at)
 
--- what is found, and the reader moved past it, over the very same trace
+-- what is found, and the reader moved past it, over the very same trace, its pointer with it
 abbrev pub stepOf : Reader → Step
 stepOf r = record { found = foundBy r; reader = standing (r .text) (pastOf (foundBy r) (r .at)) }
