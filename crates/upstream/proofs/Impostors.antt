@@ -31,7 +31,7 @@ use Rattle.upstream.specs.Clauses.{OldestSnapshotXmin, DeregisterThenRes
 use Rattle.upstream.proofs.Pairs.{pairs-set, slotsOf, txid-at, shaped-applied}
 use Rattle.upstream.proofs.Yes.{from-good, atLine, to-good}
 use Rattle.upstream.proofs.Histories.{length-push, contains-pushes, contains-last, history-push}
-use Rattle.upstream.proofs.Foreseen.{snap-foreseen, oldest-foreseen}
+use Rattle.upstream.proofs.Foreseen.{asked-foreseen}
 use Rattle.upstream.proofs.Snapshots.{snapshot-locked-meets}
 use Rattle.upstream.proofs.Oldest.{oldest-meets}
 use Rattle.upstream.proofs.Publish.{above}
@@ -117,12 +117,12 @@ module _ (n : ℕ) (t : Table) (history : List ℕ) (s : Shaped n t) where
   pub always-sample-one :
       (c : ℕ) → clockOf t ≤ c → 1 ≤ c →
       SnapshotLocked n (stateOf t history) (stateAfter n t history (snap c 1)) (shown n t (snap c 1))
-  always-sample-one c h p = snapshot-locked-meets n t history s c 1 (snap-foreseen n t c 1 (one c h p))
+  always-sample-one c h p = snapshot-locked-meets n t history s c 1 (asked-foreseen n t (snap c 1) (one c h p))
 
   pub always-oldest-one :
       (c : ℕ) → clockOf t ≤ c → 1 ≤ c →
       OldestSnapshotXmin n (stateOf t history) (stateAfter n t history (oldest c 1)) (answer n t (oldest c 1))
-  always-oldest-one c h p = oldest-meets n t history c 1 s (oldest-foreseen n t c 1 (one c h p))
+  always-oldest-one c h p = oldest-meets n t history c 1 s (asked-foreseen n t (oldest c 1) (one c h p))
 
   -- the transaction snapshot: a refusal that moves clock and sample as a plain snapshot does, and is called NoFreeSlot
   pub refused-moves-clock :
@@ -130,7 +130,7 @@ module _ (n : ℕ) (t : Table) (history : List ℕ) (s : Shaped n t) where
       CreateTransactionSnapshot n (stateOf t history) (stateAfter n t history (snap c m)) i id none-free x
   unfolding told
   refused-moves-clock i id c m x f d =
-      let r = snapshot-locked-meets n t history s c m (snap-foreseen n t c m f) in
+      let r = snapshot-locked-meets n t history s c m (asked-foreseen n t (snap c m) f) in
       record {
         l-own-e1 = r .l-snapshot-locked-e1;
         l-own-e3 = r .l-snapshot-locked-e2 .reservations;
