@@ -1,0 +1,130 @@
+//! tests/pins: what a person has looked at. A row, a clause, a case, an edit, a definition, a theorem or a contract that
+//! vanished, changed or came is told from what stands there. Nothing but a person changes that file.
+
+use crate::Reading;
+use crate::text::{bare, hash, squeezed};
+use crate::tree::Report;
+use std::collections::BTreeMap;
+
+pub const FILE: &str = "tests/pins";
+/// The documents whose theorems are quoted.
+pub const QUOTING: [&str; 2] = ["docs/PROMISE.md", "docs/TRUST.md"];
+
+/// By kind and name, the hash; of a stage of .ci/run its least number of passes, which no reading knows.
+pub type Pins = BTreeMap<(String, String), String>;
+
+pub fn pinned(text: &str) -> Pins {
+    let lines = text.lines().filter(|l| !l.starts_with('#'));
+    let parts = lines.filter_map(|l| l.split_once(' ').and_then(|(kind, rest)| Some((kind, rest.split_once(' ')?))));
+    parts.map(|(kind, (value, name))| ((kind.into(), name.into()), value.into())).collect()
+}
+
+/// The rows of a file of definitions: each begins with a comment such as `-- P1 ..` inside a definition.
+pub fn rows(text: &str) -> Vec<(String, String)> {
+    let mark = |l: &str| {
+        let word = l.strip_prefix(' ')?.trim_start().strip_prefix("-- ")?.split(' ').next()?;
+        let number = word.strip_prefix(|c: char| c.is_ascii_uppercase())?;
+        (!number.is_empty() && number.chars().all(|c| c.is_ascii_digit())).then(|| word.to_string())
+    };
+    let mut out: Vec<(String, String)> = Vec::new();
+    let mut inside = false;
+    for (line, said) in text.lines().zip(bare(text, false).lines()) {
+        if let Some(name) = mark(line) {
+            out.push((name, String::new()));
+            inside = true;
+        } else if line.trim().is_empty() {
+            inside = false;
+        } else if let Some((_, row)) = out.last_mut().filter(|_| inside) {
+            *row = format!("{row} {}", squeezed(said)).trim().to_string();
+        }
+    }
+    out
+}
+
+impl Reading {
+    /// All that is pinned, as the tree has it; and what stands there twice.
+    pub fn pins(&self) -> (Pins, Vec<String>) {
+        let tree = &self.tree;
+        let mut all: Vec<(&str, String, String)> = Vec::new();
+        for file in tree.of_crates("specs", ".antt").into_iter().filter(|f| !f.ends_with("/Lib.antt")) {
+            let text = tree.text(&file);
+            all.extend(rows(&text).into_iter().map(|(name, row)| ("row", name, row)));
+            all.push(("definitions", file.clone(), squeezed(tree.bare(&file))));
+        }
+        for r in crate::clauses::rows(tree) {
+            all.push(("clause", r.id.clone(), format!("{} {} {} {}", r.id, r.line, r.clause, r.verdicts.join(" "))));
+        }
+        for f in self.code.public() {
+            all.push(("contract", f.id(), f.contract()));
+        }
+        let quoted = QUOTING.iter().flat_map(|d| crate::documents::theorems(&self.logic, &tree.text(d)));
+        let mut theorems: Vec<String> = Vec::new();
+        for d in self.logic.unique().chain(quoted) {
+            let name = format!("{}::{}", d.file, d.name);
+            if !theorems.contains(&name) {
+                all.push(("theorem", name.clone(), format!("{} {} : {}", squeezed(&d.inside.join(" ")), d.name, d.statement())));
+                theorems.push(name);
+            }
+        }
+        for e in &self.edits {
+            all.push(("edit", format!("{}/{}", e.krate, e.name), e.deed()));
+        }
+        for file in tree.files.keys().filter(|f| f.starts_with(".ci/") || f.starts_with("tests/")) {
+            let text = tree.text(file);
+            if text.starts_with("#!") {
+                let lines = text.lines().filter(|l| !l.trim_start().starts_with('#'));
+                all.push(("script", file.clone(), lines.collect::<Vec<_>>().join("\n")));
+            }
+        }
+        let mut twice = Vec::new();
+        let mut contents: BTreeMap<(&str, String), String> = BTreeMap::new();
+        let mut pins = Pins::new();
+        for (kind, name, text) in all {
+            if let Some(other) = contents.insert((kind, text.clone()), name.clone()).filter(|_| kind != "contract") {
+                twice.push(format!("{kind} {name} is a copy of {other}"));
+            }
+            if pins.insert((kind.into(), name.clone()), hash(text.as_bytes())).is_some() {
+                twice.push(format!("{kind} {name} stands twice"));
+            }
+        }
+        for file in tree.under("tests/cases", ".trace") {
+            let name = file["tests/cases/".len()..file.len() - ".trace".len()].to_string();
+            let (trace, expected) = (&tree.files[&file], tree.files.get(&file.replace(".trace", ".expected")));
+            let both = [&trace[..], b"\0expected\0", expected.map_or(b"", |e| &e[..])].concat();
+            pins.insert(("case".into(), name), hash(&both));
+        }
+        for line in tree.text(".ci/run").lines().filter_map(|l| l.strip_prefix("stage ")) {
+            pins.insert(("stage".into(), line.to_string()), String::new());
+        }
+        (pins, twice)
+    }
+
+    /// The file as a person would put it there: the least passes of each stage stay as they are.
+    pub fn pin_text(&self) -> String {
+        let old = pinned(&self.tree.text(FILE));
+        let text = self.tree.text(FILE);
+        let head: String = text.lines().take_while(|l| l.starts_with('#')).map(|l| format!("{l}\n")).collect();
+        let line = |((kind, name), value): (&(String, String), &String)| {
+            let kept = old.get(&(kind.clone(), name.clone())).filter(|_| kind == "stage");
+            let value = kept.map_or(if kind == "stage" { "1" } else { value }, String::as_str);
+            format!("{kind} {value} {name}\n")
+        };
+        head + &self.pins().0.iter().map(line).collect::<String>()
+    }
+
+    pub fn check_pins(&self, report: &mut Report) {
+        let old = pinned(&self.tree.text(FILE));
+        let (new, twice) = self.pins();
+        report.none("copies", &twice);
+        let names: std::collections::BTreeSet<_> = old.keys().chain(new.keys()).collect();
+        for key in names {
+            let what = match (old.get(key), new.get(key)) {
+                (Some(_), None) => "vanished",
+                (None, _) => "is new",
+                (Some(a), Some(b)) if a != b && key.0 != "stage" => "changed",
+                _ => "",
+            };
+            report.expect(what.is_empty(), || format!("{FILE}: {} {} {what}", key.0, key.1));
+        }
+    }
+}
