@@ -120,8 +120,7 @@ impl Code {
         let raw = tree.text(file);
         let text = tree.bare(file);
         let tokens = tokens(text);
-        let mut reader =
-            Reader { code: self, krate, file, raw: &raw, text, tokens, at: 0, children: Vec::new() };
+        let mut reader = Reader { code: self, krate, file, raw: &raw, text, tokens, at: 0, children: Vec::new() };
         while reader.at < reader.tokens.len() {
             reader.item(module, false);
         }
@@ -278,7 +277,11 @@ impl<'a> Reader<'a> {
                 let name = self.look(if self.look(1) == "mut" { 2 } else { 1 }).to_string();
                 let braced = kind == "struct" || kind == "enum";
                 self.up_to(if braced { &[";", "{"] } else { &[";"] });
-                if self.look(0) == "{" { drop(self.bracketed()) } else { self.at += 1 }
+                if self.look(0) == "{" {
+                    drop(self.bracketed())
+                } else {
+                    self.at += 1
+                }
                 let lines = self.line(start)..=self.line(self.at - 1);
                 let text = self.between(start..self.at);
                 if !braced && self.tokens[start..self.at].iter().any(|t| t.1 == "fn") {
@@ -388,8 +391,23 @@ impl<'a> Reader<'a> {
         says.reverse();
         let says = says.join(" ");
         self.code.functions.push(Function {
-            krate, module, name, open, method, exported, public, parameters, result, requires, ensures, file, line, body,
-            last, tokens, says,
+            krate,
+            module,
+            name,
+            open,
+            method,
+            exported,
+            public,
+            parameters,
+            result,
+            requires,
+            ensures,
+            file,
+            line,
+            body,
+            last,
+            tokens,
+            says,
         });
     }
 

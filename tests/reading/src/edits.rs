@@ -82,9 +82,10 @@ impl Units {
         for f in code.functions.iter().filter(|f| f.krate == krate) {
             let named = units.named.entry(f.name.clone()).or_default();
             named.extend(f.requires.iter().chain(&f.ensures).flat_map(|c| words(c)));
-            let called = |w: &[String]| w[1] == "(" || w[0].chars().all(|c| c.is_ascii_uppercase() || "_0".contains(c));
-            named.extend(f.tokens.windows(2).filter(|w| called(w)).map(|w| w[0].clone()));
-            named.extend(f.parameters.iter().map(|p| &p.1).chain([&f.result]).flat_map(|t| constants(t)));
+            named.extend(f.tokens.windows(2).filter(|w| w[1] == "(").map(|w| w[0].clone()));
+            named.extend(
+                f.parameters.iter().map(|p| &p.1).chain([&f.result]).chain(&f.tokens).flat_map(|t| capitals(t)),
+            );
             units.at.extend((f.line..=f.last).map(|l| ((f.file.clone(), l), (f.name.clone(), l < f.body))));
             if f.public {
                 units.public.insert(f.name.clone());
@@ -114,9 +115,10 @@ impl Units {
     }
 }
 
-fn constants(text: &str) -> Vec<String> {
+/// The words of a text of code that begin with a capital: constants and types.
+fn capitals(text: &str) -> Vec<String> {
     let parts = text.split(|c: char| !c.is_ascii_alphanumeric() && c != '_');
-    parts.filter(|w| w.len() > 1 && w.starts_with(|c: char| c.is_ascii_uppercase())).map(String::from).collect()
+    parts.filter(|w| w.starts_with(|c: char| c.is_ascii_uppercase())).map(String::from).collect()
 }
 
 /// Every edit, and what is wrong with any of them.
@@ -124,7 +126,8 @@ pub fn read(tree: &Tree, code: &Code, logic: &Logic) -> (Vec<Edit>, Vec<String>)
     let (mut edits, mut wrong) = (Vec::new(), Vec::new());
     for (krate, _) in &tree.crates {
         let units = Units::read(tree, code, logic, krate);
-        let public: Vec<&str> = code.public().filter(|f| f.krate == *krate && !f.ensures.is_empty()).map(|f| &*f.name).collect();
+        let public: Vec<&str> =
+            code.public().filter(|f| f.krate == *krate && !f.ensures.is_empty()).map(|f| &*f.name).collect();
         let reached: Vec<(&str, BTreeSet<String>)> = public.iter().map(|f| (*f, units.reach(f))).collect();
         for path in tree.under(&format!("crates/{krate}/must-fail"), "") {
             let mut edit = Edit::read(&path, &tree.text(&path), &mut wrong);
@@ -139,7 +142,11 @@ pub fn read(tree: &Tree, code: &Code, logic: &Logic) -> (Vec<Edit>, Vec<String>)
                     text.lines().enumerate().filter(|(_, l)| l.contains(&old)).map(|(i, _)| i + 1).collect();
                 let same = squeezed(&bare(&old, is_code)) == squeezed(&bare(&new, is_code));
                 if places.len() != 1 || !inside || same {
-                    let why = if same { "changes no more than a comment" } else { "is of no one line of code or definitions" };
+                    let why = if same {
+                        "changes no more than a comment"
+                    } else {
+                        "is of no one line of code or definitions"
+                    };
                     wrong.push(format!("{path}: its old text '{old}' in {file} {why}"));
                 }
                 let place = places.first().copied().unwrap_or(0);
@@ -150,7 +157,13 @@ pub fn read(tree: &Tree, code: &Code, logic: &Logic) -> (Vec<Edit>, Vec<String>)
                 }
                 if let (Some((unit, contract)), 0) = (found, number) {
                     edit.unit = unit.clone();
-                    edit.sort = if !is_code { "definition" } else if *contract { "contract" } else { "code" };
+                    edit.sort = if !is_code {
+                        "definition"
+                    } else if *contract {
+                        "contract"
+                    } else {
+                        "code"
+                    };
                 }
             }
             let users: Vec<&str> = reached.iter().filter(|(_, r)| r.contains(&edit.unit)).map(|(f, _)| *f).collect();
@@ -160,7 +173,9 @@ pub fn read(tree: &Tree, code: &Code, logic: &Logic) -> (Vec<Edit>, Vec<String>)
                 _ => None,
             };
             if let Some(of) = &edit.of {
-                if edit.counts.as_ref().is_some_and(|c| c != of) || (edit.counts.is_none() && !users.contains(&of.as_str())) {
+                if edit.counts.as_ref().is_some_and(|c| c != of)
+                    || (edit.counts.is_none() && !users.contains(&of.as_str()))
+                {
                     wrong.push(format!("{path}: `# of: {of}`, which does not use `{}`", edit.unit));
                 }
                 edit.counts = Some(of.clone());
@@ -255,7 +270,8 @@ pub fn reason(log: &str) -> Result<String, String> {
     let mut errors: Vec<String> = Vec::new();
     let mut goes_on = false;
     for line in log.lines() {
-        let begins = line.contains(": error") || (line.starts_with("note: ") && line.contains(": it is not proved that "));
+        let begins =
+            line.contains(": error") || (line.starts_with("note: ") && line.contains(": it is not proved that "));
         if begins {
             errors.push(line.to_string());
         } else if goes_on && line.starts_with("  ") {
@@ -263,10 +279,12 @@ pub fn reason(log: &str) -> Result<String, String> {
         }
         goes_on = begins || (goes_on && line.starts_with("  "));
     }
-    if let Some(bad) = errors.iter().find(|e| e.contains(": error[") || (e.contains("/specs/") && e.contains(".antt:"))) {
+    if let Some(bad) = errors.iter().find(|e| e.contains(": error[") || (e.contains("/specs/") && e.contains(".antt:")))
+    {
         return Err(format!("the compiler's, or in the definitions: {bad}"));
     }
-    let first = errors.into_iter().find(|e| !e.contains("was not admitted (") || !e.contains("so this cannot be checked"));
+    let first =
+        errors.into_iter().find(|e| !e.contains("was not admitted (") || !e.contains("so this cannot be checked"));
     match first {
         Some(e) if FACTS.iter().any(|f| e.contains(f)) => Ok(e),
         Some(e) => Err(e),
@@ -276,7 +294,8 @@ pub fn reason(log: &str) -> Result<String, String> {
 
 /// Each edit was tried on this tree, and refused because a fact no longer holds.
 pub fn check_refused(tree: &Tree, edits: &[Edit], report: &mut Report) {
-    let changed = |path: &str| std::fs::metadata(tree.root.join(path)).and_then(|m| m.modified()).unwrap_or(SystemTime::now());
+    let changed =
+        |path: &str| std::fs::metadata(tree.root.join(path)).and_then(|m| m.modified()).unwrap_or(SystemTime::now());
     for e in edits {
         let place = format!("must-fail/{}/{}/.log", e.krate, e.name);
         let said = tree.made(&place).ok_or("no log, it was not tried".to_string()).and_then(|log| reason(&log));

@@ -38,7 +38,8 @@ pub fn rows(text: &str) -> Vec<(String, String)> {
             *row = format!("{row} {}", squeezed(said)).trim().to_string();
         }
     }
-    out
+    let alone = |row: String| row.trim_start_matches("∷ ").trim_end_matches("∷ []").trim().to_string();
+    out.into_iter().map(|(name, row)| (name, alone(row))).collect()
 }
 
 impl Reading {
@@ -62,7 +63,11 @@ impl Reading {
         for d in self.logic.unique().chain(quoted) {
             let name = format!("{}::{}", d.file, d.name);
             if !theorems.contains(&name) {
-                all.push(("theorem", name.clone(), format!("{} {} : {}", squeezed(&d.inside.join(" ")), d.name, d.statement())));
+                all.push((
+                    "theorem",
+                    name.clone(),
+                    format!("{} {} : {}", squeezed(&d.inside.join(" ")), d.name, d.statement()),
+                ));
                 theorems.push(name);
             }
         }

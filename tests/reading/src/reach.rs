@@ -104,7 +104,11 @@ impl Code {
             at += 1;
             let called = f.tokens.get(at).is_some_and(|t| t == "(");
             let part = start > 0 && f.tokens[start - 1] == ".";
-            let things = if part || !(called || path.len() > 1) { Vec::new() } else { self.resolve(&f.krate, &f.module, &path, 0) };
+            let things = if part || !(called || path.len() > 1) {
+                Vec::new()
+            } else {
+                self.resolve(&f.krate, &f.module, &path, 0)
+            };
             found.extend(things.iter().filter_map(|t| if let Thing::Function(i) = t { Some(*i) } else { None }));
             if things.is_empty() && called {
                 let method = |i: &usize| self.functions[*i].method && path.last() == Some(&self.functions[*i].name);
