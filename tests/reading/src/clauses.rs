@@ -41,12 +41,8 @@ pub fn check(tree: &Tree, report: &mut Report) {
     let rows = rows(tree);
     let mut seen = BTreeSet::new();
     for row in &rows {
-        let place = row
-            .line
-            .split_once(':')
-            .is_some_and(|(f, n)| row.id.starts_with(f) && n.starts_with(|c: char| c.is_ascii_digit()));
-        report
-            .expect(seen.insert(&row.id) && place, || format!("row {}: twice, or without its place upstream", row.id));
+        let place = row.line.split_once(':').is_some_and(|(f, n)| row.id.starts_with(f) && n.starts_with(|c: char| c.is_ascii_digit()));
+        report.expect(seen.insert(&row.id) && place, || format!("row {}: twice, or without its place upstream", row.id));
         let one = matches!(&row.verdicts[..], [v] if VERDICTS.contains(&v.as_str()));
         report.expect(one, || format!("row {}: verdicts {}", row.id, row.verdicts.join(", ")));
     }
@@ -61,8 +57,7 @@ pub fn check(tree: &Tree, report: &mut Report) {
         let each: Vec<String> = VERDICTS.iter().map(|v| format!("{v} {}", count(v))).collect();
         once(format!("- {name}: {} = {}", each.join(", "), these.len()));
     }
-    let letters =
-        |c: &str| c.as_bytes().windows(3).filter(|w| w[0] == b'(' && w[1].is_ascii_lowercase() && w[2] == b')').count();
+    let letters = |c: &str| c.as_bytes().windows(3).filter(|w| w[0] == b'(' && w[1].is_ascii_lowercase() && w[2] == b')').count();
     let ensures = rows.iter().filter(|r| r.nine && r.id.starts_with("L.") && r.id.contains(".E"));
     let atoms: usize = ensures.map(|r| letters(&r.clause).max(1)).sum();
     once(format!("- atoms of the ensures of L's nine functions, by their letters: {atoms}"));

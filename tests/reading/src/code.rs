@@ -1,6 +1,6 @@
 //! Code (.rt): its modules, uses, functions with their contracts, types and constants.
 
-use crate::text::{line_of, squeezed};
+use crate::text::{line_of, quoted, squeezed};
 use crate::tree::{Tree, crate_of};
 use std::collections::BTreeMap;
 
@@ -142,17 +142,7 @@ fn tokens(text: &str) -> Vec<(usize, &str)> {
         let take = match c {
             _ if c.is_whitespace() => c.len_utf8(),
             _ if word(c) => rest.find(|c| !word(c)).unwrap_or(rest.len()),
-            '"' => {
-                let mut escaped = false;
-                let ends = |(_, c): &(usize, char)| {
-                    let end = *c == '"' && !escaped;
-                    escaped = *c == '\\' && !escaped;
-                    end
-                };
-                rest.char_indices().skip(1).find(ends).map_or(rest.len(), |(n, _)| n + 1)
-            }
-            '\'' if rest[1..].starts_with('\\') => rest[2..].find('\'').map_or(1, |n| n + 3),
-            '\'' if rest.chars().nth(2) == Some('\'') => rest.chars().take(3).map(char::len_utf8).sum(),
+            '"' | '\'' => quoted(rest),
             _ if rest.starts_with("::") || rest.starts_with("->") => 2,
             _ => c.len_utf8(),
         };

@@ -66,8 +66,7 @@ impl<'a> Names<'a> {
         let last = paths.iter().map(|p| p.rsplit('/').next().unwrap_or(p).to_string());
         let files = last.flat_map(|n| [n.split('.').next().unwrap_or("").to_string(), n]).collect();
         let listed = |c: &String| tree.crates.iter().any(|(name, _)| name == c);
-        let mut foreign: BTreeSet<String> =
-            tree.crates.iter().flat_map(|(_, on)| on.clone()).filter(|c| !listed(c)).collect();
+        let mut foreign: BTreeSet<String> = tree.crates.iter().flat_map(|(_, on)| on.clone()).filter(|c| !listed(c)).collect();
         foreign.extend(["std", "u64"].map(String::from));
         Names { tree, known: declared.iter().flat_map(ways).collect(), paths, files, foreign }
     }
@@ -98,11 +97,7 @@ impl<'a> Names<'a> {
             None
         } else if let Some(at) = word.find('/') {
             let name = word.trim_end_matches('/');
-            if at + 1 == word.len() {
-                Some(self.files.contains(name))
-            } else {
-                Some(self.is_path(folder, &within(word, &['(', ':'])))
-            }
+            if at + 1 == word.len() { Some(self.files.contains(name)) } else { Some(self.is_path(folder, &within(word, &['(', ':']))) }
         } else if word.starts_with('.') {
             None
         } else if [".antt", ".rt", ".edit"].iter().any(|e| word.ends_with(e)) {
@@ -116,14 +111,12 @@ impl<'a> Names<'a> {
 }
 
 fn is_fraction(word: &str) -> bool {
-    word.starts_with(|c: char| c.is_ascii_digit())
-        && word.split('/').skip(1).any(|p| p.starts_with(|c: char| c.is_ascii_digit()))
+    word.starts_with(|c: char| c.is_ascii_digit()) && word.split('/').skip(1).any(|p| p.starts_with(|c: char| c.is_ascii_digit()))
 }
 
 fn part_fits(pattern: &str, part: &str) -> bool {
     let Some((before, after)) = pattern.split_once('*') else { return pattern == part };
-    part.strip_prefix(before)
-        .is_some_and(|rest| (0..=rest.len()).any(|i| rest.is_char_boundary(i) && part_fits(after, &rest[i..])))
+    part.strip_prefix(before).is_some_and(|rest| (0..=rest.len()).any(|i| rest.is_char_boundary(i) && part_fits(after, &rest[i..])))
 }
 
 /// A path from a folder, without `..` and `.`.
@@ -183,16 +176,13 @@ pub fn in_files(text: &str) -> Vec<(String, Vec<String>)> {
         match row.last() {
             None => folder = None,
             Some(last) if last.starts_with("File in ") => folder = Some(last["File in ".len()..].to_string()),
-            Some(_) if row.iter().map(String::as_str).eq(["name", "file", "what it says"]) => {
-                folder = Some(String::new())
-            }
+            Some(_) if row.iter().map(String::as_str).eq(["name", "file", "what it says"]) => folder = Some(String::new()),
             Some(last) if folder.is_some() && !last.starts_with("---") => {
                 let folder = folder.clone().unwrap_or_default();
                 let (names, files) = if folder.is_empty() { (&row[0], &row[1]) } else { (&row[row.len() - 2], last) };
                 let parts = files.split(['`', ',', ';', ' ']).filter(|f| !f.is_empty());
-                let files: Vec<String> = parts
-                    .map(|f| if f.starts_with("crates/") { f.to_string() } else { format!("{folder}/{f}") })
-                    .collect();
+                let files: Vec<String> =
+                    parts.map(|f| if f.starts_with("crates/") { f.to_string() } else { format!("{folder}/{f}") }).collect();
                 out.extend(backquoted(names).map(|n| (n.to_string(), files.clone())));
             }
             _ => {}
@@ -233,9 +223,7 @@ fn quotations(tree: &Tree, document: &str, folder: &str, text: &str, report: &mu
         let raw = tree.text(&file);
         let closes = line.starts_with("```");
         if line.trim_start().starts_with(if file.ends_with(".rt") { "//" } else { "--" }) {
-            report.expect(raw.lines().any(|l| l.trim_end() == line), || {
-                format!("{document} quotes, and {file} has not: {line}")
-            });
+            report.expect(raw.lines().any(|l| l.trim_end() == line), || format!("{document} quotes, and {file} has not: {line}"));
         } else if !closes && !line.trim().is_empty() {
             paragraph.push(plain(line));
         } else if !paragraph.is_empty() {
@@ -292,9 +280,7 @@ fn opening(name: &str) -> String {
 /// The document with this as its part.
 pub fn with_part(text: &str, name: &str, new: &str) -> String {
     match part(text, name) {
-        Some(old) => {
-            text.replacen(&format!("{}{old}<!-- end", opening(name)), &format!("{}{new}<!-- end", opening(name)), 1)
-        }
+        Some(old) => text.replacen(&format!("{}{old}<!-- end", opening(name)), &format!("{}{new}<!-- end", opening(name)), 1),
         None => text.to_string(),
     }
 }

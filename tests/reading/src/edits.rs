@@ -83,9 +83,7 @@ impl Units {
             let named = units.named.entry(f.name.clone()).or_default();
             named.extend(f.requires.iter().chain(&f.ensures).flat_map(|c| words(c)));
             named.extend(f.tokens.windows(2).filter(|w| w[1] == "(").map(|w| w[0].clone()));
-            named.extend(
-                f.parameters.iter().map(|p| &p.1).chain([&f.result]).chain(&f.tokens).flat_map(|t| capitals(t)),
-            );
+            named.extend(f.parameters.iter().map(|p| &p.1).chain([&f.result]).chain(&f.tokens).flat_map(|t| capitals(t)));
             units.at.extend((f.line..=f.last).map(|l| ((f.file.clone(), l), (f.name.clone(), l < f.body))));
             if f.public {
                 units.public.insert(f.name.clone());
@@ -126,8 +124,7 @@ pub fn read(tree: &Tree, code: &Code, logic: &Logic) -> (Vec<Edit>, Vec<String>)
     let (mut edits, mut wrong) = (Vec::new(), Vec::new());
     for (krate, _) in &tree.crates {
         let units = Units::read(tree, code, logic, krate);
-        let public: Vec<&str> =
-            code.public().filter(|f| f.krate == *krate && !f.ensures.is_empty()).map(|f| &*f.name).collect();
+        let public: Vec<&str> = code.public().filter(|f| f.krate == *krate && !f.ensures.is_empty()).map(|f| &*f.name).collect();
         let reached: Vec<(&str, BTreeSet<String>)> = public.iter().map(|f| (*f, units.reach(f))).collect();
         for path in tree.under(&format!("crates/{krate}/must-fail"), "") {
             let mut edit = Edit::read(&path, &tree.text(&path), &mut wrong);
@@ -138,15 +135,10 @@ pub fn read(tree: &Tree, code: &Code, logic: &Logic) -> (Vec<Edit>, Vec<String>)
                 let is_code = file.ends_with(".rt");
                 let inside = ["src", "specs"].iter().any(|f| file.starts_with(&format!("crates/{krate}/{f}/")));
                 let text = tree.text(&file);
-                let places: Vec<usize> =
-                    text.lines().enumerate().filter(|(_, l)| l.contains(&old)).map(|(i, _)| i + 1).collect();
+                let places: Vec<usize> = text.lines().enumerate().filter(|(_, l)| l.contains(&old)).map(|(i, _)| i + 1).collect();
                 let same = squeezed(&bare(&old, is_code)) == squeezed(&bare(&new, is_code));
                 if places.len() != 1 || !inside || same {
-                    let why = if same {
-                        "changes no more than a comment"
-                    } else {
-                        "is of no one line of code or definitions"
-                    };
+                    let why = if same { "changes no more than a comment" } else { "is of no one line of code or definitions" };
                     wrong.push(format!("{path}: its old text '{old}' in {file} {why}"));
                 }
                 let place = places.first().copied().unwrap_or(0);
@@ -173,9 +165,7 @@ pub fn read(tree: &Tree, code: &Code, logic: &Logic) -> (Vec<Edit>, Vec<String>)
                 _ => None,
             };
             if let Some(of) = &edit.of {
-                if edit.counts.as_ref().is_some_and(|c| c != of)
-                    || (edit.counts.is_none() && !users.contains(&of.as_str()))
-                {
+                if edit.counts.as_ref().is_some_and(|c| c != of) || (edit.counts.is_none() && !users.contains(&of.as_str())) {
                     wrong.push(format!("{path}: `# of: {of}`, which does not use `{}`", edit.unit));
                 }
                 edit.counts = Some(of.clone());
@@ -217,9 +207,8 @@ pub fn list(tree: &Tree, code: &Code, edits: &[Edit]) -> String {
                 _ => "",
             };
             let of = e.counts.as_ref().filter(|c| **c != e.unit).map_or(String::new(), |c| format!(", for `{c}`"));
-            let side = |pick: fn(&(String, String, String)) -> &String| {
-                e.changes.iter().map(|c| shown(pick(c))).collect::<Vec<_>>().join(" and ")
-            };
+            let side =
+                |pick: fn(&(String, String, String)) -> &String| e.changes.iter().map(|c| shown(pick(c))).collect::<Vec<_>>().join(" and ");
             let why = if e.why.is_empty() { String::new() } else { e.why.replace('|', "\\|") + " " };
             let (name, from, to) = (&e.name, side(|c| &c.1), side(|c| &c.2));
             let link = format!("[{name}](../crates/{krate}/must-fail/{name}.edit)");
@@ -270,8 +259,7 @@ pub fn reason(log: &str) -> Result<String, String> {
     let mut errors: Vec<String> = Vec::new();
     let mut goes_on = false;
     for line in log.lines() {
-        let begins =
-            line.contains(": error") || (line.starts_with("note: ") && line.contains(": it is not proved that "));
+        let begins = line.contains(": error") || (line.starts_with("note: ") && line.contains(": it is not proved that "));
         if begins {
             errors.push(line.to_string());
         } else if goes_on && line.starts_with("  ") {
@@ -279,12 +267,10 @@ pub fn reason(log: &str) -> Result<String, String> {
         }
         goes_on = begins || (goes_on && line.starts_with("  "));
     }
-    if let Some(bad) = errors.iter().find(|e| e.contains(": error[") || (e.contains("/specs/") && e.contains(".antt:")))
-    {
+    if let Some(bad) = errors.iter().find(|e| e.contains(": error[") || (e.contains("/specs/") && e.contains(".antt:"))) {
         return Err(format!("the compiler's, or in the definitions: {bad}"));
     }
-    let first =
-        errors.into_iter().find(|e| !e.contains("was not admitted (") || !e.contains("so this cannot be checked"));
+    let first = errors.into_iter().find(|e| !e.contains("was not admitted (") || !e.contains("so this cannot be checked"));
     match first {
         Some(e) if FACTS.iter().any(|f| e.contains(f)) => Ok(e),
         Some(e) => Err(e),
@@ -294,8 +280,7 @@ pub fn reason(log: &str) -> Result<String, String> {
 
 /// Each edit was tried on this tree, and refused because a fact no longer holds.
 pub fn check_refused(tree: &Tree, edits: &[Edit], report: &mut Report) {
-    let changed =
-        |path: &str| std::fs::metadata(tree.root.join(path)).and_then(|m| m.modified()).unwrap_or(SystemTime::now());
+    let changed = |path: &str| std::fs::metadata(tree.root.join(path)).and_then(|m| m.modified()).unwrap_or(SystemTime::now());
     for e in edits {
         let place = format!("must-fail/{}/{}/.log", e.krate, e.name);
         let said = tree.made(&place).ok_or("no log, it was not tried".to_string()).and_then(|log| reason(&log));

@@ -100,6 +100,15 @@ impl Reading {
                 format!("{document}, the part '{name}' is another (tests/tree --write): {}", gone.join(" / "))
             });
         }
+        let known: Vec<(&str, &str)> = self.parts(&mut Vec::new()).iter().map(|(d, n, _)| (*d, *n)).collect();
+        for document in self.tree.documents() {
+            let text = self.tree.text(&document);
+            let marks: Vec<&str> =
+                text.lines().filter_map(|l| l.strip_prefix("<!-- ")?.split_once(": written by")).map(|(n, _)| n).collect();
+            let mine: Vec<&str> = known.iter().filter(|(d, _)| *d == document).map(|(_, n)| *n).collect();
+            let same = marks.len() == mine.len() && marks.iter().all(|m| mine.contains(m));
+            report.expect(same, || format!("{document} marks the parts {}, and {} are written", marks.join(", "), mine.join(", ")));
+        }
         report.none("no report of their check in target/log (rt check)", &without);
     }
 }

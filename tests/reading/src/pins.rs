@@ -1,5 +1,5 @@
-//! tests/pins: what a person has looked at. A row, a clause, a case, an edit, a definition, a theorem or a contract that
-//! vanished, changed or came is told from what stands there. Nothing but a person changes that file.
+//! tests/pins: what a person has looked at. A row, a clause, a case, an edit, a definition, a theorem, a contract or an
+//! exception that vanished, changed or came is told from what stands there. Nothing but a person changes that file.
 
 use crate::Reading;
 use crate::text::{bare, hash, squeezed};
@@ -52,24 +52,20 @@ impl Reading {
             all.extend(rows(&text).into_iter().map(|(name, row)| ("row", name, row)));
             all.push(("definitions", file.clone(), squeezed(tree.bare(&file))));
         }
+        for section in ["Not wholly stated", "Fewer than two edits"] {
+            let names = crate::promises::excepted(tree, section, &mut Report::default());
+            all.extend(names.into_iter().map(|n| ("exception", format!("{n}, {}", section.to_lowercase()), n)));
+        }
         for r in crate::clauses::rows(tree) {
             all.push(("clause", r.id.clone(), format!("{} {} {} {}", r.id, r.line, r.clause, r.verdicts.join(" "))));
         }
         for f in self.code.public() {
             all.push(("contract", f.id(), f.contract()));
         }
-        let quoted = QUOTING.iter().flat_map(|d| crate::documents::theorems(&self.logic, &tree.text(d)));
-        let mut theorems: Vec<String> = Vec::new();
-        for d in self.logic.unique().chain(quoted) {
-            let name = format!("{}::{}", d.file, d.name);
-            if !theorems.contains(&name) {
-                all.push((
-                    "theorem",
-                    name.clone(),
-                    format!("{} {} : {}", squeezed(&d.inside.join(" ")), d.name, d.statement()),
-                ));
-                theorems.push(name);
-            }
+        let quoted = QUOTING.iter().flat_map(|doc| crate::documents::theorems(&self.logic, &tree.text(doc)).into_iter().map(|d| (*doc, d)));
+        for (document, d) in self.logic.unique().map(|d| ("docs/EXCEPTIONS.md", d)).chain(quoted) {
+            let said = format!("{} {} : {}", squeezed(&d.inside.join(" ")), d.name, d.statement());
+            all.push(("theorem", format!("{document} {}::{}", d.file, d.name), said));
         }
         for e in &self.edits {
             all.push(("edit", format!("{}/{}", e.krate, e.name), e.deed()));
@@ -85,7 +81,7 @@ impl Reading {
         let mut contents: BTreeMap<(&str, String), String> = BTreeMap::new();
         let mut pins = Pins::new();
         for (kind, name, text) in all {
-            if let Some(other) = contents.insert((kind, text.clone()), name.clone()).filter(|_| kind != "contract") {
+            if let Some(other) = contents.insert((kind, text.clone()), name.clone()).filter(|_| ["row", "edit"].contains(&kind)) {
                 twice.push(format!("{kind} {name} is a copy of {other}"));
             }
             if pins.insert((kind.into(), name.clone()), hash(text.as_bytes())).is_some() {

@@ -81,14 +81,8 @@ pub enum Judged<'a> {
 /// The parameters that a function may write: lent as `&mut`, or holding such a loan.
 fn written<'a>(code: &Code, f: &'a Function) -> Vec<&'a str> {
     let mutable = |t: &str| words(&t.replace(['&', '[', '<', '>'], " ")).iter().any(|w| w == "mut");
-    let holds = |t: &str| {
-        code.items.iter().any(|i| mutable(&i.text) && words(&t.replace(['<', '>', '&'], " ")).contains(&i.name))
-    };
-    f.parameters
-        .iter()
-        .filter(|(n, t)| mutable(t) || holds(t) || n.contains("mut self"))
-        .map(|(n, _)| n.as_str())
-        .collect()
+    let holds = |t: &str| code.items.iter().any(|i| mutable(&i.text) && words(&t.replace(['<', '>', '&'], " ")).contains(&i.name));
+    f.parameters.iter().filter(|(n, t)| mutable(t) || holds(t) || n.contains("mut self")).map(|(n, _)| n.as_str()).collect()
 }
 
 /// The crate and the module of definitions from which a file takes a name.
@@ -118,9 +112,7 @@ pub fn judge<'a>(tree: &Tree, code: &Code, logic: &'a Logic, f: &Function) -> Ju
             }
             Clause::Left(p, _) => {
                 if words(text).iter().skip(2).any(|w| *w == result) && !result_said {
-                    return Judged::Open(format!(
-                        "what is left in {p} is said by the result, which is not said before"
-                    ));
+                    return Judged::Open(format!("what is left in {p} is said by the result, which is not said before"));
                 }
                 missing.remove(&p);
             }
@@ -130,9 +122,7 @@ pub fn judge<'a>(tree: &Tree, code: &Code, logic: &'a Logic, f: &Function) -> Ju
                 let from = origin(&tree.text(&f.file), &name);
                 for theorem in logic.unique().filter(|t| origin(&tree.text(&t.file), &name) == from) {
                     match uniqueness(&theorem.inside, &theorem.statement()) {
-                        Ok((of, count, equal)) if of == name && count == arguments.len() => {
-                            found = Some((theorem, equal))
-                        }
+                        Ok((of, count, equal)) if of == name && count == arguments.len() => found = Some((theorem, equal)),
                         Err(e) if words(&theorem.statement()).contains(&name) => why = format!("{}: {e}", theorem.name),
                         _ => {}
                     }
@@ -179,8 +169,7 @@ pub fn unique_table(tree: &Tree, code: &Code, logic: &Logic) -> String {
 /// stands there by its own name.
 pub fn excepted(tree: &Tree, section: &str, report: &mut Report) -> BTreeSet<String> {
     let text = tree.text("docs/EXCEPTIONS.md");
-    let inside =
-        text.lines().skip_while(|l| *l != format!("## {section}")).skip(1).take_while(|l| !l.starts_with("## "));
+    let inside = text.lines().skip_while(|l| *l != format!("## {section}")).skip(1).take_while(|l| !l.starts_with("## "));
     let mut out = BTreeSet::new();
     for row in inside.map(crate::text::cells).filter(|c| c.len() > 1) {
         for name in crate::text::backquoted(&row[0]).filter(|n| n.contains("::")) {
@@ -203,13 +192,10 @@ pub fn check(tree: &Tree, code: &Code, logic: &Logic, report: &mut Report) {
         let id = f.id();
         report.expect(ids.insert(id.clone()), || format!("{id}: two public functions of one name"));
         report.expect(f.requires.is_empty(), || format!("{id}: a public function with a requires"));
-        report
-            .expect(!f.ensures.iter().any(|e| e.contains('→')), || format!("{id}: promises only under a condition"));
+        report.expect(!f.ensures.iter().any(|e| e.contains('→')), || format!("{id}: promises only under a condition"));
         let open = if let Judged::Open(why) = judge(tree, code, logic, f) { Some(why) } else { None };
         match (open, named.contains(&id)) {
-            (Some(why), false) => {
-                report.expect(false, || format!("{id}: {why}, and docs/EXCEPTIONS.md does not name it"))
-            }
+            (Some(why), false) => report.expect(false, || format!("{id}: {why}, and docs/EXCEPTIONS.md does not name it")),
             (None, true) => report.expect(false, || format!("docs/EXCEPTIONS.md: {id} needs no grounds")),
             _ => report.expect(true, String::new),
         }
@@ -221,8 +207,6 @@ pub fn check(tree: &Tree, code: &Code, logic: &Logic, report: &mut Report) {
             let sides: Vec<_> = cut(unwrapped(e), "≡").iter().map(|s| s.to_vec()).collect();
             sides.len() == 2 && sides[0] != sides[1]
         });
-        report.expect(equations, || {
-            format!("{}: {} does not end in an equation of two results", theorem.file, theorem.name)
-        });
+        report.expect(equations, || format!("{}: {} does not end in an equation of two results", theorem.file, theorem.name));
     }
 }

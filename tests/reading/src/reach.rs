@@ -73,8 +73,7 @@ impl Code {
     /// What a name means inside a module: its own functions and modules, and what it uses.
     fn inside<'a>(&'a self, krate: &'a str, module: &'a [String], name: &str, depth: usize) -> Vec<Thing<'a>> {
         let own = |f: &Function| f.krate == krate && f.module == module && f.name == name && !f.method;
-        let mut found: Vec<Thing> =
-            (0..self.functions.len()).filter(|&i| own(&self.functions[i])).map(Thing::Function).collect();
+        let mut found: Vec<Thing> = (0..self.functions.len()).filter(|&i| own(&self.functions[i])).map(Thing::Function).collect();
         let child = |(c, p): &&(String, Vec<String>)| {
             c == krate && p.len() == module.len() + 1 && p.starts_with(module) && p.last().is_some_and(|l| l == name)
         };
@@ -104,11 +103,7 @@ impl Code {
             at += 1;
             let called = f.tokens.get(at).is_some_and(|t| t == "(");
             let part = start > 0 && f.tokens[start - 1] == ".";
-            let things = if part || !(called || path.len() > 1) {
-                Vec::new()
-            } else {
-                self.resolve(&f.krate, &f.module, &path, 0)
-            };
+            let things = if part || !(called || path.len() > 1) { Vec::new() } else { self.resolve(&f.krate, &f.module, &path, 0) };
             found.extend(things.iter().filter_map(|t| if let Thing::Function(i) = t { Some(*i) } else { None }));
             if things.is_empty() && called {
                 let method = |i: &usize| self.functions[*i].method && path.last() == Some(&self.functions[*i].name);

@@ -78,16 +78,13 @@ impl Tree {
         let folders: BTreeSet<&str> =
             self.files.keys().filter_map(|p| p.strip_prefix("crates/")?.split_once('/')).map(|(c, _)| c).collect();
         for folder in &folders {
-            report
-                .expect(self.crates.iter().any(|(c, _)| c == folder), || format!("crates/{folder}: not in crates.txt"));
+            report.expect(self.crates.iter().any(|(c, _)| c == folder), || format!("crates/{folder}: not in crates.txt"));
         }
         for (at, (name, on)) in self.crates.iter().enumerate() {
             report.expect(folders.contains(name.as_str()), || format!("crates.txt: there is no crates/{name}"));
             let twice = self.crates[..at].iter().any(|(c, _)| c == name);
             let below = on.iter().find(|o| self.crates[at..].iter().any(|(c, _)| c == *o));
-            report.expect(!twice && below.is_none(), || {
-                format!("crates.txt: {name} stands twice, or on {below:?} below it")
-            });
+            report.expect(!twice && below.is_none(), || format!("crates.txt: {name} stands twice, or on {below:?} below it"));
         }
     }
 

@@ -87,9 +87,8 @@ impl Trust<'_> {
             sums.entry(step.0).or_default()[place] += sum;
         }
         let all = sums.values().fold([0; 3], |a, b| [a[0] + b[0], a[1] + b[1], a[2] + b[2]]);
-        let row = |(name, s): (&String, &[usize; 3])| {
-            format!("| {name} | {} | {} | {} | {} |\n", s[0], s[1], s[2], s.iter().sum::<usize>())
-        };
+        let row =
+            |(name, s): (&String, &[usize; 3])| format!("| {name} | {} | {} | {} | {} |\n", s[0], s[1], s[2], s.iter().sum::<usize>());
         let rows: String = sums.iter().chain([(&"all".to_string(), &all)]).map(row).collect();
         format!("| step | definitions | types | code | together |\n|---|---|---|---|---|\n{rows}")
     }
@@ -100,11 +99,7 @@ impl Trust<'_> {
         for krate in self.programs_of() {
             let log = [".say", ".out"].map(|e| self.tree.made(&format!("log/{krate}{e}")).unwrap_or_default()).concat();
             let Some(proved) = log.lines().find(|l| l.starts_with("logic=proved")) else {
-                out += &said
-                    .lines()
-                    .filter(|l| l.starts_with(&format!("| {krate} |")))
-                    .map(|l| format!("{l}\n"))
-                    .collect::<String>();
+                out += &said.lines().filter(|l| l.starts_with(&format!("| {krate} |"))).map(|l| format!("{l}\n")).collect::<String>();
                 without.push(krate);
                 continue;
             };
@@ -172,13 +167,7 @@ impl Trust<'_> {
     fn compared(&self) -> BTreeSet<&str> {
         let used: BTreeSet<&String> = self.tree.crates.iter().flat_map(|(_, on)| on).collect();
         let codeless = |c: &str| !self.code.functions.iter().any(|f| f.krate == c);
-        self.tree
-            .crates
-            .iter()
-            .map(|(c, _)| c)
-            .filter(|c| !used.contains(c) && codeless(c))
-            .map(String::as_str)
-            .collect()
+        self.tree.crates.iter().map(|(c, _)| c).filter(|c| !used.contains(c) && codeless(c)).map(String::as_str).collect()
     }
 
     fn borrowed(&self) -> String {
@@ -186,14 +175,10 @@ impl Trust<'_> {
         for file in self.tree.of_crates("specs", ".antt").into_iter().chain(self.tree.of_crates("src", ".rt")) {
             for line in self.tree.bare(&file).lines() {
                 let line = line.trim_end().trim_end_matches(';');
-                let line =
-                    line.strip_prefix("ghost use ").or(line.strip_prefix("use ").filter(|_| file.ends_with(".antt")));
+                let line = line.strip_prefix("ghost use ").or(line.strip_prefix("use ").filter(|_| file.ends_with(".antt")));
                 let Some((module, list)) = line.and_then(|l| l.strip_suffix('}')?.split_once(".{")) else { continue };
                 if module.is_ascii() {
-                    taken
-                        .entry(module.into())
-                        .or_default()
-                        .extend(list.split(',').map(|w| w.trim().replace('|', "\\|")));
+                    taken.entry(module.into()).or_default().extend(list.split(',').map(|w| w.trim().replace('|', "\\|")));
                 }
             }
         }
@@ -240,9 +225,7 @@ impl Trust<'_> {
         };
         let sorts = [None, Some("code"), Some("contract"), Some("definition")];
         let names = self.tree.crates.iter().map(|(c, _)| Some(c.as_str())).filter(|c| of(*c, None) > 0);
-        let row = |c: Option<&str>| {
-            format!("| {} |{}\n", c.unwrap_or("all"), sorts.map(|s| format!(" {} |", of(c, s))).concat())
-        };
+        let row = |c: Option<&str>| format!("| {} |{}\n", c.unwrap_or("all"), sorts.map(|s| format!(" {} |", of(c, s))).concat());
         let rows: String = names.chain([None]).map(row).collect();
         format!(
             "### Edits that the check must refuse\n\n\
@@ -258,8 +241,7 @@ impl Trust<'_> {
             found.map(|f| if public { f.id() } else { f.path() }).collect()
         };
         let named = |list: Vec<String>| {
-            let names: Vec<String> =
-                list.iter().map(|n| format!("`{}`", n.split([' ', ':']).next().unwrap_or(n))).collect();
+            let names: Vec<String> = list.iter().map(|n| format!("`{}`", n.split([' ', ':']).next().unwrap_or(n))).collect();
             let whole: Vec<String> = list.iter().map(|n| format!("`{n}`")).collect();
             let names = if list.iter().any(|n| n.contains('/')) { names } else { whole };
             if list.is_empty() { "0".to_string() } else { format!("{}: {}", list.len(), names.join(", ")) }
@@ -293,9 +275,7 @@ impl Trust<'_> {
     /// `FILE LINE` of every line of code, definitions and proofs, comments cut, that has one of these and fits.
     fn having(&self, parts: &[&str], fits: impl Fn(&str) -> bool) -> Vec<String> {
         let mut out = Vec::new();
-        for file in
-            self.tree.files.keys().filter(|f| f.starts_with("crates/") && (f.ends_with(".rt") || f.ends_with(".antt")))
-        {
+        for file in self.tree.files.keys().filter(|f| f.starts_with("crates/") && (f.ends_with(".rt") || f.ends_with(".antt"))) {
             let lines = self.tree.bare(file).lines().enumerate();
             let found = lines.filter(|(_, l)| parts.iter().any(|p| l.contains(p)) && fits(l));
             out.extend(found.map(|(i, _)| format!("{file} {}", i + 1)));
@@ -321,16 +301,11 @@ impl Trust<'_> {
     fn slot_counts(&self) -> Vec<String> {
         let number = |word: &str| {
             let plain = word.replace('_', "").to_lowercase();
-            let plain = ["usize", "u8", "u16", "u32", "u64", "i32", "i64"]
-                .iter()
-                .find_map(|s| plain.strip_suffix(s))
-                .unwrap_or(&plain);
+            let plain = ["usize", "u8", "u16", "u32", "u64", "i32", "i64"].iter().find_map(|s| plain.strip_suffix(s)).unwrap_or(&plain);
             plain.strip_prefix("0x").map_or(plain.parse(), |hex| u64::from_str_radix(hex, 16)).unwrap_or(0)
         };
         let mut out = Vec::new();
-        for file in
-            self.tree.files.keys().filter(|f| f.starts_with("crates/") && (f.ends_with(".rt") || f.ends_with(".antt")))
-        {
+        for file in self.tree.files.keys().filter(|f| f.starts_with("crates/") && (f.ends_with(".rt") || f.ends_with(".antt"))) {
             for (i, line) in self.tree.text(file).lines().enumerate() {
                 let mut parts = line.split(|c: char| !c.is_ascii_alphanumeric() && c != '_');
                 if parts.any(|w| [255, 256, 257, 1023, 1024, 1025].contains(&number(w))) {
@@ -351,12 +326,7 @@ impl Trust<'_> {
             if on && row.len() == 4 && row[1] != "crates" && !row[1].starts_with("---") {
                 let names: Vec<&str> = row[1].split([' ', ',']).filter(|n| !n.is_empty()).collect();
                 wrong.extend(names.iter().filter(|n| count(n) == 0).map(|n| format!("{n} has a group and no edits")));
-                wrong.extend(
-                    names
-                        .iter()
-                        .filter(|n| !grouped.insert(n.to_string()))
-                        .map(|n| format!("{n} stands in two groups")),
-                );
+                wrong.extend(names.iter().filter(|n| !grouped.insert(n.to_string())).map(|n| format!("{n} stands in two groups")));
                 let sum: usize = names.iter().map(|n| count(n)).sum();
                 out += &format!("| {} | {} | {sum} | {} |\n", row[0], row[1], row[3]);
             } else {
@@ -374,16 +344,12 @@ impl Trust<'_> {
         for line in text.lines() {
             let row = cells(line);
             let names: Vec<&str> = row.first().map_or(Vec::new(), |c| backquoted(c).collect());
-            let declares =
-                |file: &str| names.iter().all(|n| self.logic.theorems().any(|d| d.file == file && d.name == **n));
-            let is_row =
-                row.len() == 3 && !names.is_empty() && row[1].starts_with("`crates/") && row[1].ends_with(".antt`");
+            let declares = |file: &str| names.iter().all(|n| self.logic.theorems().any(|d| d.file == file && d.name == **n));
+            let is_row = row.len() == 3 && !names.is_empty() && row[1].starts_with("`crates/") && row[1].ends_with(".antt`");
             let files: BTreeSet<&str> = self.logic.theorems().filter(|_| is_row).map(|d| d.file.as_str()).collect();
             let found: Vec<&str> = files.into_iter().filter(|f| declares(f)).collect();
             match found[..] {
-                [one] if !declares(row[1].trim_matches('`')) => {
-                    out += &format!("| {} | `{one}` | {} |\n", row[0], row[2])
-                }
+                [one] if !declares(row[1].trim_matches('`')) => out += &format!("| {} | `{one}` | {} |\n", row[0], row[2]),
                 _ => out += &format!("{line}\n"),
             }
         }
@@ -403,8 +369,7 @@ impl Trust<'_> {
         let borrowed = self.borrowed();
         let known: BTreeSet<&str> = backquoted(&borrowed).flat_map(|w| w.split(" as ")).collect();
         let specs = self.logic.declarations.iter().filter(|d| d.top && d.file.contains("/specs/"));
-        let again: Vec<String> =
-            specs.filter(|d| known.contains(d.name.as_str())).map(|d| format!("{} {}", d.file, d.name)).collect();
+        let again: Vec<String> = specs.filter(|d| known.contains(d.name.as_str())).map(|d| format!("{} {}", d.file, d.name)).collect();
         report.none("definitions with the name of a word of the library", &again);
         let untitled = |f: &String| !self.tree.text(f).lines().next().unwrap_or("").starts_with("-- ");
         let untitled: Vec<String> = self.specs().into_iter().filter(untitled).collect();
@@ -417,13 +382,7 @@ impl Trust<'_> {
         let theorems = crate::documents::in_files(&text);
         report.expect(!theorems.is_empty(), || format!("{DOCUMENT} lists no theorem"));
         let (grouped, mut wrong) = self.groups(&text);
-        wrong.extend(
-            grouped
-                .lines()
-                .zip(text.lines())
-                .filter(|(a, b)| a != b)
-                .map(|(a, _)| format!("the number is another: {a}")),
-        );
+        wrong.extend(grouped.lines().zip(text.lines()).filter(|(a, b)| a != b).map(|(a, _)| format!("the number is another: {a}")));
         report.none("docs/TRUST.md, the groups of edits", &wrong);
     }
 }

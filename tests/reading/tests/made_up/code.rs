@@ -37,12 +37,8 @@ fn every_way_out_of_a_private_module_is_followed() {
 
 #[test]
 fn what_nobody_outside_can_reach_is_inner() {
-    for lib in [
-        "mod m;\n",
-        "mod m;\nuse m::f as g;\n",
-        "mod m;\npub(crate) use m::f;\n",
-        "mod m;\n// pub use m::f;\n/* pub use m::f; */\n",
-    ] {
+    for lib in ["mod m;\n", "mod m;\nuse m::f as g;\n", "mod m;\npub(crate) use m::f;\n", "mod m;\n// pub use m::f;\n/* pub use m::f; */\n"]
+    {
         assert!(public(&crate_a(lib, &[("crates/a/src/m.rt", ASKS)])).is_empty(), "{lib}");
     }
     assert!(public(&crate_a("pub(crate) fn f() {\n}\nfn g() {\n}\n", &[])).is_empty());
@@ -80,11 +76,7 @@ fn what_can_not_be_read_fails() {
     ] {
         assert!(fails(&crate_a(lib, &[]), "promises and exceptions", "the reading"), "{lib}");
     }
-    assert!(fails(
-        &crate_a("", &[("crates/a/src/lost.rt", "")]),
-        "promises and exceptions",
-        "no module of the crate names it"
-    ));
+    assert!(fails(&crate_a("", &[("crates/a/src/lost.rt", "")]), "promises and exceptions", "no module of the crate names it"));
 }
 
 #[test]
@@ -110,10 +102,7 @@ fn what_a_program_runs_is_followed_through_every_use() {
     assert_eq!(unrun("fn main() {\n}\n"), ["f", "h", "m"]);
     assert_eq!(unrun("fn main() {\n    b::g();\n}\n"), ["h", "m"]);
     assert_eq!(unrun("use b::g as k;\nfn main() {\n    k();\n}\n"), ["h", "m"]);
-    assert_eq!(
-        unrun("mod t {\n    pub fn go() {\n        b::g();\n    }\n}\nfn main() {\n    t::go();\n}\n"),
-        ["h", "m"]
-    );
+    assert_eq!(unrun("mod t {\n    pub fn go() {\n        b::g();\n    }\n}\nfn main() {\n    t::go();\n}\n"), ["h", "m"]);
     assert_eq!(unrun("fn main() {\n    x.m(1);\n    // a::h();\n}\n"), ["f", "h"]);
 }
 
@@ -122,10 +111,7 @@ fn a_contract_of_several_lines_is_read_whole() {
     let lib = "// Why.\n#[inline]\npub fn f<'a>(\n    x: &'a [u8],\n    mut y: [u64; 3],\n) -> [u64; 3]\n    ensures {\n        λ r.\n        ⌜ r ≡ g (now (x .entry)) y ⌝\n    }\n{\n    y\n}\n";
     let reading = crate_a(lib, &[]);
     let f = &reading.code.functions[0];
-    assert_eq!(
-        f.contract(),
-        "fn f(x: &'a [u8], y: [u64; 3]) -> [u64; 3] ensures { λ r. ⌜ r ≡ g (now (x .entry)) y ⌝ }"
-    );
+    assert_eq!(f.contract(), "fn f(x: &'a [u8], y: [u64; 3]) -> [u64; 3] ensures { λ r. ⌜ r ≡ g (now (x .entry)) y ⌝ }");
     assert_eq!((f.line, f.body, f.last, f.says.as_str()), (3, 11, 13, "Why."));
     assert_eq!(failures(&reading, "promises and exceptions"), Vec::<String>::new());
 }

@@ -13,8 +13,7 @@ fn page(text: &str) -> Vec<String> {
 fn names_files_and_links_are_there() {
     let good = "`a::f` `a::g` `so-it-is` `crates/a/specs` `crates/*/proofs` `S.antt` `std::x` [d](../crates/a/specs/S.antt) `docs/` `1/2` `x = 3`\n";
     assert_eq!(page(good), Vec::<String>::new());
-    for bad in ["`a::gone`", "`so-it-was`", "`crates/b/specs`", "`crates/*/gone`", "`T.antt`", "[d](S.antt)", "`gone/`"]
-    {
+    for bad in ["`a::gone`", "`so-it-was`", "`crates/b/specs`", "`crates/*/gone`", "`T.antt`", "[d](S.antt)", "`gone/`"] {
         assert_eq!(page(bad).len(), 1, "{bad}");
     }
 }
@@ -28,10 +27,7 @@ fn what_a_comment_declares_is_not_there() {
 #[test]
 fn quotations_stand_in_their_file_whole() {
     let quote = |block: &str| page(&format!("From [S](../crates/a/specs/S.antt):\n\n```\n{block}\n```\n"));
-    assert_eq!(
-        quote("-- a number\ng : ℕ → ℕ\ng x = x + 7\n\nrecord R (n : ℕ) where\n  -- first\n  a : ℕ\n  b : ℕ"),
-        Vec::<String>::new()
-    );
+    assert_eq!(quote("-- a number\ng : ℕ → ℕ\ng x = x + 7\n\nrecord R (n : ℕ) where\n  -- first\n  a : ℕ\n  b : ℕ"), Vec::<String>::new());
     for bad in ["g x = x + 8", "-- another", "record R (n : ℕ) where\n  b : ℕ", "g x = x + 7\n  b : ℕ"] {
         assert_eq!(quote(bad).len(), 1, "{bad}");
     }
@@ -39,9 +35,7 @@ fn quotations_stand_in_their_file_whole() {
 
 #[test]
 fn a_table_of_files_declares_its_names() {
-    let table = |name: &str| {
-        page(&format!("| Says | Theorem | File in crates/a/proofs |\n|---|---|---|\n| x | `{name}` | P.antt |\n"))
-    };
+    let table = |name: &str| page(&format!("| Says | Theorem | File in crates/a/proofs |\n|---|---|---|\n| x | `{name}` | P.antt |\n"));
     assert_eq!(table("so-it-is"), Vec::<String>::new());
     assert!(!table("f").is_empty());
 }
@@ -51,10 +45,7 @@ fn statements_are_quoted_with_all_that_they_suppose() {
     let files = [("crates/a/proofs/P.antt", PROOFS)];
     let reading = crate_a("", &files);
     let said = statements(&reading.logic, "`so-it-is` and `if-good`\n");
-    assert!(
-        said.contains("```\nso-it-is : (n : ℕ) →\n    So n\nmodule _ (h : Good) where\n  if-good : So 1\n```\n"),
-        "{said}"
-    );
+    assert!(said.contains("```\nso-it-is : (n : ℕ) →\n    So n\nmodule _ (h : Good) where\n  if-good : So 1\n```\n"), "{said}");
     assert!(statements(&reading.logic, "`so` and\n```\n`if-good`\n```\n").is_empty());
 }
 
@@ -63,6 +54,8 @@ fn a_written_part_is_held_to_the_tree() {
     let text = "a\n<!-- x: written by tests/tree -->\nold\n<!-- end of x -->\nb\n";
     assert_eq!(part(text, "x"), Some("old\n"));
     assert_eq!(part(&with_part(text, "x", "new\n"), "x"), Some("new\n"));
+    let hides = crate_a("", &[("docs/D.md", "<!-- x: written by tests/tree -->\n`a::gone`\n")]);
+    assert!(fails(&hides, "written parts", "docs/D.md marks the parts x"));
     let trust = "`so-it-is`\n<!-- statements: written by tests/tree -->\n[crates/a/proofs/P.antt](../crates/a/proofs/P.antt):\n\n```\nso-it-is : Unit\n```\n<!-- end of statements -->\n";
     let files = [("crates/a/proofs/P.antt", PROOFS), ("docs/TRUST.md", trust)];
     assert!(fails(&crate_a("", &files), "written parts", "docs/TRUST.md, the part 'statements' is another"));
@@ -71,13 +64,7 @@ fn a_written_part_is_held_to_the_tree() {
 #[test]
 fn axioms_holes_and_slot_counts_are_told() {
     let proofs = |text: &str| crate_a("pub const SLOTS: usize = 256;\n", &[("crates/a/proofs/P.antt", text)]);
-    assert_eq!(
-        failures(&proofs("-- P.\n-- lem ? 9\np = x\n"), "trust")
-            .iter()
-            .filter(|f| !f.contains("docs/TRUST.md"))
-            .count(),
-        0
-    );
+    assert_eq!(failures(&proofs("-- P.\n-- lem ? 9\np = x\n"), "trust").iter().filter(|f| !f.contains("docs/TRUST.md")).count(), 0);
     for (text, words) in [
         ("p = lem x\n", "axiom"),
         ("p = Core.lem x\n", "axiom"),

@@ -20,28 +20,17 @@ fn with(edit: &str) -> Vec<String> {
 fn an_edit_changes_code_contract_or_definition() {
     let none = Vec::<String>::new();
     assert_eq!(with("# why\nfile: src/lib.rt\nold:     x + N\nnew:     x + 1\n"), none);
-    assert_eq!(
-        with("file: src/lib.rt\nold:     ensures { λ r. ⌜ r ≡ g x ⌝ }\nnew:     ensures { λ r. ⌜ r ≡ g 0 ⌝ }\n"),
-        none
-    );
+    assert_eq!(with("file: src/lib.rt\nold:     ensures { λ r. ⌜ r ≡ g x ⌝ }\nnew:     ensures { λ r. ⌜ r ≡ g 0 ⌝ }\n"), none);
     assert_eq!(with("file: specs/S.antt\nold: g x = x + 7\nnew: g x = x + 8\n"), none);
 }
 
 #[test]
 fn an_edit_of_a_comment_or_of_a_proof_is_none() {
     assert!(with("file: src/lib.rt\nold: // old words\nnew: // new words\n")[0].contains("no more than a comment"));
-    assert!(
-        with("file: src/lib.rt\nold:     help(x)\nnew:     help(x) // as before\n")[0]
-            .contains("no more than a comment")
-    );
-    assert!(
-        with("file: src/lib.rt\nold:     help(x)\nnew:     help(  x)\n").is_empty(),
-        "another text, though it means the same"
-    );
+    assert!(with("file: src/lib.rt\nold:     help(x)\nnew:     help(x) // as before\n")[0].contains("no more than a comment"));
+    assert!(with("file: src/lib.rt\nold:     help(x)\nnew:     help(  x)\n").is_empty(), "another text, though it means the same");
     assert!(with("file: specs/S.antt\nold: -- Words.\nnew: -- Others.\n")[0].contains("no more than a comment"));
-    assert!(
-        with("file: proofs/P.antt\nold: p = refl\nnew: p = omega\n")[0].contains("no one line of code or definitions")
-    );
+    assert!(with("file: proofs/P.antt\nold: p = refl\nnew: p = omega\n")[0].contains("no one line of code or definitions"));
 }
 
 #[test]
@@ -54,9 +43,7 @@ fn an_edit_of_nothing_or_of_two_places_is_none() {
 
 #[test]
 fn a_copy_under_another_name_is_none() {
-    assert!(
-        with("# other words\nfile: src/lib.rt\nold:     help(x)\nnew:     help(1) // one\n")[0].contains("does what")
-    );
+    assert!(with("# other words\nfile: src/lib.rt\nold:     help(x)\nnew:     help(1) // one\n")[0].contains("does what"));
 }
 
 #[test]
@@ -69,18 +56,10 @@ fn each_public_function_has_two() {
     assert_eq!(failures(&reading, "edits"), ["a::k: 0 edits of two"]);
     let of: Vec<_> = reading.edits.iter().map(|e| (e.unit.as_str(), e.counts.as_deref())).collect();
     assert_eq!(of, [("help", Some("f")), ("N", Some("f"))]);
-    let page =
-        "## Fewer than two edits\n\n| Function | Grounds |\n|---|---|\n| `a::*` | nothing of it could be wrong |\n";
-    assert!(fails(
-        &crate_a(LIB, &[&two[..], &[("docs/EXCEPTIONS.md", page)]].concat()),
-        "edits",
-        "a::k: 0 edits of two"
-    ));
+    let page = "## Fewer than two edits\n\n| Function | Grounds |\n|---|---|\n| `a::*` | nothing of it could be wrong |\n";
+    assert!(fails(&crate_a(LIB, &[&two[..], &[("docs/EXCEPTIONS.md", page)]].concat()), "edits", "a::k: 0 edits of two"));
     let page = page.replace("a::*", "a::k");
-    assert_eq!(
-        failures(&crate_a(LIB, &[&two[..], &[("docs/EXCEPTIONS.md", &page)]].concat()), "edits"),
-        Vec::<String>::new()
-    );
+    assert_eq!(failures(&crate_a(LIB, &[&two[..], &[("docs/EXCEPTIONS.md", &page)]].concat()), "edits"), Vec::<String>::new());
 }
 
 #[test]
@@ -107,7 +86,12 @@ fn a_fact_that_fails_counts() {
     ] {
         assert!(reason(&log(error)).is_ok(), "{error}");
     }
-    assert!(reason("note: /t/src/lib.rt:9:1: it is not proved that what the function ensures holds when it returns (`returns`)\nlogic=not-proved\n").is_ok());
+    assert!(
+        reason(
+            "note: /t/src/lib.rt:9:1: it is not proved that what the function ensures holds when it returns (`returns`)\nlogic=not-proved\n"
+        )
+        .is_ok()
+    );
 }
 
 #[test]
@@ -123,8 +107,7 @@ fn nothing_else_counts() {
     ] {
         assert!(reason(&log(error)).is_err(), "{error}");
     }
-    let consequence =
-        "`close` was not admitted (it has holes or undetermined implicits, or was rejected), so this cannot be checked";
+    let consequence = "`close` was not admitted (it has holes or undetermined implicits, or was rejected), so this cannot be checked";
     assert!(reason(&log(consequence)).is_err());
     assert!(reason("").is_err());
     assert!(reason("logic=not-proved\n").is_err());

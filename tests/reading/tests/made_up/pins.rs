@@ -1,7 +1,7 @@
 use crate::{fails, failures, read};
 use reading::pins::rows;
 
-const FILES: [(&str, &str); 9] = [
+const FILES: [(&str, &str); 10] = [
     ("crates.txt", "a:\n"),
     ("crates/a/src/lib.rt", "pub fn f(x: u64) -> u64\n    ensures { λ r. ⌜ r ≡ x ⌝ }\n{\n    x\n}\n"),
     (
@@ -10,6 +10,7 @@ const FILES: [(&str, &str); 9] = [
     ),
     ("crates/a/proofs/P.antt", "-- P.\npub a-unique : (r s : R) → g r ≡ g s → r ≡ s\n"),
     ("crates/a/must-fail/e.edit", "file: src/lib.rt\nold:     x\nnew:     1\n"),
+    ("docs/EXCEPTIONS.md", "## Not wholly stated\n\n| `a::f` | grounds of more than a word |\n"),
     ("docs/CONTRACTS.md", "| L.f.E1 | L:9 | it is so | `g` | **same** |\n"),
     ("tests/cases/runs/c.trace", "trace\n"),
     ("tests/cases/runs/c.expected", "out\n"),
@@ -45,21 +46,20 @@ fn what_vanished_or_changed_is_told() {
         ("it is so", "it may be so", "clause L.f.E1 changed"),
         ("L:9", "L:8", "clause L.f.E1 changed"),
         ("**same**", "**stronger**", "clause L.f.E1 changed"),
+        ("`a::f` | g", "`a::f`, `a::k` | g", "exception a::k, not wholly stated is new"),
         ("out\n", "other\n", "case runs/c changed"),
         ("new:     1", "new:     0", "edit a/e changed"),
         ("r ≡ x", "r ≡ 0", "contract a::f changed"),
-        ("r ≡ s", "r ≡ r", "theorem crates/a/proofs/P.antt::a-unique changed"),
-        ("pub a-unique", "module _ (h : ⊥) where\n  pub a-unique", "theorem crates/a/proofs/P.antt::a-unique changed"),
-        ("pub a-unique", "-- pub a-unique", "theorem crates/a/proofs/P.antt::a-unique vanished"),
+        ("r ≡ s", "r ≡ r", "theorem docs/EXCEPTIONS.md crates/a/proofs/P.antt::a-unique changed"),
+        ("pub a-unique", "module _ (h : ⊥) where\n  pub a-unique", "theorem docs/EXCEPTIONS.md crates/a/proofs/P.antt::a-unique changed"),
+        ("pub a-unique", "-- pub a-unique", "theorem docs/EXCEPTIONS.md crates/a/proofs/P.antt::a-unique vanished"),
         ("stage \"two\" tests/run x\n", "", "stage \"two\" tests/run x vanished"),
         ("rt ci\n", "rt ci || true\n", "script .ci/run changed"),
     ] {
         let failed = replaced(from, to);
         assert!(failed.iter().any(|f| f.contains(words)), "{words}: {failed:?}");
     }
-    for (file, words) in
-        [("tests/cases/runs/c.trace", "case runs/c vanished"), ("crates/a/must-fail/e.edit", "edit a/e vanished")]
-    {
+    for (file, words) in [("tests/cases/runs/c.trace", "case runs/c vanished"), ("crates/a/must-fail/e.edit", "edit a/e vanished")] {
         let failed = changed(|p, t| (p != file).then(|| t.to_string()));
         assert!(failed.iter().any(|f| f.contains(words)), "{words}");
     }
@@ -69,9 +69,7 @@ fn what_vanished_or_changed_is_told() {
 fn a_copy_under_another_name_is_told() {
     let failed = replaced("    -- P2 two\n    ∷ record { x = 2 }\n", "    -- P2 two\n    record { x = 1 }\n");
     assert!(failed.iter().any(|f| f.contains("row P2 is a copy of P1")), "{failed:?}");
-    let reading = read(
-        &[&FILES[..], &[("crates/a/must-fail/d.edit", "# d\nfile: src/lib.rt\nold:     x\nnew:     1\n")]].concat(),
-    );
+    let reading = read(&[&FILES[..], &[("crates/a/must-fail/d.edit", "# d\nfile: src/lib.rt\nold:     x\nnew:     1\n")]].concat());
     assert!(fails(&reading, "edits", "does what") && fails(&reading, "pins", "is a copy of"));
 }
 
@@ -87,18 +85,13 @@ fn the_least_of_a_stage_stays_as_a_person_put_it() {
     let reading = read(&[&FILES[..], &[("tests/pins", "# Words.\nstage 203 \"one\" rt ci\n")]].concat());
     let text = reading.pin_text();
     assert!(
-        text.starts_with("# Words.\n")
-            && text.contains("\nstage 203 \"one\" rt ci\n")
-            && text.contains("\nstage 1 \"two\" tests/run x\n")
+        text.starts_with("# Words.\n") && text.contains("\nstage 203 \"one\" rt ci\n") && text.contains("\nstage 1 \"two\" tests/run x\n")
     );
 }
 
 #[test]
 fn rows_are_marked_inside_a_definition() {
     let found = rows(FILES[2].1);
-    assert_eq!(
-        found,
-        [("P1".to_string(), "record { x = 1 }".to_string()), ("P2".to_string(), "record { x = 2 }".to_string())]
-    );
+    assert_eq!(found, [("P1".to_string(), "record { x = 1 }".to_string()), ("P2".to_string(), "record { x = 2 }".to_string())]);
     assert!(rows("-- P1 a word at the margin\n-- PS no number\n").is_empty());
 }

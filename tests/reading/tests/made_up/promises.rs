@@ -30,9 +30,7 @@ fn a_right_side_that_mentions_the_result_is_refused() {
     assert!(open("x: u64", " -> u64", &["λ r. ⌜ r ≡ (g (r .0)) ⌝"])[0].contains("mentions the result"));
     let left = ["λ r. ⌜ r ≡ g (now (b .exit)) ⌝", "λ _. ⌜ now (b .exit) ≡ h ⌝"];
     assert!(open("b: &mut [u8]", " -> u64", &left)[0].contains("mentions what is left"));
-    assert!(
-        open("b: &mut [u8]", "", &["λ _. ⌜ now (b .exit) ≡ h (now (b .exit)) ⌝"])[0].contains("mentions what is left")
-    );
+    assert!(open("b: &mut [u8]", "", &["λ _. ⌜ now (b .exit) ≡ h (now (b .exit)) ⌝"])[0].contains("mentions what is left"));
     let circle = ["λ r. ⌜ now (b .exit) ≡ h r ⌝", "λ r. ⌜ r ≡ g ⌝"];
     assert!(open("b: &mut [u8]", " -> u64", &circle)[0].contains("not said before"));
 }
@@ -56,18 +54,14 @@ fn what_says_nothing_of_the_outcome_is_refused() {
 #[test]
 fn a_lent_buffer_without_an_equation_is_refused() {
     assert!(open("b: &mut [u8]", " -> u64", &["λ r. ⌜ r ≡ g ⌝"])[0].contains("no equation says b"));
-    assert!(
-        open("b: &'a mut [u8], c: &mut u64", "", &["λ _. ⌜ now (b .exit) ≡ g ⌝"])[0].contains("no equation says c")
-    );
-    let held = "pub struct W<'a> {\n    pub buf: &'a mut [u8],\n}\n".to_string()
-        + &function("w: W<'a>", " -> u64", &["λ r. ⌜ r ≡ g ⌝"]);
+    assert!(open("b: &'a mut [u8], c: &mut u64", "", &["λ _. ⌜ now (b .exit) ≡ g ⌝"])[0].contains("no equation says c"));
+    let held = "pub struct W<'a> {\n    pub buf: &'a mut [u8],\n}\n".to_string() + &function("w: W<'a>", " -> u64", &["λ r. ⌜ r ≡ g ⌝"]);
     assert!(fails(&crate_a(&held, &[]), THEME, "no equation says w"));
 }
 
 #[test]
 fn a_commented_ensures_is_not_there() {
-    let lib =
-        "pub fn f() -> u64\n    /* ensures { λ r. ⌜ r ≡ 1 ⌝ } */\n    // ensures { λ r. ⌜ r ≡ 1 ⌝ }\n{\n    1\n}\n";
+    let lib = "pub fn f() -> u64\n    /* ensures { λ r. ⌜ r ≡ 1 ⌝ } */\n    // ensures { λ r. ⌜ r ≡ 1 ⌝ }\n{\n    1\n}\n";
     assert!(fails(&crate_a(lib, &[]), THEME, "no equation says its result"));
 }
 
@@ -99,8 +93,7 @@ fn a_theorem_about_a_namesake_does_not_count() {
 
 #[test]
 fn a_uniqueness_theorem_ends_in_the_equation_of_its_two_results() {
-    for (from, to) in
-        [("r ≡ s\n", "r ≡ r\n"), ("r ≡ s\n", "Unit\n"), ("r ≡ s\n", "n ≡ n\n"), ("r ≡ s\n", "(r ≡ s) ⊎ Unit\n")]
+    for (from, to) in [("r ≡ s\n", "r ≡ r\n"), ("r ≡ s\n", "Unit\n"), ("r ≡ s\n", "n ≡ n\n"), ("r ≡ s\n", "(r ≡ s) ⊎ Unit\n")]
     {
         let failed = with_theorem(&format!("{USE}{}", UNIQUE.replace(from, to)));
         assert!(failed.iter().any(|f| f.contains("does not end in an equation of two results")), "{to}: {failed:?}");
@@ -145,9 +138,7 @@ fn an_exception_names_one_function_with_grounds() {
     assert_eq!(judged("| `a::f` | all | it exists to be timed, no more |"), Vec::<String>::new());
     assert!(judged("| `a::*` | all | it exists to be timed, no more |")[0].contains("no one function"));
     assert!(judged("| `a::f` | all | |")[0].contains("no grounds"));
-    assert!(
-        judged("| `a::f`, `a::g` | all | it exists to be timed, no more |")[0].contains("no public function: a::g")
-    );
+    assert!(judged("| `a::f`, `a::g` | all | it exists to be timed, no more |")[0].contains("no public function: a::g"));
     let stated = crate_a(
         &function("x: u64", " -> u64", &["λ r. ⌜ r ≡ x ⌝"]),
         &[("docs/EXCEPTIONS.md", &page("| `a::f` | all | it exists to be timed, no more |"))],
