@@ -120,6 +120,11 @@ impl Code {
         let raw = tree.text(file);
         let text = tree.bare(file);
         let tokens = tokens(text);
+        let raw_text =
+            |w: &[(usize, &str)]| ["r", "br"].contains(&w[0].1) && w[0].0 + w[0].1.len() == w[1].0 && w[1].1.starts_with(['"', '#']);
+        if tokens.windows(2).any(raw_text) {
+            self.unknown.push(format!("{file}: a raw text, whose end this reading does not find"));
+        }
         let mut reader = Reader { code: self, krate, file, raw: &raw, text, tokens, at: 0, children: Vec::new() };
         while reader.at < reader.tokens.len() {
             reader.item(module, false);
@@ -213,8 +218,8 @@ impl<'a> Reader<'a> {
             self.at += if self.look(1) == "!" { 2 } else { 1 };
             let range = self.bracketed();
             let attribute = self.between(range);
-            exported |= attribute.contains("no_mangle") || attribute.contains("export_name");
-            if attribute.contains("path") || attribute.contains("cfg") {
+            exported |= attribute == "no_mangle";
+            if !["no_mangle", "repr(C)", "inline"].contains(&attribute.as_str()) {
                 self.unknown(&attribute);
             }
         }
@@ -249,7 +254,7 @@ impl<'a> Reader<'a> {
                 let child = [module, &[self.look(1).to_string()]].concat();
                 self.code.modules.entry((self.krate.to_string(), child.clone())).or_default().open = open;
                 self.at += 3;
-                if self.tokens[self.at - 1].1 == "{" {
+                if self.tokens.get(self.at - 1).is_some_and(|t| t.1 == "{") {
                     self.items_inside(&child, false);
                 } else {
                     self.children.push(child);
@@ -257,7 +262,7 @@ impl<'a> Reader<'a> {
             }
             "impl" => {
                 let range = self.up_to(&["{"]);
-                let of_trait = self.tokens[range].iter().any(|t| t.1 == "for");
+                let of_trait = self.tokens.iter().take(range.end).skip(range.start).any(|t| t.1 == "for");
                 self.at += 1;
                 let first = self.code.functions.len();
                 self.items_inside(module, true);
@@ -274,7 +279,7 @@ impl<'a> Reader<'a> {
                 }
                 let lines = self.line(start)..=self.line(self.at - 1);
                 let text = self.between(start..self.at);
-                if !braced && self.tokens[start..self.at].iter().any(|t| t.1 == "fn") {
+                if !braced && self.tokens.iter().take(self.at).skip(start).any(|t| t.1 == "fn") {
                     self.unknown(&format!("{kind} {name} holds a function"));
                 }
                 let (kind, file) = (kind.to_string(), self.file.to_string());
@@ -369,7 +374,7 @@ impl<'a> Reader<'a> {
         }
         let body = self.line(self.at);
         let range = self.bracketed();
-        let tokens: Vec<String> = self.tokens[range].iter().map(|t| t.1.to_string()).collect();
+        let tokens: Vec<String> = self.tokens.iter().take(range.end).skip(range.start).map(|t| t.1.to_string()).collect();
         if tokens.iter().any(|t| ["use", "fn", "mod", "macro_rules"].contains(&t.as_str())) {
             self.unknown(&format!("a use or an item inside {name}"));
         }

@@ -371,6 +371,18 @@ impl Trust<'_> {
         let specs = self.logic.declarations.iter().filter(|d| d.top && d.file.contains("/specs/"));
         let again: Vec<String> = specs.filter(|d| known.contains(d.name.as_str())).map(|d| format!("{} {}", d.file, d.name)).collect();
         report.none("definitions with the name of a word of the library", &again);
+        let code = self.tree.files.keys().filter(|f| f.starts_with("crates/") || f.ends_with(".md"));
+        let hidden = |c: char| {
+            "\u{a0}\u{ad}\u{feff}".contains(c)
+                || ('\u{200b}'..='\u{200f}').contains(&c)
+                || ('\u{2028}'..='\u{202e}').contains(&c)
+                || ('\u{2060}'..='\u{2069}').contains(&c)
+        };
+        let hiding: Vec<String> = code.filter(|f| self.tree.text(f).contains(hidden)).cloned().collect();
+        report.none("characters that nobody sees", &hiding);
+        let more = |l: &str| !l.is_empty() && !["mod ", "pub mod ", "use ", "pub use "].iter().any(|w| l.starts_with(w));
+        let nodes = self.tree.files.keys().filter(|f| f.ends_with("/Lib.antt") && self.tree.bare(f).lines().any(more));
+        report.none("a Lib.antt with more than the names of modules", &nodes.cloned().collect::<Vec<_>>());
         let untitled = |f: &String| !self.tree.text(f).lines().next().unwrap_or("").starts_with("-- ");
         let untitled: Vec<String> = self.specs().into_iter().filter(untitled).collect();
         report.none("definitions with no first line that says what they are", &untitled);

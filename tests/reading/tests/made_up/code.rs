@@ -70,6 +70,8 @@ fn what_can_not_be_read_fails() {
         "pub const F: fn(u64) -> u64 = g;\n",
         "#[path = \"x.rt\"]\nmod m;\n",
         "mod gone;\n",
+        "#[trusted]\npub fn f() {\n}\n",
+        "const A: &[u8] = br\"\\\";\npub fn f() {\n}\n// \"\n",
         "pub fn f() {\n    use m::g;\n}\n",
         "pub fn f() -> u64\n    ensures { λ r. {- ⌜ r ≡ g ⌝ -} ⌜ h ⌝ }\n{\n    1\n}\n",
         "extern \"C\" {\n    fn f();\n}\n",

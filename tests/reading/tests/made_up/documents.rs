@@ -82,6 +82,14 @@ fn axioms_holes_and_slot_counts_are_told() {
 }
 
 #[test]
+fn what_nobody_sees_is_told() {
+    let right_to_left = format!("-- P.\np = x {}y\n", '\u{202e}');
+    assert!(fails(&crate_a("", &[("crates/a/proofs/P.antt", &right_to_left)]), "trust", "nobody sees"));
+    let node = "pub mod S\nsmall : ℕ\n";
+    assert!(fails(&crate_a("", &[("crates/a/specs/Lib.antt", node)]), "trust", "more than the names of modules"));
+}
+
+#[test]
 fn a_definition_with_a_librarys_name_is_told() {
     let specs = "-- S.\nuse lib.ListN.{length}\n\npub length : ℕ\nlength = 0\n";
     assert!(fails(&crate_a("", &[("crates/a/specs/S.antt", specs)]), "trust", "crates/a/specs/S.antt length"));
