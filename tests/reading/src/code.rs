@@ -20,6 +20,8 @@ pub struct Function {
     pub result: String,
     pub requires: Vec<String>,
     pub ensures: Vec<String>,
+    /// The lines of both.
+    pub clauses: Vec<usize>,
     pub file: String,
     /// The lines of `fn`, of the body's first brace, and of its last.
     pub line: usize,
@@ -358,13 +360,14 @@ impl<'a> Reader<'a> {
         self.at = end;
         let head = self.up_to(&["requires", "ensures", "where", "{", ";"]);
         let result = self.between(head).trim_start_matches("->").trim().to_string();
-        let (mut requires, mut ensures) = (Vec::new(), Vec::new());
+        let (mut requires, mut ensures, mut clauses) = (Vec::new(), Vec::new(), Vec::new());
         while ["requires", "ensures", "where"].contains(&self.look(0)) {
-            let word = self.look(0);
+            let (word, from) = (self.look(0), self.line(self.at));
             self.at += 1;
             self.up_to(&["{", ";"]);
             if word != "where" && self.look(0) == "{" {
                 let range = self.bracketed();
+                clauses.extend(from..=self.line(self.at - 1));
                 let clause = self.between(range);
                 if clause.contains("{-") || clause.split(' ').any(|w| w.starts_with("--")) {
                     self.unknown(&format!("a comment inside the {word} of {name}"));
@@ -397,6 +400,7 @@ impl<'a> Reader<'a> {
             result,
             requires,
             ensures,
+            clauses,
             file,
             line,
             body,

@@ -131,7 +131,7 @@ pub fn read(tree: &Tree, code: &Code, logic: &Logic) -> (Vec<Edit>, Vec<String>)
             if edit.changes.is_empty() || !path.ends_with(".edit") {
                 wrong.push(format!("{path} changes nothing"));
             }
-            for (number, (file, old, new)) in edit.changes.clone().into_iter().enumerate() {
+            for (file, old, new) in edit.changes.clone() {
                 let is_code = file.ends_with(".rt");
                 let inside = ["src", "specs"].iter().any(|f| file.starts_with(&format!("crates/{krate}/{f}/")));
                 let text = tree.text(&file);
@@ -144,10 +144,7 @@ pub fn read(tree: &Tree, code: &Code, logic: &Logic) -> (Vec<Edit>, Vec<String>)
                 let place = places.first().copied().unwrap_or(0);
                 let commented = tree.bare(&file).lines().nth(place.max(1) - 1).is_none_or(|l| l.trim().is_empty());
                 let found = units.at.get(&(file.clone(), place)).filter(|_| !commented);
-                if found.is_none() && !places.is_empty() {
-                    wrong.push(format!("{path}: what its old text stands in has no name"));
-                }
-                if let (Some((unit, contract)), 0) = (found, number) {
+                if let (Some((unit, contract)), true) = (found, edit.unit.is_empty()) {
                     edit.unit = unit.clone();
                     edit.sort = if !is_code {
                         "definition"
@@ -157,6 +154,9 @@ pub fn read(tree: &Tree, code: &Code, logic: &Logic) -> (Vec<Edit>, Vec<String>)
                         "code"
                     };
                 }
+            }
+            if edit.unit.is_empty() {
+                wrong.push(format!("{path}: what its old text stands in has no name"));
             }
             let users: Vec<&str> = reached.iter().filter(|(_, r)| r.contains(&edit.unit)).map(|(f, _)| *f).collect();
             edit.counts = match &users[..] {

@@ -176,12 +176,18 @@ pub fn uniqueness(inside: &[String], statement: &str) -> Result<(String, usize, 
     if let Some(other) = bound.iter().find(|b| !variables.iter().any(|v| v[0] == **b)) {
         return Err(format!("{other} is supposed beside the two outcomes"));
     }
-    let mut equal = BTreeSet::new();
+    // two values are equal, or two references: what they refer to, and where it stands
+    let (mut equal, mut seen) = (BTreeSet::new(), Vec::new());
     for equation in cut(unwrapped(conclusion), "×") {
         let sides: Vec<Vec<String>> = cut(unwrapped(equation), "≡").iter().map(|s| unwrapped(s).to_vec()).collect();
-        let place = (1..first.len()).find(|&i| sides == [first[i].clone(), second[i].clone()] && first[i] != second[i]);
-        let Some(place) = place else { return Err(format!("it ends in {}", equation.join(" "))) };
-        equal.insert(place - 1);
+        let of = |word: &str, side: &[String]| if word.is_empty() { side.to_vec() } else { [&[word.to_string()], side].concat() };
+        let says = |word: &str, i: usize| sides == [of(word, &first[i]), of(word, &second[i])] && first[i] != second[i];
+        let found = (1..first.len()).find_map(|i| ["", "now", "ptr"].into_iter().find(|w| says(w, i)).map(|w| (i - 1, w)));
+        let Some((place, word)) = found else { return Err(format!("it ends in {}", equation.join(" "))) };
+        seen.push((place, word));
+        if word.is_empty() || (seen.contains(&(place, "now")) && seen.contains(&(place, "ptr"))) {
+            equal.insert(place);
+        }
     }
     let others = (1..first.len()).find(|&i| first[i] != second[i] && !equal.contains(&(i - 1)));
     match others {

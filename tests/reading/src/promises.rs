@@ -39,10 +39,16 @@ fn exit(said: &[String]) -> Option<&str> {
     (said.len() == 2 && said[1] == ".exit").then(|| said[0].as_str())
 }
 
-/// Reads an `ensures`: `λ r. do ⌜ .. ⌝`.
+/// Reads an `ensures`: `λ r. ⌜ .. ⌝`, or `λ r. do ⌜ .. ⌝` with lines `n ← ⟦SLOTS⟧ .entry` before the fact.
 pub fn clause(text: &str) -> (String, Clause) {
-    let said = words(text);
-    let said = if said.get(3).is_some_and(|w| w == "do") { [&said[..3], &said[4..]].concat() } else { said };
+    let mut said = words(text);
+    if said.get(3).is_some_and(|w| w == "do") {
+        said.remove(3);
+        let is_line = |w: &[String]| w.len() > 4 && w[1] == "←" && w[2].starts_with('⟦') && w[3] == ".entry";
+        while said.len() > 8 && said[3] != said[1] && is_line(&said[3..]) {
+            said.drain(3..if said[7] == ";" { 8 } else { 7 });
+        }
+    }
     let marks = said.iter().filter(|w| ["⌜", "⌝"].contains(&w.as_str())).count();
     let whole = said.len() > 5 && said[0] == "λ" && said[2] == "." && said[3] == "⌜" && said[said.len() - 1] == "⌝";
     if !whole || marks != 2 {

@@ -26,14 +26,13 @@ impl Trust<'_> {
         let text = self.tree.bare(file);
         let skipped: &[&str] = match () {
             _ if file.contains("/specs/") => &["use ", "mod ", "pub mod "],
-            _ if file.ends_with(".rt") => &["ghost use ", "requires ", "ensures "],
+            _ if file.ends_with(".rt") => &["ghost use "],
             _ => &[],
         };
-        let counts = |l: &&str| {
-            let line = if file.ends_with(".rt") { l.trim_start() } else { l };
-            !l.trim().is_empty() && !skipped.iter().any(|s| line.starts_with(s))
-        };
-        text.lines().filter(counts).count()
+        let clauses: Vec<usize> = self.code.functions.iter().filter(|f| f.file == file).flat_map(|f| f.clauses.clone()).collect();
+        let counts =
+            |(i, l): &(usize, &str)| !l.trim().is_empty() && !skipped.iter().any(|s| l.starts_with(s)) && !clauses.contains(&(i + 1));
+        text.lines().enumerate().filter(counts).count()
     }
 
     fn all_lines(&self, krate: &str, folder: &str) -> usize {

@@ -2,7 +2,7 @@ use crate::{crate_a, fails, failures};
 use reading::edits::reason;
 
 const LIB: &str = "pub const N: u64 = 7;\n\nfn help(x: u64) -> u64 {\n    x + N\n}\n\n// old words\npub fn f(x: u64) -> u64\n    ensures { λ r. ⌜ r ≡ g x ⌝ }\n{\n    help(x)\n}\n\npub fn k(x: u64) -> u64\n    ensures { λ r. ⌜ r ≡ x ⌝ }\n{\n    x\n}\n";
-const SPECS: &str = "-- Words.\nunfoldable pub g : ℕ → ℕ\ng x = x + 7\n";
+const SPECS: &str = "-- Words.\nuse lib.{x}\n\nunfoldable pub g : ℕ → ℕ\ng x = x + 7\n";
 
 /// The failures with this edit of crate a beside a good one.
 fn with(edit: &str) -> Vec<String> {
@@ -39,6 +39,13 @@ fn an_edit_of_nothing_or_of_two_places_is_none() {
     assert!(with("file: src/lib.rt\nold: pub fn\nnew: fn\n")[0].contains("no one line"));
     assert!(with("# only words\n")[0].contains("changes nothing"));
     assert!(with("file: src/lib.rt\nold:     help(x)\nnew:     1\nmore\n")[0].contains("no line of an edit"));
+}
+
+#[test]
+fn an_edit_may_change_an_import_beside_what_it_changes() {
+    let both = "file: specs/S.antt\nold: use lib.{x}\nnew: use lib.{y}\nold: g x = x + 7\nnew: g x = y + 7\n";
+    assert_eq!(with(both), Vec::<String>::new());
+    assert!(with("file: specs/S.antt\nold: use lib.{x}\nnew: use lib.{y}\n")[0].contains("has no name"));
 }
 
 #[test]

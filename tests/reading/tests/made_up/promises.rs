@@ -18,6 +18,9 @@ fn equations_of_all_that_may_be_written_pass() {
     let none = Vec::<String>::new();
     assert_eq!(open("x: u64", " -> u64", &["λ r. ⌜ r ≡ g x ⌝"]), none);
     assert_eq!(open("x: u64", " -> u64", &["λ r. do ⌜ r ≡ g (← ⟦N⟧ .entry) x ⌝"]), none);
+    assert_eq!(open("x: u64", " -> u64", &["λ r. do n ← ⟦N⟧ .entry; ⌜ r ≡ g n x ⌝"]), none);
+    assert_eq!(open("x: u64", " -> u64", &["λ r. do\n      n ← ⟦N⟧ .entry\n      m ← ⟦M⟧ .entry\n      ⌜ r ≡ g n m x ⌝"]), none);
+    assert!(!open("x: u64", " -> u64", &["λ r. do r ← ⟦N⟧ .entry; ⌜ r ≡ g x ⌝"]).is_empty(), "another r");
     assert_eq!(open("b: &mut [u8]", "", &["λ _. ⌜ now (b .exit) ≡ g (now (b .entry)) ⌝"]), none);
     let both = ["λ r. ⌜ r ≡ g (now (b .entry)) ⌝", "λ r. ⌜ now (b .exit) ≡ h (now (b .entry)) r ⌝"];
     assert_eq!(open("b: &mut [u8]", " -> u64", &both), none);
@@ -123,6 +126,9 @@ fn all_that_is_left_is_told_by_the_theorem() {
     let two = "{n : ℕ} {ys zs : L} {q r : R} → Into n ys q → Into n zs r → (q ≡ r) × (ys ≡ zs)";
     assert_eq!(uniqueness(&[], two).map(|(p, n, e)| (p, n, e.len())), Ok(("Into".to_string(), 3, 2)));
     assert!(uniqueness(&[], &two.replace("(q ≡ r) × (ys ≡ zs)", "q ≡ r")).is_err());
+    let lent = "(n : ℕ) (r s : B) → Part n r → Part n s → (now r ≡ now s) × (ptr r ≡ ptr s)";
+    assert!(uniqueness(&[], lent).is_ok());
+    assert!(uniqueness(&[], &lent.replace(" × (ptr r ≡ ptr s)", "")).is_err());
     let lib = function("b: &mut [u8]", " -> R", &["λ r. ⌜ Fits 1 (now (b .exit)) r ⌝"]);
     let proof = format!("{USE}{UNIQUE}");
     assert!(fails(&crate_a(&lib, &[("crates/a/proofs/U.antt", &proof)]), THEME, "does not tell"));
