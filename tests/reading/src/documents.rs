@@ -159,6 +159,44 @@ pub fn check(tree: &Tree, declared: &BTreeSet<(String, String)>, report: &mut Re
     }
 }
 
+/// A document in which each `CRATE::NAME` and each edit that is gone, and stands in one other crate alone, has its new place;
+/// and what was given another.
+pub fn mended(tree: &Tree, declared: &BTreeSet<(String, String)>, document: &str) -> (String, Vec<String>) {
+    let names = Names::new(tree, declared);
+    let (mut text, mut done) = (tree.text(document), Vec::new());
+    let folder = document.rsplit_once('/').map_or("", |(f, _)| f);
+    let lines = text.clone();
+    let words =
+        written_lines(&lines).into_iter().flat_map(|l| backquoted(l).chain(links(l))).map(|w| w.split(['(', ' ']).next().unwrap_or(w));
+    for word in words.collect::<BTreeSet<_>>() {
+        let old = word.trim_start_matches("../");
+        if let Some((krate, edit)) =
+            old.strip_prefix("crates/").and_then(|w| w.split_once("/must-fail/")).filter(|_| !names.paths.contains(old))
+        {
+            let places: Vec<&String> = names.paths.iter().filter(|p| p.ends_with(&format!("/must-fail/{edit}"))).collect();
+            if let [place] = places[..] {
+                let (name, new) = (edit.trim_end_matches(".edit"), crate_of(place));
+                text = text.replace(old, place).replace(&format!("[{krate}/{name}]"), &format!("[{new}/{name}]"));
+                done.push(format!("{document}: {old} is {place}"));
+            }
+        } else if !word.contains('/') && names.look(folder, word) == Some(false) {
+            // code and definitions before proofs
+            let name = word.rsplit("::").next().unwrap_or("");
+            let homes = |proofs: bool| -> BTreeSet<&str> {
+                let found = declared.iter().filter(|(f, n)| n == name && f.contains("/proofs/") == proofs);
+                found.map(|(f, _)| crate_of(f)).collect()
+            };
+            let found = if homes(false).is_empty() { homes(true) } else { homes(false) };
+            if let (1, Some(home), true) = (found.len(), found.first(), word.contains("::")) {
+                let new = format!("{home}::{name}");
+                text = text.replace(&format!("`{word}`"), &format!("`{new}`")).replace(&format!("`{word}("), &format!("`{new}("));
+                done.push(format!("{document}: {word} is {new}"));
+            }
+        }
+    }
+    (text, done)
+}
+
 /// A table with a column 'File in FOLDER' has in the column before it names that the files declare.
 fn tables(document: &str, text: &str, declared: &BTreeSet<(String, String)>, report: &mut Report) {
     for (name, files) in in_files(text) {

@@ -58,6 +58,19 @@ impl Reading {
         parts
     }
 
+    /// Gives names and edits that have moved to another crate their new places in the documents, and says which.
+    pub fn mend(&mut self) -> std::io::Result<Vec<String>> {
+        let mut all = Vec::new();
+        for document in self.tree.documents() {
+            let (text, done) = documents::mended(&self.tree, &self.declared, &document);
+            if !done.is_empty() {
+                self.tree.write(&document, text)?;
+            }
+            all.extend(done);
+        }
+        Ok(all)
+    }
+
     /// Writes the parts anew, and what else the counts decide in docs/TRUST.md.
     pub fn write(&mut self) -> std::io::Result<()> {
         let text = self.trust().theorem_files(&self.tree.text(trust::DOCUMENT));

@@ -1,4 +1,4 @@
-//! Usage: reading ROOT [write | refused | pin]. Last line but of `pin`: 'N passed, M failed'.
+//! Usage: reading ROOT [write | mend | refused | pin]. Last line but of `pin`: 'N passed, M failed'.
 
 use reading::Reading;
 use reading::tree::{Report, Tree};
@@ -9,9 +9,9 @@ fn main() -> ExitCode {
     let words: Vec<String> = std::env::args().skip(1).collect();
     let (root, command) = match &words[..] {
         [root] => (root, ""),
-        [root, command] if ["write", "refused", "pin"].contains(&command.as_str()) => (root, command.as_str()),
+        [root, command] if ["write", "mend", "refused", "pin"].contains(&command.as_str()) => (root, command.as_str()),
         _ => {
-            eprintln!("usage: reading ROOT [write | refused | pin]");
+            eprintln!("usage: reading ROOT [write | mend | refused | pin]");
             return ExitCode::from(2);
         }
     };
@@ -26,11 +26,14 @@ fn main() -> ExitCode {
         print!("{}", reading.pin_text());
         return ExitCode::SUCCESS;
     }
-    if command == "write" {
-        if let Err(e) = reading.write() {
-            eprintln!("reading: {e}");
-            return ExitCode::from(2);
-        }
+    let moved = if command == "mend" { reading.mend() } else { Ok(Vec::new()) };
+    let written = moved.and_then(|moved| {
+        moved.iter().for_each(|m| println!("{m}"));
+        if ["mend", "write"].contains(&command) { reading.write() } else { Ok(()) }
+    });
+    if let Err(e) = written {
+        eprintln!("reading: {e}");
+        return ExitCode::from(2);
     }
     let mut reports = Vec::new();
     if command == "refused" {

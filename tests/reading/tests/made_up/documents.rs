@@ -1,5 +1,5 @@
 use crate::{crate_a, fails, failures};
-use reading::documents::{part, statements, with_part};
+use reading::documents::{declared, mended, part, statements, with_part};
 
 const PROOFS: &str = "-- P.\nuse lib.{x}\n\n-- so it is\npub so-it-is : (n : ℕ) →\n    So n\nso-it-is n = refl\n\nmodule _ (h : Good) where\n  pub if-good : So 1\n  if-good = h\n";
 const SPECS: &str = "-- Words.\n-- a number\nunfoldable pub g : ℕ → ℕ\ng x = x + 7\n\npub record R (n : ℕ) : Type 0 where\n  -- first\n  pub a : ℕ\n  pub b : ℕ\n";
@@ -59,6 +59,15 @@ fn a_written_part_is_held_to_the_tree() {
     let trust = "`so-it-is`\n<!-- statements: written by tests/tree -->\n[crates/a/proofs/P.antt](../crates/a/proofs/P.antt):\n\n```\nso-it-is : Unit\n```\n<!-- end of statements -->\n";
     let files = [("crates/a/proofs/P.antt", PROOFS), ("docs/TRUST.md", trust)];
     assert!(fails(&crate_a("", &files), "written parts", "docs/TRUST.md, the part 'statements' is another"));
+}
+
+#[test]
+fn what_has_moved_to_one_other_crate_is_mended() {
+    let text = "`b::f` `b::f(x)` `b::gone` [b/e](../crates/b/must-fail/e.edit)\n";
+    let files = [("docs/D.md", text), ("crates/a/must-fail/e.edit", "file: src/lib.rt\nold: f()\nnew: g()\n")];
+    let reading = crate_a("pub fn f() {\n}\n", &files);
+    let (text, done) = mended(&reading.tree, &declared(&reading.tree, &reading.code, &reading.logic), "docs/D.md");
+    assert_eq!((text.as_str(), done.len()), ("`a::f` `a::f(x)` `b::gone` [a/e](../crates/a/must-fail/e.edit)\n", 2));
 }
 
 #[test]
