@@ -159,7 +159,7 @@ pub fn check(tree: &Tree, declared: &BTreeSet<(String, String)>, report: &mut Re
     }
 }
 
-/// A document in which each `CRATE::NAME` and each edit that is gone, and stands in one other crate alone, has its new place;
+/// A document in which each `CRATE::NAME` and each path that is gone, and stands in one other place alone, has its new place;
 /// and what was given another.
 pub fn mended(tree: &Tree, declared: &BTreeSet<(String, String)>, document: &str) -> (String, Vec<String>) {
     let names = Names::new(tree, declared);
@@ -170,13 +170,12 @@ pub fn mended(tree: &Tree, declared: &BTreeSet<(String, String)>, document: &str
         written_lines(&lines).into_iter().flat_map(|l| backquoted(l).chain(links(l))).map(|w| w.split(['(', ' ']).next().unwrap_or(w));
     for word in words.collect::<BTreeSet<_>>() {
         let old = word.trim_start_matches("../");
-        if let Some((krate, edit)) =
-            old.strip_prefix("crates/").and_then(|w| w.split_once("/must-fail/")).filter(|_| !names.paths.contains(old))
-        {
-            let places: Vec<&String> = names.paths.iter().filter(|p| p.ends_with(&format!("/must-fail/{edit}"))).collect();
+        if old.contains('/') && old.contains('.') && names.look(folder, old) == Some(false) {
+            let last = &old[old.rfind('/').unwrap_or(0)..];
+            let places: Vec<&String> = names.paths.iter().filter(|p| p.ends_with(last)).collect();
             if let [place] = places[..] {
-                let (name, new) = (edit.trim_end_matches(".edit"), crate_of(place));
-                text = text.replace(old, place).replace(&format!("[{krate}/{name}]"), &format!("[{new}/{name}]"));
+                let label = |path: &str| format!("[{}{}]", crate_of(path), last.trim_end_matches(".edit"));
+                text = text.replace(old, place).replace(&label(old), &label(place));
                 done.push(format!("{document}: {old} is {place}"));
             }
         } else if !word.contains('/') && names.look(folder, word) == Some(false) {
@@ -315,10 +314,13 @@ fn opening(name: &str) -> String {
     format!("<!-- {name}: written by tests/tree -->\n")
 }
 
-/// The document with this as its part.
+/// The document with this as its part, whoever wrote it before; at its end, where it had none.
 pub fn with_part(text: &str, name: &str, new: &str) -> String {
-    match part(text, name) {
-        Some(old) => text.replacen(&format!("{}{old}<!-- end", opening(name)), &format!("{}{new}<!-- end", opening(name)), 1),
-        None => text.to_string(),
+    let (open, close) = (opening(name), format!("<!-- end of {name} -->\n"));
+    let old = text.lines().find(|l| l.starts_with(&format!("<!-- {name}: ")) && l.contains(" by ") && l.ends_with("-->"));
+    let around = old.and_then(|l| text.split_once(&format!("{l}\n"))).and_then(|(before, rest)| Some((before, rest.split_once(&close)?.1)));
+    match around {
+        Some((before, after)) => format!("{before}{open}{new}{close}{after}"),
+        None => format!("{}\n\n## The {name}\n\n{open}{new}{close}", text.trim_end()),
     }
 }

@@ -53,7 +53,9 @@ fn statements_are_quoted_with_all_that_they_suppose() {
 fn a_written_part_is_held_to_the_tree() {
     let text = "a\n<!-- x: written by tests/tree -->\nold\n<!-- end of x -->\nb\n";
     assert_eq!(part(text, "x"), Some("old\n"));
-    assert_eq!(part(&with_part(text, "x", "new\n"), "x"), Some("new\n"));
+    for text in [text, "a\n", &text.replace("written by tests/tree", "counted by others")] {
+        assert_eq!(part(&with_part(text, "x", "new\n"), "x"), Some("new\n"), "{text}");
+    }
     let hides = crate_a("", &[("docs/D.md", "<!-- x: written by tests/tree -->\n`a::gone`\n")]);
     assert!(fails(&hides, "written parts", "docs/D.md marks the parts x"));
     let trust = "`so-it-is`\n<!-- statements: written by tests/tree -->\n[crates/a/proofs/P.antt](../crates/a/proofs/P.antt):\n\n```\nso-it-is : Unit\n```\n<!-- end of statements -->\n";
@@ -63,11 +65,11 @@ fn a_written_part_is_held_to_the_tree() {
 
 #[test]
 fn what_has_moved_to_one_other_crate_is_mended() {
-    let text = "`b::f` `b::f(x)` `b::gone` [b/e](../crates/b/must-fail/e.edit)\n";
-    let files = [("docs/D.md", text), ("crates/a/must-fail/e.edit", "file: src/lib.rt\nold: f()\nnew: g()\n")];
+    let text = "`b::f` `b::f(x)` `b::gone` [b/e](../crates/b/must-fail/e.edit) `crates/a/x.rt`\n";
+    let files = [("docs/D.md", text), ("crates/a/must-fail/e.edit", "file: src/lib.rt\nold: f()\nnew: g()\n"), ("crates/a/src/x.rt", "")];
     let reading = crate_a("pub fn f() {\n}\n", &files);
     let (text, done) = mended(&reading.tree, &declared(&reading.tree, &reading.code, &reading.logic), "docs/D.md");
-    assert_eq!((text.as_str(), done.len()), ("`a::f` `a::f(x)` `b::gone` [a/e](../crates/a/must-fail/e.edit)\n", 2));
+    assert_eq!((text.as_str(), done.len()), ("`a::f` `a::f(x)` `b::gone` [a/e](../crates/a/must-fail/e.edit) `crates/a/src/x.rt`\n", 3));
 }
 
 #[test]
