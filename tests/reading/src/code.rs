@@ -38,7 +38,7 @@ impl Function {
     }
 
     pub fn path(&self) -> String {
-        [&[self.krate.clone()], &self.module[..], &[self.name.clone()]].concat().join("::")
+        format!("{}::{}{}", self.krate, self.module.iter().map(|m| format!("{m}::")).collect::<String>(), self.name)
     }
 
     /// Its signature and contract, as one line.
@@ -199,13 +199,26 @@ impl<'a> Reader<'a> {
         from..self.at.saturating_sub(1).max(from)
     }
 
+    /// Past a whole bracket, or one token.
+    fn skip(&mut self) {
+        if ["(", "[", "{"].contains(&self.look(0)) {
+            self.bracketed();
+        } else {
+            self.at += 1;
+        }
+    }
+
     /// Up to one of these at the same depth.
     fn up_to(&mut self, ends: &[&str]) -> std::ops::Range<usize> {
         let from = self.at;
         while self.at < self.tokens.len() && !ends.contains(&self.look(0)) {
-            if ["(", "[", "{"].contains(&self.look(0)) { drop(self.bracketed()) } else { self.at += 1 }
+            self.skip();
         }
         from..self.at
+    }
+
+    fn words(&self, range: std::ops::Range<usize>) -> Vec<String> {
+        self.tokens.iter().take(range.end).skip(range.start).map(|t| t.1.to_string()).collect()
     }
 
     /// The text from one token up to another, one blank for each run of blanks.
@@ -214,7 +227,12 @@ impl<'a> Reader<'a> {
         squeezed(&self.text[place(range.start)..place(range.end)])
     }
 
-    fn item(&mut self, module: &[String], method: bool) {
+    fn unknown(&mut self, what: &str) {
+        self.code.unknown.push(format!("{}:{}: not read: {what}", self.file, self.line(self.at)));
+    }
+
+    /// Past attributes; whether one exports to C.
+    fn attributes(&mut self) -> bool {
         let mut exported = false;
         while self.look(0) == "#" {
             self.at += if self.look(1) == "!" { 2 } else { 1 };
@@ -225,19 +243,20 @@ impl<'a> Reader<'a> {
                 self.unknown(&attribute);
             }
         }
+        exported
+    }
+
+    fn item(&mut self, module: &[String], method: bool) {
+        let mut exported = self.attributes();
         let start = self.at;
-        let mut open = self.look(0) == "pub";
-        if open {
-            self.at += 1;
-            if self.look(0) == "(" {
-                open = false;
-                self.bracketed();
-            }
+        let open = self.look(0) == "pub" && self.look(1) != "(";
+        self.at += usize::from(self.look(0) == "pub");
+        if self.at > start && !open {
+            self.bracketed();
         }
-        while ["const", "unsafe", "async", "extern", "ghost"].contains(&self.look(0))
-            && (["fn", "unsafe", "extern", "use"].contains(&self.look(1)) || self.look(1).starts_with('"'))
-            && self.look(2) != "{"
-        {
+        let before = ["const", "unsafe", "async", "extern", "ghost"];
+        let after = |w: &str| ["fn", "unsafe", "extern", "use"].contains(&w) || w.starts_with('"');
+        while before.contains(&self.look(0)) && after(self.look(1)) && self.look(2) != "{" {
             exported |= self.look(0) == "extern";
             self.at += if self.look(1).starts_with('"') { 2 } else { 1 };
         }
@@ -252,41 +271,16 @@ impl<'a> Reader<'a> {
                 self.uses(module, open, Vec::new());
                 self.at += 1;
             }
-            "mod" => {
-                let child = [module, &[self.look(1).to_string()]].concat();
-                self.code.modules.entry((self.krate.to_string(), child.clone())).or_default().open = open;
-                self.at += 3;
-                if self.tokens.get(self.at - 1).is_some_and(|t| t.1 == "{") {
-                    self.items_inside(&child, false);
-                } else {
-                    self.children.push(child);
-                }
-            }
+            "mod" => self.module(module, open),
             "impl" => {
                 let range = self.up_to(&["{"]);
-                let of_trait = self.tokens.iter().take(range.end).skip(range.start).any(|t| t.1 == "for");
+                let of_trait = self.words(range).contains(&"for".to_string());
                 self.at += 1;
                 let first = self.code.functions.len();
                 self.items_inside(module, true);
                 self.code.functions[first..].iter_mut().for_each(|f| f.open |= of_trait);
             }
-            kind @ ("struct" | "enum" | "const" | "static" | "type") => {
-                let name = self.look(if self.look(1) == "mut" { 2 } else { 1 }).to_string();
-                let braced = kind == "struct" || kind == "enum";
-                self.up_to(if braced { &[";", "{"] } else { &[";"] });
-                if self.look(0) == "{" {
-                    drop(self.bracketed())
-                } else {
-                    self.at += 1
-                }
-                let lines = self.line(start)..=self.line(self.at - 1);
-                let text = self.between(start..self.at);
-                if !braced && self.tokens.iter().take(self.at).skip(start).any(|t| t.1 == "fn") {
-                    self.unknown(&format!("{kind} {name} holds a function"));
-                }
-                let (kind, file) = (kind.to_string(), self.file.to_string());
-                self.code.items.push(Item { kind, name, open, file, lines, text });
-            }
+            kind @ ("struct" | "enum" | "const" | "static" | "type") => self.declaration(kind, start, open),
             other => {
                 self.unknown(other);
                 self.at += 1;
@@ -294,8 +288,12 @@ impl<'a> Reader<'a> {
         }
     }
 
-    fn unknown(&mut self, what: &str) {
-        self.code.unknown.push(format!("{}:{}: not read: {what}", self.file, self.line(self.at)));
+    fn module(&mut self, module: &[String], open: bool) {
+        let child = [module, &[self.look(1).to_string()]].concat();
+        self.code.modules.entry((self.krate.to_string(), child.clone())).or_default().open = open;
+        let inline = self.look(2) == "{";
+        self.at += 3;
+        if inline { self.items_inside(&child, false) } else { self.children.push(child) }
     }
 
     fn items_inside(&mut self, module: &[String], methods: bool) {
@@ -303,6 +301,19 @@ impl<'a> Reader<'a> {
             self.item(module, methods);
         }
         self.at += 1;
+    }
+
+    fn declaration(&mut self, kind: &str, start: usize, open: bool) {
+        let name = self.look(if self.look(1) == "mut" { 2 } else { 1 }).to_string();
+        let braced = kind == "struct" || kind == "enum";
+        self.up_to(if braced { &[";", "{"] } else { &[";"] });
+        self.skip();
+        let lines = self.line(start)..=self.line(self.at - 1);
+        if !braced && self.words(start..self.at).contains(&"fn".to_string()) {
+            self.unknown(&format!("{kind} {name} holds a function"));
+        }
+        let (kind, file, text) = (kind.to_string(), self.file.to_string(), self.between(start..self.at));
+        self.code.items.push(Item { kind, name, open, file, lines, text });
     }
 
     /// One tree of a `use`, after `before`.
@@ -343,84 +354,64 @@ impl<'a> Reader<'a> {
     }
 
     fn function(&mut self, module: &[String], open: bool, method: bool, exported: bool) {
-        let line = self.line(self.at);
-        let name = self.look(1).to_string();
+        let (krate, file, module) = (crate_of(self.file).to_string(), self.file.to_string(), module.to_vec());
+        let (line, name) = (self.line(self.at), self.look(1).to_string());
+        let mut f = Function { krate, module, name, open, method, exported, file, line, ..Function::default() };
         self.up_to(&["(", ";"]);
         let list = self.bracketed();
-        let mut parameters = Vec::new();
-        let end = self.at;
-        self.at = list.start;
-        while self.at < list.end {
-            let one = self.up_to_comma(list.end);
-            let said = self.between(one);
-            let (n, t) = said.split_once(':').unwrap_or((&said, ""));
-            parameters.push((n.trim().trim_start_matches("mut ").to_string(), t.trim().to_string()));
-            self.at += 1;
-        }
-        self.at = end;
+        f.parameters = self.parameters(list);
         let head = self.up_to(&["requires", "ensures", "where", "{", ";"]);
-        let result = self.between(head).trim_start_matches("->").trim().to_string();
-        let (mut requires, mut ensures, mut clauses) = (Vec::new(), Vec::new(), Vec::new());
-        while ["requires", "ensures", "where"].contains(&self.look(0)) {
-            let (word, from) = (self.look(0), self.line(self.at));
-            self.at += 1;
-            self.up_to(&["{", ";"]);
-            if word != "where" && self.look(0) == "{" {
-                let range = self.bracketed();
-                clauses.extend(from..=self.line(self.at - 1));
-                let clause = self.between(range);
-                if clause.contains("{-") || clause.split(' ').any(|w| w.starts_with("--")) {
-                    self.unknown(&format!("a comment inside the {word} of {name}"));
-                }
-                if word == "requires" { requires.push(clause) } else { ensures.push(clause) }
-            }
-        }
-        let body = self.line(self.at);
+        f.result = self.between(head).trim_start_matches("->").trim().to_string();
+        self.clauses(&mut f);
+        f.body = self.line(self.at);
         let range = self.bracketed();
-        let tokens: Vec<String> = self.tokens.iter().take(range.end).skip(range.start).map(|t| t.1.to_string()).collect();
-        if tokens.iter().any(|t| ["use", "fn", "mod", "macro_rules"].contains(&t.as_str())) {
-            self.unknown(&format!("a use or an item inside {name}"));
+        f.tokens = self.words(range);
+        f.last = self.line(self.at - 1);
+        if f.tokens.iter().any(|t| ["use", "fn", "mod", "macro_rules"].contains(&t.as_str())) {
+            self.unknown(&format!("a use or an item inside {}", f.name));
         }
-        let (krate, file) = (crate_of(self.file).to_string(), self.file.to_string());
-        let (module, last, public) = (module.to_vec(), self.line(self.at - 1), false);
         let above: Vec<&str> = self.raw.lines().take(line - 1).collect();
         let comment = above.iter().rev().map(|l| l.trim_start()).filter(|l| !l.starts_with("#["));
         let mut says: Vec<&str> = comment.map_while(|l| l.strip_prefix("// ")).collect();
         says.reverse();
-        let says = says.join(" ");
-        self.code.functions.push(Function {
-            krate,
-            module,
-            name,
-            open,
-            method,
-            exported,
-            public,
-            parameters,
-            result,
-            requires,
-            ensures,
-            clauses,
-            file,
-            line,
-            body,
-            last,
-            tokens,
-            says,
-        });
+        f.says = says.join(" ");
+        self.code.functions.push(f);
     }
 
-    fn up_to_comma(&mut self, end: usize) -> std::ops::Range<usize> {
-        let from = self.at;
-        let mut angle = 0;
-        while self.at < end && !(self.look(0) == "," && angle == 0) {
-            match self.look(0) {
-                "<" => angle += 1,
-                ">" => angle -= 1,
-                _ => {}
+    /// Name and type of each of a list; the cursor stays.
+    fn parameters(&mut self, list: std::ops::Range<usize>) -> Vec<(String, String)> {
+        let (end, mut out) = (self.at, Vec::new());
+        self.at = list.start;
+        while self.at < list.end {
+            let (from, mut angle) = (self.at, 0);
+            while self.at < list.end && !(self.look(0) == "," && angle == 0) {
+                angle += i32::from(self.look(0) == "<") - i32::from(self.look(0) == ">");
+                self.skip();
             }
-            if ["(", "[", "{"].contains(&self.look(0)) { drop(self.bracketed()) } else { self.at += 1 }
+            let said = self.between(from..self.at);
+            let (name, kind) = said.split_once(':').unwrap_or((&said, ""));
+            out.push((name.trim().trim_start_matches("mut ").to_string(), kind.trim().to_string()));
+            self.at += 1;
         }
-        from..self.at
+        self.at = end;
+        out
+    }
+
+    fn clauses(&mut self, f: &mut Function) {
+        while ["requires", "ensures", "where"].contains(&self.look(0)) {
+            let (word, from) = (self.look(0), self.line(self.at));
+            self.at += 1;
+            self.up_to(&["{", ";"]);
+            if word == "where" || self.look(0) != "{" {
+                continue;
+            }
+            let range = self.bracketed();
+            f.clauses.extend(from..=self.line(self.at - 1));
+            let clause = self.between(range);
+            if clause.contains("{-") || clause.split(' ').any(|w| w.starts_with("--")) {
+                self.unknown(&format!("a comment inside the {word} of {}", f.name));
+            }
+            if word == "requires" { f.requires.push(clause) } else { f.ensures.push(clause) }
+        }
     }
 }

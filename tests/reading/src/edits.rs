@@ -119,64 +119,60 @@ fn capitals(text: &str) -> Vec<String> {
     parts.filter(|w| w.starts_with(|c: char| c.is_ascii_uppercase())).map(String::from).collect()
 }
 
+/// Finds what an edit changes: its first change of something that has a name.
+fn place(tree: &Tree, units: &Units, edit: &mut Edit, wrong: &mut Vec<String>) {
+    for (file, old, new) in edit.changes.clone() {
+        let is_code = file.ends_with(".rt");
+        let inside = ["src", "specs"].iter().any(|f| file.starts_with(&format!("crates/{}/{f}/", edit.krate)));
+        let text = tree.text(&file);
+        let places: Vec<usize> = text.lines().enumerate().filter(|(_, l)| l.contains(&old)).map(|(i, _)| i + 1).collect();
+        let same = squeezed(&bare(&old, is_code)) == squeezed(&bare(&new, is_code));
+        if places.len() != 1 || !inside || same {
+            let why = if same { "changes no more than a comment" } else { "is of no one line of code or definitions" };
+            wrong.push(format!("{}: its old text '{old}' in {file} {why}", edit.path));
+        }
+        let place = places.first().copied().unwrap_or(0);
+        let commented = tree.bare(&file).lines().nth(place.max(1) - 1).is_none_or(|l| l.trim().is_empty());
+        let found = units.at.get(&(file.clone(), place)).filter(|_| !commented && edit.unit.is_empty());
+        if let Some((unit, contract)) = found {
+            let sort = if *contract { "contract" } else { "code" };
+            (edit.unit, edit.sort) = (unit.clone(), if is_code { sort } else { "definition" });
+        }
+    }
+    if edit.changes.is_empty() || !edit.path.ends_with(".edit") {
+        wrong.push(format!("{} changes nothing", edit.path));
+    } else if edit.unit.is_empty() {
+        wrong.push(format!("{}: what its old text stands in has no name", edit.path));
+    }
+}
+
 /// Every edit, and what is wrong with any of them.
 pub fn read(tree: &Tree, code: &Code, logic: &Logic) -> (Vec<Edit>, Vec<String>) {
     let (mut edits, mut wrong) = (Vec::new(), Vec::new());
+    let mut deeds: BTreeMap<String, String> = BTreeMap::new();
     for (krate, _) in &tree.crates {
         let units = Units::read(tree, code, logic, krate);
-        let public: Vec<&str> = code.public().filter(|f| f.krate == *krate && !f.ensures.is_empty()).map(|f| &*f.name).collect();
-        let reached: Vec<(&str, BTreeSet<String>)> = public.iter().map(|f| (*f, units.reach(f))).collect();
+        let public = code.public().filter(|f| f.krate == *krate && !f.ensures.is_empty()).map(|f| f.name.as_str());
+        let reached: Vec<(&str, BTreeSet<String>)> = public.map(|f| (f, units.reach(f))).collect();
         for path in tree.under(&format!("crates/{krate}/must-fail"), "") {
             let mut edit = Edit::read(&path, &tree.text(&path), &mut wrong);
-            if edit.changes.is_empty() || !path.ends_with(".edit") {
-                wrong.push(format!("{path} changes nothing"));
-            }
-            for (file, old, new) in edit.changes.clone() {
-                let is_code = file.ends_with(".rt");
-                let inside = ["src", "specs"].iter().any(|f| file.starts_with(&format!("crates/{krate}/{f}/")));
-                let text = tree.text(&file);
-                let places: Vec<usize> = text.lines().enumerate().filter(|(_, l)| l.contains(&old)).map(|(i, _)| i + 1).collect();
-                let same = squeezed(&bare(&old, is_code)) == squeezed(&bare(&new, is_code));
-                if places.len() != 1 || !inside || same {
-                    let why = if same { "changes no more than a comment" } else { "is of no one line of code or definitions" };
-                    wrong.push(format!("{path}: its old text '{old}' in {file} {why}"));
-                }
-                let place = places.first().copied().unwrap_or(0);
-                let commented = tree.bare(&file).lines().nth(place.max(1) - 1).is_none_or(|l| l.trim().is_empty());
-                let found = units.at.get(&(file.clone(), place)).filter(|_| !commented);
-                if let (Some((unit, contract)), true) = (found, edit.unit.is_empty()) {
-                    edit.unit = unit.clone();
-                    edit.sort = if !is_code {
-                        "definition"
-                    } else if *contract {
-                        "contract"
-                    } else {
-                        "code"
-                    };
-                }
-            }
-            if edit.unit.is_empty() {
-                wrong.push(format!("{path}: what its old text stands in has no name"));
-            }
+            place(tree, &units, &mut edit, &mut wrong);
             let users: Vec<&str> = reached.iter().filter(|(_, r)| r.contains(&edit.unit)).map(|(f, _)| *f).collect();
             edit.counts = match &users[..] {
                 _ if units.public.contains(&edit.unit) => Some(edit.unit.clone()),
                 [one] => Some(one.to_string()),
                 _ => None,
             };
-            if let Some(of) = &edit.of {
-                if edit.counts.as_ref().is_some_and(|c| c != of) || (edit.counts.is_none() && !users.contains(&of.as_str())) {
+            if let Some(of) = edit.of.clone() {
+                if edit.counts.as_ref().is_some_and(|c| *c != of) || (edit.counts.is_none() && !users.contains(&of.as_str())) {
                     wrong.push(format!("{path}: `# of: {of}`, which does not use `{}`", edit.unit));
                 }
-                edit.counts = Some(of.clone());
+                edit.counts = Some(of);
+            }
+            if let Some(other) = deeds.insert(edit.deed(), path.clone()) {
+                wrong.push(format!("{path} does what {other} does"));
             }
             edits.push(edit);
-        }
-    }
-    let mut deeds: BTreeMap<String, String> = BTreeMap::new();
-    for edit in &edits {
-        if let Some(other) = deeds.insert(edit.deed(), edit.path.clone()) {
-            wrong.push(format!("{} does what {other} does", edit.path));
         }
     }
     (edits, wrong)

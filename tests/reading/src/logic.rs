@@ -143,7 +143,7 @@ pub fn unwrapped(mut said: &[String]) -> &[String] {
 
 /// What a uniqueness theorem says: of two outcomes that meet this predicate, the arguments at these places are equal,
 /// whatever the others are. An error says why it is no such theorem.
-pub fn uniqueness(inside: &[String], statement: &str) -> Result<(String, usize, BTreeSet<usize>), String> {
+pub fn uniqueness(inside: &[String], statement: &str) -> Result<(String, BTreeSet<usize>), String> {
     if inside.iter().any(|l| l.contains(':')) {
         return Err("it stands in a module with parameters".into());
     }
@@ -192,6 +192,6 @@ pub fn uniqueness(inside: &[String], statement: &str) -> Result<(String, usize, 
     let others = (1..first.len()).find(|&i| first[i] != second[i] && !equal.contains(&(i - 1)));
     match others {
         Some(i) => Err(format!("{} and {} are not said to be equal", first[i][0], second[i][0])),
-        None => Ok((first[0].join(" "), first.len() - 1, equal)),
+        None => Ok((first[0].join(" "), equal)),
     }
 }

@@ -3,7 +3,7 @@
 
 use crate::Reading;
 use crate::text::{bare, hash, squeezed};
-use crate::tree::Report;
+use crate::tree::{Report, crate_of};
 use std::collections::BTreeMap;
 
 pub const FILE: &str = "tests/pins";
@@ -43,60 +43,60 @@ pub fn rows(text: &str) -> Vec<(String, String)> {
 }
 
 impl Reading {
-    /// All that is pinned, as the tree has it; and what stands there twice.
-    pub fn pins(&self) -> (Pins, Vec<String>) {
+    /// Kind, name and text of all that is pinned.
+    fn looked_at(&self) -> Vec<(&'static str, String, Vec<u8>)> {
         let tree = &self.tree;
         let mut all: Vec<(&str, String, String)> = Vec::new();
         for file in tree.of_crates("specs", ".antt").into_iter().filter(|f| !f.ends_with("/Lib.antt")) {
-            let text = tree.text(&file);
-            all.extend(rows(&text).into_iter().map(|(name, row)| ("row", name, row)));
+            all.extend(rows(&tree.text(&file)).into_iter().map(|(name, row)| ("row", name, row)));
             all.push(("definitions", file.clone(), squeezed(tree.bare(&file))));
         }
         for section in ["Not wholly stated", "Fewer than two edits"] {
             let names = crate::promises::excepted(tree, section, &mut Report::default());
             all.extend(names.into_iter().map(|n| ("exception", format!("{n}, {}", section.to_lowercase()), n)));
         }
-        for r in crate::clauses::rows(tree) {
-            all.push(("clause", r.id.clone(), format!("{} {} {} {}", r.id, r.line, r.clause, r.verdicts.join(" "))));
-        }
-        for f in self.code.public() {
-            all.push(("contract", f.id(), f.contract()));
-        }
-        let quoted = QUOTING.iter().flat_map(|doc| crate::documents::theorems(&self.logic, &tree.text(doc)).into_iter().map(|d| (*doc, d)));
-        for (document, d) in self.logic.unique().map(|d| ("docs/EXCEPTIONS.md", d)).chain(quoted) {
+        let clause = |r: crate::clauses::Row| (r.id.clone(), format!("{} {} {} {}", r.id, r.line, r.clause, r.verdicts.join(" ")));
+        all.extend(crate::clauses::rows(tree).into_iter().map(clause).map(|(id, text)| ("clause", id, text)));
+        all.extend(self.code.public().map(|f| ("contract", f.id(), f.contract())));
+        let types = self.code.items.iter().filter(|i| i.open);
+        all.extend(types.map(|i| ("type", format!("{}::{}", crate_of(&i.file), i.name), i.text.clone())));
+        let quoted = |doc: &&'static str| {
+            crate::documents::theorems(&self.logic, &tree.text(doc)).into_iter().map(|d| (*doc, d)).collect::<Vec<_>>()
+        };
+        for (document, d) in self.logic.unique().map(|d| ("docs/EXCEPTIONS.md", d)).chain(QUOTING.iter().flat_map(quoted)) {
             let said = format!("{} {} : {}", squeezed(&d.inside.join(" ")), d.name, d.statement());
             all.push(("theorem", format!("{document} {}::{}", d.file, d.name), said));
         }
-        for e in &self.edits {
-            all.push(("edit", format!("{}/{}", e.krate, e.name), e.deed()));
-        }
+        all.extend(self.edits.iter().map(|e| ("edit", format!("{}/{}", e.krate, e.name), e.deed())));
         for file in tree.files.keys().filter(|f| f.starts_with(".ci/") || f.starts_with("tests/")) {
             let text = tree.text(file);
-            if text.starts_with("#!") {
-                let lines = text.lines().filter(|l| !l.trim_start().starts_with('#'));
-                all.push(("script", file.clone(), lines.collect::<Vec<_>>().join("\n")));
-            }
+            let said: Vec<&str> = text.lines().filter(|l| !l.trim_start().starts_with('#')).collect();
+            all.extend(text.starts_with("#!").then(|| ("script", file.clone(), said.join("\n"))));
         }
-        let mut twice = Vec::new();
-        let mut contents: BTreeMap<(&str, String), String> = BTreeMap::new();
-        let mut pins = Pins::new();
-        for (kind, name, text) in all {
-            if let Some(other) = contents.insert((kind, text.clone()), name.clone()).filter(|_| ["row", "edit"].contains(&kind)) {
-                twice.push(format!("{kind} {name} is a copy of {other}"));
-            }
-            if pins.insert((kind.into(), name.clone()), hash(text.as_bytes())).is_some() {
-                twice.push(format!("{kind} {name} stands twice"));
-            }
-        }
+        let mut all: Vec<(&str, String, Vec<u8>)> = all.into_iter().map(|(kind, name, text)| (kind, name, text.into_bytes())).collect();
         for file in tree.under("tests/cases", ".trace") {
-            let name = file["tests/cases/".len()..file.len() - ".trace".len()].to_string();
             let (trace, expected) = (&tree.files[&file], tree.files.get(&file.replace(".trace", ".expected")));
             let both = [&trace[..], b"\0expected\0", expected.map_or(b"", |e| &e[..])].concat();
-            pins.insert(("case".into(), name), hash(&both));
+            all.push(("case", file["tests/cases/".len()..file.len() - ".trace".len()].to_string(), both));
         }
-        for line in tree.text(".ci/run").lines().filter_map(|l| l.strip_prefix("stage ")) {
-            pins.insert(("stage".into(), line.to_string()), String::new());
+        all
+    }
+
+    /// All that is pinned, as the tree has it; and what stands there twice.
+    pub fn pins(&self) -> (Pins, Vec<String>) {
+        let (mut pins, mut twice) = (Pins::new(), Vec::new());
+        let mut contents: BTreeMap<(&str, Vec<u8>), String> = BTreeMap::new();
+        for (kind, name, text) in self.looked_at() {
+            if pins.insert((kind.into(), name.clone()), hash(&text)).is_some() {
+                twice.push(format!("{kind} {name} stands twice"));
+            }
+            if let Some(other) = contents.insert((kind, text), name.clone()).filter(|_| ["row", "edit"].contains(&kind)) {
+                twice.push(format!("{kind} {name} is a copy of {other}"));
+            }
         }
+        let stages = self.tree.text(".ci/run");
+        let stages = stages.lines().filter_map(|l| l.strip_prefix("stage "));
+        pins.extend(stages.map(|l| (("stage".to_string(), l.to_string()), String::new())));
         (pins, twice)
     }
 

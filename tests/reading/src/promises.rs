@@ -1,7 +1,7 @@
 //! What each function promises, and whether at most one outcome fits.
 
 use crate::code::{Code, Function};
-use crate::logic::{Logic, atoms, cut, uniqueness, unwrapped};
+use crate::logic::{Declaration, Logic, atoms, cut, uniqueness, unwrapped};
 use crate::text::words;
 use crate::tree::{Report, Tree};
 use std::collections::BTreeSet;
@@ -81,7 +81,6 @@ pub fn clause(text: &str) -> (String, Clause) {
 pub enum Judged<'a> {
     Equations,
     Theorem { predicate: String, name: &'a str, file: &'a str },
-    Open(String),
 }
 
 /// The parameters that a function may write: lent as `&mut`, or holding such a loan.
@@ -92,66 +91,61 @@ fn written<'a>(code: &Code, f: &'a Function) -> Vec<&'a str> {
 }
 
 /// The crate and the module of definitions from which a file takes a name.
-fn origin(text: &str, name: &str) -> Option<(String, String)> {
-    text.lines().find_map(|l| {
-        let line = l.trim_end_matches(';').trim_start_matches("ghost ").strip_prefix("use Rattle·")?;
+fn origin(tree: &Tree, file: &str, name: &str) -> Option<(String, String)> {
+    tree.bare(file).lines().find_map(|l| {
+        let line = l.trim_end().trim_end_matches(';').trim_start_matches("ghost ").strip_prefix("use Rattle·")?;
         let (path, list) = line.strip_suffix('}')?.split_once(".{")?;
-        let module = path.rsplit('.').next()?;
-        let of = path.split(['·', '.']).next()?;
+        let (of, module) = (path.split(['·', '.']).next()?, path.rsplit('.').next()?);
         list.split(',').any(|n| n.trim() == name).then(|| (of.to_string(), module.to_string()))
     })
 }
 
-pub fn judge<'a>(tree: &Tree, code: &Code, logic: &'a Logic, f: &Function) -> Judged<'a> {
-    let mut missing: BTreeSet<String> = written(code, f).into_iter().map(String::from).collect();
-    if !["", "()"].contains(&f.result.as_str()) {
-        missing.insert("its result".into());
+/// The theorem that says that one outcome fits the predicate that this file names so, and which of its arguments it tells.
+fn theorem<'a>(tree: &Tree, logic: &'a Logic, file: &str, name: &str) -> Result<(&'a Declaration, BTreeSet<usize>), String> {
+    let from = origin(tree, file, name);
+    let mut why = format!("no theorem says that one outcome fits {name}");
+    for theorem in logic.unique().filter(|t| from.is_some() && origin(tree, &t.file, name) == from) {
+        match uniqueness(&theorem.inside, &theorem.statement()) {
+            Ok((of, equal)) if of == name => return Ok((theorem, equal)),
+            Err(e) if words(&theorem.statement()).iter().any(|w| w == name) => why = format!("{}: {e}", theorem.name),
+            _ => {}
+        }
     }
-    let mut by = None;
-    let mut result_said = false;
+    Err(why)
+}
+
+pub fn judge<'a>(tree: &Tree, code: &Code, logic: &'a Logic, f: &Function) -> Result<Judged<'a>, String> {
+    const RESULT: &str = "its result";
+    let mut missing: BTreeSet<&str> = written(code, f).into_iter().collect();
+    missing.extend([RESULT].iter().filter(|_| !["", "()"].contains(&f.result.as_str())));
+    let mut by = Judged::Equations;
     for text in &f.ensures {
         let (result, said) = clause(text);
         match said {
-            Clause::Result(_) => {
-                missing.remove("its result");
-                result_said = true;
+            Clause::Result(_) => drop(missing.remove(RESULT)),
+            Clause::Left(p, _) if missing.contains(RESULT) && words(text).iter().skip(2).any(|w| *w == result) => {
+                return Err(format!("what is left in {p} is said by the result, which is not said before"));
             }
-            Clause::Left(p, _) => {
-                if words(text).iter().skip(2).any(|w| *w == result) && !result_said {
-                    return Judged::Open(format!("what is left in {p} is said by the result, which is not said before"));
-                }
-                missing.remove(&p);
-            }
-            Clause::Predicate(name, arguments) => {
-                let mut why = format!("no theorem says that one outcome fits {name}");
-                let mut found = None;
-                let from = origin(&tree.text(&f.file), &name);
-                for theorem in logic.unique().filter(|t| origin(&tree.text(&t.file), &name) == from) {
-                    match uniqueness(&theorem.inside, &theorem.statement()) {
-                        Ok((of, count, equal)) if of == name && count == arguments.len() => found = Some((theorem, equal)),
-                        Err(e) if words(&theorem.statement()).contains(&name) => why = format!("{}: {e}", theorem.name),
-                        _ => {}
-                    }
-                }
-                let Some((theorem, equal)) = found else { return Judged::Open(why) };
+            Clause::Left(p, _) => drop(missing.remove(p.as_str())),
+            Clause::Predicate(predicate, arguments) => {
+                let (theorem, equal) = theorem(tree, logic, &f.file, &predicate)?;
                 for (place, argument) in arguments.iter().enumerate() {
-                    if *argument == [result.clone()] && equal.contains(&place) {
-                        missing.remove("its result");
-                    } else if let Some(p) = exit(argument).filter(|_| equal.contains(&place)) {
-                        missing.remove(p);
-                    } else if argument.iter().any(|w| *w == result || w == ".exit") {
-                        return Judged::Open(format!("{} does not tell {}", theorem.name, argument.join(" ")));
+                    let what = if *argument == [result.clone()] { Some(RESULT) } else { exit(argument) };
+                    match what.filter(|_| equal.contains(&place)) {
+                        Some(what) => drop(missing.remove(what)),
+                        None if !argument.iter().any(|w| *w == result || w == ".exit") => {}
+                        None => return Err(format!("{} does not tell {}", theorem.name, argument.join(" "))),
                     }
                 }
-                by = Some(Judged::Theorem { predicate: name, name: &theorem.name, file: &theorem.file });
+                by = Judged::Theorem { predicate, name: &theorem.name, file: &theorem.file };
             }
-            Clause::Other(why) => return Judged::Open(why),
+            Clause::Other(why) => return Err(why),
         }
     }
     match missing.first() {
-        Some(what) => Judged::Open(format!("no equation says {what}")),
-        None if f.ensures.is_empty() => Judged::Open("it has no ensures".into()),
-        None => by.unwrap_or(Judged::Equations),
+        Some(what) => Err(format!("no equation says {what}")),
+        None if f.ensures.is_empty() => Err("it has no ensures".into()),
+        None => Ok(by),
     }
 }
 
@@ -159,7 +153,7 @@ pub fn judge<'a>(tree: &Tree, code: &Code, logic: &'a Logic, f: &Function) -> Ju
 pub fn unique_table(tree: &Tree, code: &Code, logic: &Logic) -> String {
     let mut rows: Vec<(String, Vec<String>)> = Vec::new();
     for f in code.public() {
-        if let Judged::Theorem { predicate, name, file } = judge(tree, code, logic, f) {
+        if let Ok(Judged::Theorem { predicate, name, file }) = judge(tree, code, logic, f) {
             let row = format!("| `{predicate}` | `{name}` | `{file}` |");
             match rows.iter_mut().find(|r| r.0 == row) {
                 Some(found) => found.1.push(format!("`{}`", f.id())),
@@ -199,8 +193,7 @@ pub fn check(tree: &Tree, code: &Code, logic: &Logic, report: &mut Report) {
         report.expect(ids.insert(id.clone()), || format!("{id}: two public functions of one name"));
         report.expect(f.requires.is_empty(), || format!("{id}: a public function with a requires"));
         report.expect(!f.ensures.iter().any(|e| e.contains('→')), || format!("{id}: promises only under a condition"));
-        let open = if let Judged::Open(why) = judge(tree, code, logic, f) { Some(why) } else { None };
-        match (open, named.contains(&id)) {
+        match (judge(tree, code, logic, f).err(), named.contains(&id)) {
             (Some(why), false) => report.expect(false, || format!("{id}: {why}, and docs/EXCEPTIONS.md does not name it")),
             (None, true) => report.expect(false, || format!("docs/EXCEPTIONS.md: {id} needs no grounds")),
             _ => report.expect(true, String::new),

@@ -3,7 +3,7 @@ use reading::pins::rows;
 
 const FILES: [(&str, &str); 10] = [
     ("crates.txt", "a:\n"),
-    ("crates/a/src/lib.rt", "pub fn f(x: u64) -> u64\n    ensures { λ r. ⌜ r ≡ x ⌝ }\n{\n    x\n}\n"),
+    ("crates/a/src/lib.rt", "pub const SLOTS: usize = 9;\n\npub fn f(x: u64) -> u64\n    ensures { λ r. ⌜ r ≡ x ⌝ }\n{\n    x\n}\n"),
     (
         "crates/a/specs/Rows.antt",
         "-- Rows.\nrows =\n    -- P1 one\n    record { x = 1 }\n    -- P2 two\n    ∷ record { x = 2 }\n    ∷ []\n\npub other : ℕ\n",
@@ -50,6 +50,7 @@ fn what_vanished_or_changed_is_told() {
         ("out\n", "other\n", "case runs/c changed"),
         ("new:     1", "new:     0", "edit a/e changed"),
         ("r ≡ x", "r ≡ 0", "contract a::f changed"),
+        ("SLOTS: usize = 9", "SLOTS: usize = 8", "type a::SLOTS changed"),
         ("r ≡ s", "r ≡ r", "theorem docs/EXCEPTIONS.md crates/a/proofs/P.antt::a-unique changed"),
         ("pub a-unique", "module _ (h : ⊥) where\n  pub a-unique", "theorem docs/EXCEPTIONS.md crates/a/proofs/P.antt::a-unique changed"),
         ("pub a-unique", "-- pub a-unique", "theorem docs/EXCEPTIONS.md crates/a/proofs/P.antt::a-unique vanished"),

@@ -124,7 +124,7 @@ fn a_uniqueness_theorem_supposes_nothing_else() {
 #[test]
 fn all_that_is_left_is_told_by_the_theorem() {
     let two = "{n : ℕ} {ys zs : L} {q r : R} → Into n ys q → Into n zs r → (q ≡ r) × (ys ≡ zs)";
-    assert_eq!(uniqueness(&[], two).map(|(p, n, e)| (p, n, e.len())), Ok(("Into".to_string(), 3, 2)));
+    assert_eq!(uniqueness(&[], two).map(|(p, e)| (p, e.len())), Ok(("Into".to_string(), 2)));
     assert!(uniqueness(&[], &two.replace("(q ≡ r) × (ys ≡ zs)", "q ≡ r")).is_err());
     let lent = "(n : ℕ) (r s : B) → Part n r → Part n s → (now r ≡ now s) × (ptr r ≡ ptr s)";
     assert!(uniqueness(&[], lent).is_ok());
