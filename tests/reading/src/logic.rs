@@ -141,6 +141,24 @@ pub fn unwrapped(mut said: &[String]) -> &[String] {
     said
 }
 
+/// The places at which two lists of arguments are said to be equal: as two values, or as two references, of which it is said
+/// what they refer to and where that stands.
+fn told(first: &[Vec<String>], second: &[Vec<String>], conclusion: &[String]) -> Result<BTreeSet<usize>, String> {
+    let (mut equal, mut seen) = (BTreeSet::new(), Vec::new());
+    for equation in cut(conclusion, "×") {
+        let sides: Vec<Vec<String>> = cut(unwrapped(equation), "≡").iter().map(|s| unwrapped(s).to_vec()).collect();
+        let of = |word: &str, side: &[String]| if word.is_empty() { side.to_vec() } else { [&[word.to_string()], side].concat() };
+        let says = |word: &str, i: usize| sides == [of(word, &first[i]), of(word, &second[i])] && first[i] != second[i];
+        let found = (1..first.len()).find_map(|i| ["", "now", "ptr"].into_iter().find(|w| says(w, i)).map(|w| (i - 1, w)));
+        let Some((place, word)) = found else { return Err(format!("it ends in {}", equation.join(" "))) };
+        seen.push((place, word));
+        if word.is_empty() || (seen.contains(&(place, "now")) && seen.contains(&(place, "ptr"))) {
+            equal.insert(place);
+        }
+    }
+    Ok(equal)
+}
+
 /// What a uniqueness theorem says: of two outcomes that meet this predicate, the arguments at these places are equal,
 /// whatever the others are. An error says why it is no such theorem.
 pub fn uniqueness(inside: &[String], statement: &str) -> Result<(String, BTreeSet<usize>), String> {
@@ -176,19 +194,7 @@ pub fn uniqueness(inside: &[String], statement: &str) -> Result<(String, BTreeSe
     if let Some(other) = bound.iter().find(|b| !variables.iter().any(|v| v[0] == **b)) {
         return Err(format!("{other} is supposed beside the two outcomes"));
     }
-    // two values are equal, or two references: what they refer to, and where it stands
-    let (mut equal, mut seen) = (BTreeSet::new(), Vec::new());
-    for equation in cut(unwrapped(conclusion), "×") {
-        let sides: Vec<Vec<String>> = cut(unwrapped(equation), "≡").iter().map(|s| unwrapped(s).to_vec()).collect();
-        let of = |word: &str, side: &[String]| if word.is_empty() { side.to_vec() } else { [&[word.to_string()], side].concat() };
-        let says = |word: &str, i: usize| sides == [of(word, &first[i]), of(word, &second[i])] && first[i] != second[i];
-        let found = (1..first.len()).find_map(|i| ["", "now", "ptr"].into_iter().find(|w| says(w, i)).map(|w| (i - 1, w)));
-        let Some((place, word)) = found else { return Err(format!("it ends in {}", equation.join(" "))) };
-        seen.push((place, word));
-        if word.is_empty() || (seen.contains(&(place, "now")) && seen.contains(&(place, "ptr"))) {
-            equal.insert(place);
-        }
-    }
+    let equal = told(first, second, unwrapped(conclusion))?;
     let others = (1..first.len()).find(|&i| first[i] != second[i] && !equal.contains(&(i - 1)));
     match others {
         Some(i) => Err(format!("{} and {} are not said to be equal", first[i][0], second[i][0])),

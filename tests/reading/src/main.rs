@@ -5,43 +5,49 @@ use reading::tree::{Report, Tree};
 use std::path::Path;
 use std::process::ExitCode;
 
+/// Reads the tree, does what the command says, and gives the reports of its checks by theme.
+fn run(root: &str, command: &str) -> std::io::Result<Vec<(&'static str, Report)>> {
+    let mut reading = Reading::of(Tree::read(Path::new(root))?);
+    if command == "mend" {
+        reading.mend()?.iter().for_each(|moved| println!("{moved}"));
+    }
+    if ["mend", "write"].contains(&command) {
+        reading.write()?;
+    }
+    Ok(match command {
+        "pin" => {
+            print!("{}", reading.pin_text());
+            Vec::new()
+        }
+        "refused" => {
+            let mut report = Report::default();
+            reading::edits::check_refused(&reading.tree, &reading.edits, &mut report);
+            vec![("why each edit was refused", report)]
+        }
+        _ => reading.check(),
+    })
+}
+
 fn main() -> ExitCode {
     let words: Vec<String> = std::env::args().skip(1).collect();
-    let (root, command) = match &words[..] {
+    let words: Vec<&str> = words.iter().map(String::as_str).collect();
+    let (root, command) = match words[..] {
         [root] => (root, ""),
-        [root, command] if ["write", "mend", "refused", "pin"].contains(&command.as_str()) => (root, command.as_str()),
+        [root, command @ ("write" | "mend" | "refused" | "pin")] => (root, command),
         _ => {
             eprintln!("usage: reading ROOT [write | mend | refused | pin]");
             return ExitCode::from(2);
         }
     };
-    let mut reading = match Tree::read(Path::new(root)) {
-        Ok(tree) => Reading::of(tree),
+    let reports = match run(root, command) {
+        Ok(reports) => reports,
         Err(e) => {
             eprintln!("reading: {root}: {e}");
             return ExitCode::from(2);
         }
     };
     if command == "pin" {
-        print!("{}", reading.pin_text());
         return ExitCode::SUCCESS;
-    }
-    let moved = if command == "mend" { reading.mend() } else { Ok(Vec::new()) };
-    let written = moved.and_then(|moved| {
-        moved.iter().for_each(|m| println!("{m}"));
-        if ["mend", "write"].contains(&command) { reading.write() } else { Ok(()) }
-    });
-    if let Err(e) = written {
-        eprintln!("reading: {e}");
-        return ExitCode::from(2);
-    }
-    let mut reports = Vec::new();
-    if command == "refused" {
-        let mut report = Report::default();
-        reading::edits::check_refused(&reading.tree, &reading.edits, &mut report);
-        reports.push(("why each edit was refused", report));
-    } else {
-        reports = reading.check();
     }
     let (mut passed, mut failed) = (0, 0);
     for (theme, report) in reports {

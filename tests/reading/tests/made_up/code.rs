@@ -110,7 +110,10 @@ fn what_a_program_runs_is_followed_through_every_use() {
 
 #[test]
 fn a_contract_of_several_lines_is_read_whole() {
-    let lib = "// Why.\n#[inline]\npub fn f<'a>(\n    x: &'a [u8],\n    mut y: [u64; 3],\n) -> [u64; 3]\n    ensures {\n        λ r.\n        ⌜ r ≡ g (now (x .entry)) y ⌝\n    }\n{\n    y\n}\n";
+    let lib = concat!(
+        "// Why.\n#[inline]\npub fn f<'a>(\n    x: &'a [u8],\n    mut y: [u64; 3],\n) -> [u64; 3]\n    ensures {\n",
+        "        λ r.\n        ⌜ r ≡ g (now (x .entry)) y ⌝\n    }\n{\n    y\n}\n",
+    );
     let reading = crate_a(lib, &[]);
     let f = &reading.code.functions[0];
     assert_eq!(f.contract(), "fn f(x: &'a [u8], y: [u64; 3]) -> [u64; 3] ensures { λ r. ⌜ r ≡ g (now (x .entry)) y ⌝ }");

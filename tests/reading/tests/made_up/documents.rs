@@ -1,8 +1,12 @@
 use crate::{crate_a, fails, failures};
 use reading::documents::{declared, mended, part, statements, with_part};
 
-const PROOFS: &str = "-- P.\nuse lib.{x}\n\n-- so it is\npub so-it-is : (n : ℕ) →\n    So n\nso-it-is n = refl\n\nmodule _ (h : Good) where\n  pub if-good : So 1\n  if-good = h\n";
-const SPECS: &str = "-- Words.\n-- a number\nunfoldable pub g : ℕ → ℕ\ng x = x + 7\n\npub record R (n : ℕ) : Type 0 where\n  -- first\n  pub a : ℕ\n  pub b : ℕ\n";
+const PROOFS: &str = "-- P.\nuse lib.{x}\n\n-- so it is\npub so-it-is : (n : ℕ) →\n    So n\nso-it-is n = refl\n\n\
+    module _ (h : Good) where\n  pub if-good : So 1\n  if-good = h\n";
+const SPECS: &str = concat!(
+    "-- Words.\n-- a number\nunfoldable pub g : ℕ → ℕ\ng x = x + 7\n\npub record R (n : ℕ) : Type 0 where\n  -- first\n",
+    "  pub a : ℕ\n  pub b : ℕ\n",
+);
 
 fn page(text: &str) -> Vec<String> {
     let files = [("crates/a/proofs/P.antt", PROOFS), ("crates/a/specs/S.antt", SPECS), ("docs/D.md", text)];
@@ -11,7 +15,8 @@ fn page(text: &str) -> Vec<String> {
 
 #[test]
 fn names_files_and_links_are_there() {
-    let good = "`a::f` `a::g` `so-it-is` `crates/a/specs` `crates/*/proofs` `S.antt` `std::x` [d](../crates/a/specs/S.antt) `docs/` `1/2` `x = 3`\n";
+    let good = "`a::f` `a::g` `so-it-is` `crates/a/specs` `crates/*/proofs` `S.antt` `std::x` \
+        [d](../crates/a/specs/S.antt) `docs/` `1/2` `x = 3`\n";
     assert_eq!(page(good), Vec::<String>::new());
     for bad in ["`a::gone`", "`so-it-was`", "`crates/b/specs`", "`crates/*/gone`", "`T.antt`", "[d](S.antt)", "`gone/`"] {
         assert_eq!(page(bad).len(), 1, "{bad}");
@@ -58,7 +63,9 @@ fn a_written_part_is_held_to_the_tree() {
     }
     let hides = crate_a("", &[("docs/D.md", "<!-- x: written by tests/tree -->\n`a::gone`\n")]);
     assert!(fails(&hides, "written parts", "docs/D.md marks the parts x"));
-    let trust = "`so-it-is`\n<!-- statements: written by tests/tree -->\n[crates/a/proofs/P.antt](../crates/a/proofs/P.antt):\n\n```\nso-it-is : Unit\n```\n<!-- end of statements -->\n";
+    let trust = "`so-it-is`\n<!-- statements: written by tests/tree -->\n\
+        [crates/a/proofs/P.antt](../crates/a/proofs/P.antt):\n\n```\nso-it-is : Unit\n```\n\
+        <!-- end of statements -->\n";
     let files = [("crates/a/proofs/P.antt", PROOFS), ("docs/TRUST.md", trust)];
     assert!(fails(&crate_a("", &files), "written parts", "docs/TRUST.md, the part 'statements' is another"));
 }

@@ -1,7 +1,11 @@
 use crate::{crate_a, fails, failures};
 use reading::edits::reason;
 
-const LIB: &str = "pub const N: u64 = 7;\n\nfn help(x: u64) -> u64 {\n    x + N\n}\n\n// old words\npub fn f(x: u64) -> u64\n    ensures { λ r. ⌜ r ≡ g x ⌝ }\n{\n    help(x)\n}\n\npub fn k(x: u64) -> u64\n    ensures { λ r. ⌜ r ≡ x ⌝ }\n{\n    x\n}\n";
+const LIB: &str = concat!(
+    "pub const N: u64 = 7;\n\nfn help(x: u64) -> u64 {\n    x + N\n}\n\n// old words\npub fn f(x: u64) -> u64\n",
+    "    ensures { λ r. ⌜ r ≡ g x ⌝ }\n{\n    help(x)\n}\n\npub fn k(x: u64) -> u64\n    ensures { λ r. ⌜ r ≡ x ⌝ }\n",
+    "{\n    x\n}\n",
+);
 const SPECS: &str = "-- Words.\nuse lib.{x}\n\nunfoldable pub g : ℕ → ℕ\ng x = x + 7\n";
 
 /// The failures with this edit of crate a beside a good one.
