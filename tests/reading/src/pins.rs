@@ -1,5 +1,5 @@
-//! tests/pins: what a person has looked at. A row, a clause, a case, an edit, a definition, a theorem, a contract or an
-//! exception that vanished, changed or came is told from what stands there. Nothing but a person changes that file.
+//! tests/pins: what a person has looked at. A row, a clause, a case, an edit, a definition, a theorem, a type, a contract,
+//! an exception, a stored input or output, or a test that vanished, changed or came is told from what stands there. Nothing but a person changes that file.
 
 use crate::Reading;
 use crate::text::{bare, hash, squeezed};
@@ -73,7 +73,15 @@ impl Reading {
             let said: Vec<&str> = text.lines().filter(|l| !l.trim_start().starts_with('#')).collect();
             all.extend(text.starts_with("#!").then(|| ("script", file.clone(), said.join("\n"))));
         }
+        for folder in ["tests/reading/src", "tests/twin/src"] {
+            let whole: String = tree.under(folder, ".rs").iter().map(|f| format!("{f}\n{}", tree.text(f))).collect();
+            all.extend((!whole.is_empty()).then(|| ("script", folder.to_string(), whole)));
+        }
         let mut all: Vec<(&str, String, Vec<u8>)> = all.into_iter().map(|(kind, name, text)| (kind, name, text.into_bytes())).collect();
+        let of_crate =
+            |f: &str| f.starts_with("crates/") && !["src", "specs", "proofs", "must-fail"].contains(&f.split('/').nth(2).unwrap_or(""));
+        let stored = |f: &str| of_crate(f) || (f.starts_with("examples/") && (f.ends_with(".trace") || f.ends_with(".expected")));
+        all.extend(tree.files.iter().filter(|(f, _)| stored(f)).map(|(f, bytes)| ("stored", f.clone(), bytes.clone())));
         for file in tree.under("tests/cases", ".trace") {
             let (trace, expected) = (&tree.files[&file], tree.files.get(&file.replace(".trace", ".expected")));
             let both = [&trace[..], b"\0expected\0", expected.map_or(b"", |e| &e[..])].concat();

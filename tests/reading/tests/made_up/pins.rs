@@ -1,7 +1,8 @@
 use crate::{fails, failures, read};
 use reading::pins::rows;
 
-const FILES: [(&str, &str); 10] = [
+const FILES: [(&str, &str); 11] = [
+    ("crates/a/stdout", "said\n"),
     ("crates.txt", "a:\n"),
     ("crates/a/src/lib.rt", "pub const SLOTS: usize = 9;\n\npub fn f(x: u64) -> u64\n    ensures { λ r. ⌜ r ≡ x ⌝ }\n{\n    x\n}\n"),
     (
@@ -48,6 +49,7 @@ fn what_vanished_or_changed_is_told() {
         ("**same**", "**stronger**", "clause L.f.E1 changed"),
         ("`a::f` | g", "`a::f`, `a::k` | g", "exception a::k, not wholly stated is new"),
         ("out\n", "other\n", "case runs/c changed"),
+        ("said\n", "unsaid\n", "stored crates/a/stdout changed"),
         ("new:     1", "new:     0", "edit a/e changed"),
         ("r ≡ x", "r ≡ 0", "contract a::f changed"),
         ("SLOTS: usize = 9", "SLOTS: usize = 8", "type a::SLOTS changed"),
@@ -92,7 +94,7 @@ fn the_least_of_a_stage_stays_as_a_person_put_it() {
 
 #[test]
 fn rows_are_marked_inside_a_definition() {
-    let found = rows(FILES[2].1);
+    let found = rows(FILES[3].1);
     assert_eq!(found, [("P1".to_string(), "record { x = 1 }".to_string()), ("P2".to_string(), "record { x = 2 }".to_string())]);
     assert!(rows("-- P1 a word at the margin\n-- PS no number\n").is_empty());
 }
