@@ -246,6 +246,15 @@ const FACTS: [&str; 11] = [
     "`rw` has no last argument, so what it leaves must be a path whose two ends are equal",
 ];
 
+/// Whether an error says that a value of one type was expected, and one of another came: no fact is at stake.
+fn of_values(error: &str) -> bool {
+    let expected = error.split_once("expected type `").and_then(|(_, rest)| rest.split_once('`')).map(|(t, _)| words(t));
+    let data = ["ℕ", "Bool", "List", "Option", "String", "Char", "Prim", "mathlib"];
+    let relates =
+        |w: &String| ["≡", "≢", "≤", "<", "↔", "⊥", "→", "×"].iter().any(|r| w.contains(r)) || w.ends_with("Path") || w.ends_with("So");
+    expected.is_some_and(|said| said.first().is_some_and(|w| data.contains(&w.as_str())) && !said.iter().any(relates))
+}
+
 /// Why an edit was refused, from the log of its check: the first error that is not a mere consequence of another. An
 /// error says that it is none that counts.
 pub fn reason(log: &str) -> Result<String, String> {
@@ -268,7 +277,7 @@ pub fn reason(log: &str) -> Result<String, String> {
     }
     let first = errors.into_iter().find(|e| !e.contains("was not admitted (") || !e.contains("so this cannot be checked"));
     match first {
-        Some(e) if FACTS.iter().any(|f| e.contains(f)) => Ok(e),
+        Some(e) if FACTS.iter().any(|f| e.contains(f)) && !of_values(&e) => Ok(e),
         Some(e) => Err(e),
         None => Err("its log has no error".into()),
     }
