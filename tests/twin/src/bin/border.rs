@@ -9,7 +9,7 @@ use std::net::Shutdown;
 use std::os::fd::OwnedFd;
 use std::os::unix::net::UnixStream;
 use std::os::unix::process::ExitStatusExt;
-use std::path::Path;
+use std::path::{Path, PathBuf};
 use std::process::{Child, Command, Stdio};
 use std::thread;
 use std::time::Duration;
@@ -82,7 +82,7 @@ fn main() {
         passed: 0,
         failed: 0,
     };
-    let small = fs::read(Path::new(cases).join("whole-case.trace")).unwrap_or_default();
+    let small = fs::read(Path::new(cases).join("runs/whole-case.trace")).unwrap_or_default();
     border.is(
         "the small trace",
         small.len() > 100,
@@ -370,16 +370,8 @@ impl Border {
     /// Every stored text that is no trace gets a reason, and some the very one.
     fn words(&mut self, cases: &Path) {
         let mut seen = 0;
-        let mut files: Vec<_> = fs::read_dir(cases)
-            .expect("the folder of cases")
-            .flatten()
-            .map(|file| file.path())
-            .collect();
-        files.sort();
-        for file in files
-            .iter()
-            .filter(|file| file.extension().is_some_and(|end| end == "trace"))
-        {
+        let files = stored(cases);
+        for file in &files {
             let text = fs::read(file).expect("a stored case");
             let name = file
                 .file_stem()
@@ -412,7 +404,11 @@ impl Border {
             seen > 50,
             "there are few",
         );
-        let known = |case: &str| cases.join(format!("{case}.trace")).is_file();
+        let known = |case: &str| {
+            files
+                .iter()
+                .any(|file| file.file_stem().is_some_and(|stem| stem == case))
+        };
         for (case, _) in REASONS {
             self.is(case, known(case), "no such case is stored");
         }
@@ -550,4 +546,19 @@ fn taken(child: Child) -> Ran {
         out: output.stdout,
         err: String::from_utf8_lossy(&output.stderr).into_owned(),
     }
+}
+
+/// The stored traces in a folder and the folders in it, in the order of their names.
+fn stored(folder: &Path) -> Vec<PathBuf> {
+    let mut found = Vec::new();
+    let entries = fs::read_dir(folder).expect("a folder of cases");
+    for path in entries.flatten().map(|entry| entry.path()) {
+        if path.is_dir() {
+            found.extend(stored(&path));
+        } else if path.extension().is_some_and(|end| end == "trace") {
+            found.push(path);
+        }
+    }
+    found.sort();
+    found
 }
