@@ -1,4 +1,4 @@
-// What a call answers, as document 01's number and values: 0 where it has none.
+// What a call answers, as its number and values (SPEC 10.2): 0 where it has none.
 use crate::say::line;
 use kinds::Refusal;
 use table::Begun;

@@ -1,4 +1,4 @@
-// The twelve situations at the edges, P2 being document 01's whole case.
+// The twelve situations at the edges (SPEC 11.1), P2 being the whole case (SPEC 10.7).
 use crate::say::line;
 use crate::say::word;
 use crate::steps::begin;

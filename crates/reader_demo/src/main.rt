@@ -1,4 +1,4 @@
-// Document 01's whole case, walked through by one trace reader that is handed on: each record in its own
+// The whole case (SPEC 10.7), walked through by one trace reader that is handed on: each record in its own
 // words, and the place past it. Then what stands at the end, and a record whose second line breaks a rule.
 use reader::Reader;
 use trace::Op;

@@ -10,11 +10,7 @@ ghost use Rattle.model.specs.Check.{tablePasses};
 ghost use Rattle.model.specs.Tables.{lent};
 
 // The check on lent columns of any length.
-pub fn check_columns<'a>(
-    txids: &'a [u64],
-    xmins: &'a [u64],
-    counters: Counters,
-) -> bool
+pub fn check_columns<'a>(txids: &'a [u64], xmins: &'a [u64], counters: Counters) -> bool
     ensures { λ r. do
       n ← ⟦kinds::SLOTS⟧ .entry
       ⌜ r ≡ tablePasses n (lent (now (txids .entry)) (now (xmins .entry)) counters) ⌝ }
@@ -29,7 +25,7 @@ pub fn check_columns<'a>(
     false
 }
 
-// Whether a table passes the check of document 01, call 12. Every table that calls from fresh leave does; not every table that
+// Whether a table passes the check (SPEC 6.1). Every table that calls from fresh leave does; not every table that
 // passes is one, as slots (4, 4), (9, 8): while 4 is registered, no snapshot of 9 has xmin 8.
 pub fn check_table(table: Table) -> bool
     ensures { λ r. do ⌜ r ≡ tablePasses (← ⟦kinds::SLOTS⟧ .entry) table ⌝ }
