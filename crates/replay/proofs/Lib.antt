@@ -7,3 +7,4 @@ pub mod Room
 pub mod Next
 pub mod Pieces
 pub mod Sending
+pub mod Tied

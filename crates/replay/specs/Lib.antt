@@ -2,3 +2,4 @@ pub mod Replay
 pub mod Part
 pub mod Into
 pub mod Sent
+pub mod Tied
