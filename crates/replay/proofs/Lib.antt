@@ -8,3 +8,4 @@ pub mod Next
 pub mod Pieces
 pub mod Sending
 pub mod Tied
+pub mod Examples

@@ -3,3 +3,4 @@ pub mod Part
 pub mod Into
 pub mod Sent
 pub mod Tied
+pub mod Examples
