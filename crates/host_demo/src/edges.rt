@@ -1,58 +1,41 @@
 // The twelve situations at the edges, P2 being document 01's whole case.
-use crate::say::line;
+use crate::calls::Call;
+use crate::calls::make;
 use crate::say::word;
-use crate::steps::begin;
-use crate::steps::end;
-use crate::steps::oldest;
-use crate::steps::snap;
-use crate::steps::vacuum;
 use crate::tables::full;
 use crate::tables::three;
 use kinds::SLOTS;
 
-fn row(n: u64) {
-    line(b"P#\n", n, 0, 0, 0, 0, 0);
-}
-
-fn snapshots_and_begins() {
-    row(1);
-    snap(table::fresh(), 1, 1);
-    row(2);
-    let begun = begin(table::fresh(), 5);
-    snap(begun, 9, 3);
-    row(3);
-    let t = three();
-    snap(t, 12, 2);
-    row(4);
-    snap(t, 12, 12);
-    row(5);
-    begin(full(), 400);
-    row(6);
-    let exhausted = begin(table::fresh(), u64::MAX - 1);
-    row(7);
-    begin(exhausted, 7);
-    row(8);
-    begin(table::fresh(), u64::MAX);
-}
-
-fn ends_and_vacuums() {
-    let t = table::fresh();
-    row(9);
-    end(t, SLOTS as u16, 0);
-    row(10);
-    end(t, 0, 0);
-    row(11);
-    let begun = begin(t, 5);
-    let ended = end(begun, 0, 5);
-    end(ended, 0, 5);
-    row(12);
-    let first = vacuum(t, 100, 100);
-    let second = vacuum(first, 100, 50);
-    oldest(second, 100, 50);
-}
-
 pub fn rows() {
-    word(b"part=edges\n");
-    snapshots_and_begins();
-    ends_and_vacuums();
+    let fresh = table::fresh();
+    let taken = three();
+    word(b"part=edges\nP1\n");
+    make(fresh, Call::Snap(1, 1));
+    word(b"P2\n");
+    let begun = make(fresh, Call::Begin(5));
+    make(begun, Call::Snap(9, 3));
+    word(b"P3\n");
+    make(taken, Call::Snap(12, 2));
+    word(b"P4\n");
+    make(taken, Call::Snap(12, 12));
+    word(b"P5\n");
+    make(full(), Call::Begin(400));
+    word(b"P6\n");
+    let exhausted = make(fresh, Call::Begin(u64::MAX - 1));
+    word(b"P7\n");
+    make(exhausted, Call::Begin(7));
+    word(b"P8\n");
+    make(fresh, Call::Begin(u64::MAX));
+    word(b"P9\n");
+    make(fresh, Call::End(SLOTS as u16, 0));
+    word(b"P10\n");
+    make(fresh, Call::End(0, 0));
+    word(b"P11\n");
+    let again = make(fresh, Call::Begin(5));
+    let ended = make(again, Call::End(0, 5));
+    make(ended, Call::End(0, 5));
+    word(b"P12\n");
+    let first = make(fresh, Call::Vacuum(100, 100));
+    let second = make(first, Call::Vacuum(100, 50));
+    make(second, Call::Oldest(100, 50));
 }

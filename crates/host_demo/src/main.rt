@@ -3,14 +3,13 @@
 // document 01's record; and after `|` the table that came back, a slot as txid/snapshot_xmin. Every line of the file
 // `stdout` was worked out by hand from document 01, before the program had been run.
 mod accepted;
-mod answers;
+mod calls;
 mod checking;
 mod edges;
 mod in_place;
 mod refusals;
 mod say;
 mod settling;
-mod steps;
 mod story;
 mod tables;
 
@@ -19,7 +18,9 @@ fn main() {
     in_place::begin();
     accepted::each_call();
     edges::rows();
-    refusals::each_call();
+    refusals::of_begin_and_stamp();
+    refusals::of_end_and_finish();
+    refusals::of_observations();
     settling::vectors();
     checking::conditions();
 }
