@@ -8,18 +8,6 @@ use table::Outcome;
 use table::SnapshotOutcome;
 use table::Table;
 
-// A call with what it is handed.
-pub enum Call {
-    Begin(u64),
-    End(u16, u64),
-    Snap(u64, u64),
-    Own(u16, u64, u64, u64),
-    Oldest(u64, u64),
-    Vacuum(u64, u64),
-    Stamp(u64),
-    Finish(u16, u64, u64),
-}
-
 // The xmin that oldest answers, the line that vacuum answers; else 0.
 pub fn value(answer: Answer) -> u64 {
     match answer {
@@ -66,42 +54,45 @@ fn listing(called: SnapshotOutcome) -> Table {
     next
 }
 
-pub fn make(t: Table, call: Call) -> Table {
-    match call {
-        Call::Begin(number) => {
-            say::line(b"begin #", &[number]);
-            plain(table::begin_transaction(t, Stamp(number)), b"")
-        }
-        Call::End(slot, id) => {
-            say::line(b"end # #", &[slot as u64, id]);
-            plain(table::end_transaction(t, SlotNo(slot), Txid(id)), b"")
-        }
-        Call::Snap(clock, sample) => {
-            say::line(b"snap #/#", &[clock, sample]);
-            listing(table::create_snapshot(t, clock, sample))
-        }
-        Call::Own(slot, id, clock, sample) => {
-            say::line(b"own # # #/#", &[slot as u64, id, clock, sample]);
-            listing(table::create_transaction_snapshot(t, SlotNo(slot), Txid(id), clock, sample))
-        }
-        Call::Oldest(clock, sample) => {
-            say::line(b"oldest #/#", &[clock, sample]);
-            plain(table::oldest_snapshot_xmin(t, clock, sample), b" xmin=#")
-        }
-        Call::Vacuum(clock, sample) => {
-            say::line(b"vacuum #/#", &[clock, sample]);
-            plain(table::vacuum(t, clock, sample), b" vacuum=#")
-        }
-        Call::Stamp(number) => {
-            say::line(b"stamp #", &[number]);
-            plain(table::reserve_publication_clock(t, Stamp(number)), b"")
-        }
-        Call::Finish(slot, id, number) => {
-            say::line(b"finish # # #", &[slot as u64, id, number]);
-            plain(
-                table::finish_transaction(t, SlotNo(slot), Txid(id), Stamp(number)),
-                b"",
-            )
-        }
-    }
+pub fn begin(t: Table, number: u64) -> Table {
+    say::line(b"begin #", &[number]);
+    plain(table::begin_transaction(t, Stamp(number)), b"")
+}
+
+pub fn end(t: Table, slot: u16, id: u64) -> Table {
+    say::line(b"end # #", &[slot as u64, id]);
+    plain(table::end_transaction(t, SlotNo(slot), Txid(id)), b"")
+}
+
+pub fn snap(t: Table, clock: u64, sample: u64) -> Table {
+    say::line(b"snap #/#", &[clock, sample]);
+    listing(table::create_snapshot(t, clock, sample))
+}
+
+pub fn own(t: Table, slot: u16, id: u64, clock: u64, sample: u64) -> Table {
+    say::line(b"own # # #/#", &[slot as u64, id, clock, sample]);
+    listing(table::create_transaction_snapshot(t, SlotNo(slot), Txid(id), clock, sample))
+}
+
+pub fn oldest(t: Table, clock: u64, sample: u64) -> Table {
+    say::line(b"oldest #/#", &[clock, sample]);
+    plain(table::oldest_snapshot_xmin(t, clock, sample), b" xmin=#")
+}
+
+pub fn vacuum(t: Table, clock: u64, sample: u64) -> Table {
+    say::line(b"vacuum #/#", &[clock, sample]);
+    plain(table::vacuum(t, clock, sample), b" vacuum=#")
+}
+
+pub fn stamp(t: Table, number: u64) -> Table {
+    say::line(b"stamp #", &[number]);
+    plain(table::reserve_publication_clock(t, Stamp(number)), b"")
+}
+
+pub fn finish(t: Table, slot: u16, id: u64, number: u64) -> Table {
+    say::line(b"finish # # #", &[slot as u64, id, number]);
+    plain(
+        table::finish_transaction(t, SlotNo(slot), Txid(id), Stamp(number)),
+        b"",
+    )
 }

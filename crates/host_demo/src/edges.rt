@@ -1,41 +1,49 @@
 // The twelve situations at the edges, P2 being document 01's whole case.
-use crate::calls::Call;
-use crate::calls::make;
+use crate::calls::begin;
+use crate::calls::end;
+use crate::calls::oldest;
+use crate::calls::snap;
+use crate::calls::vacuum;
 use crate::say::word;
 use crate::tables::full;
 use crate::tables::three;
 use kinds::SLOTS;
 
-pub fn rows() {
+pub fn snapshots_and_begins() {
+    word(b"part=edges\n");
     let fresh = table::fresh();
     let taken = three();
-    word(b"part=edges\nP1\n");
-    make(fresh, Call::Snap(1, 1));
+    word(b"P1\n");
+    snap(fresh, 1, 1);
     word(b"P2\n");
-    let begun = make(fresh, Call::Begin(5));
-    make(begun, Call::Snap(9, 3));
+    let begun = begin(fresh, 5);
+    snap(begun, 9, 3);
     word(b"P3\n");
-    make(taken, Call::Snap(12, 2));
+    snap(taken, 12, 2);
     word(b"P4\n");
-    make(taken, Call::Snap(12, 12));
+    snap(taken, 12, 12);
     word(b"P5\n");
-    make(full(), Call::Begin(400));
+    begin(full(), 400);
     word(b"P6\n");
-    let exhausted = make(fresh, Call::Begin(u64::MAX - 1));
+    let exhausted = begin(fresh, u64::MAX - 1);
     word(b"P7\n");
-    make(exhausted, Call::Begin(7));
+    begin(exhausted, 7);
     word(b"P8\n");
-    make(fresh, Call::Begin(u64::MAX));
+    begin(fresh, u64::MAX);
+}
+
+pub fn ends_and_vacuums() {
+    let fresh = table::fresh();
     word(b"P9\n");
-    make(fresh, Call::End(SLOTS as u16, 0));
+    end(fresh, SLOTS as u16, 0);
     word(b"P10\n");
-    make(fresh, Call::End(0, 0));
+    end(fresh, 0, 0);
     word(b"P11\n");
-    let again = make(fresh, Call::Begin(5));
-    let ended = make(again, Call::End(0, 5));
-    make(ended, Call::End(0, 5));
+    let again = begin(fresh, 5);
+    let ended = end(again, 0, 5);
+    end(ended, 0, 5);
     word(b"P12\n");
-    let first = make(fresh, Call::Vacuum(100, 100));
-    let second = make(first, Call::Vacuum(100, 50));
-    make(second, Call::Oldest(100, 50));
+    let first = vacuum(fresh, 100, 100);
+    let second = vacuum(first, 100, 50);
+    oldest(second, 100, 50);
 }

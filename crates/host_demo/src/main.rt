@@ -17,7 +17,8 @@ fn main() {
     story::one_photo();
     in_place::begin();
     accepted::each_call();
-    edges::rows();
+    edges::snapshots_and_begins();
+    edges::ends_and_vacuums();
     refusals::of_begin_and_stamp();
     refusals::of_end_and_finish();
     refusals::of_observations();

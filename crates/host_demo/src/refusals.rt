@@ -1,7 +1,13 @@
 // Every refusal of every call, with what it carries; the table stays, but for refusal 1. The first lines of a call go
 // through its order of checks: each is refused while the conditions of all later checks hold too.
-use crate::calls::Call;
-use crate::calls::make;
+use crate::calls::begin;
+use crate::calls::end;
+use crate::calls::finish;
+use crate::calls::oldest;
+use crate::calls::own;
+use crate::calls::snap;
+use crate::calls::stamp;
+use crate::calls::vacuum;
 use crate::say::word;
 use crate::tables::begun;
 use crate::tables::full;
@@ -12,58 +18,58 @@ use kinds::SLOTS;
 pub fn of_begin_and_stamp() {
     word(b"part=refusals\n");
     let taken = full();
-    let last = make(taken, Call::Stamp(u64::MAX - 1));
-    make(last, Call::Begin(0));
-    make(taken, Call::Begin(0));
-    make(taken, Call::Begin(300));
+    let last = stamp(taken, u64::MAX - 1);
+    begin(last, 0);
+    begin(taken, 0);
+    begin(taken, 300);
     let t = one();
-    make(t, Call::Begin(8));
-    make(t, Call::Begin(u64::MAX));
-    make(last, Call::Stamp(0));
-    make(t, Call::Stamp(0));
-    make(t, Call::Stamp(8));
-    make(t, Call::Stamp(u64::MAX));
+    begin(t, 8);
+    begin(t, u64::MAX);
+    stamp(last, 0);
+    stamp(t, 0);
+    stamp(t, 8);
+    stamp(t, u64::MAX);
 }
 
 // 2, 4, 3; of finish then 5, 6.
 pub fn of_end_and_finish() {
     let t = one();
-    make(t, Call::End(SLOTS as u16, 0));
-    make(t, Call::End(0, 0));
-    make(t, Call::End(0, 7));
-    make(t, Call::End(1, 5));
-    make(t, Call::End(SLOTS as u16, 5));
-    make(t, Call::End(65535, 5));
+    end(t, SLOTS as u16, 0);
+    end(t, 0, 0);
+    end(t, 0, 7);
+    end(t, 1, 5);
+    end(t, SLOTS as u16, 5);
+    end(t, 65535, 5);
     let last = begun(table::fresh(), u64::MAX - 1);
-    make(last, Call::Finish(SLOTS as u16, 0, 0));
-    make(last, Call::Finish(0, 0, 0));
-    make(last, Call::Finish(0, 7, 0));
-    make(last, Call::Finish(0, u64::MAX - 1, 0));
-    make(t, Call::Finish(0, 5, 0));
-    make(t, Call::Finish(0, 5, 8));
-    make(t, Call::Finish(0, 5, u64::MAX));
-    make(t, Call::Finish(1, 5, 9));
-    make(t, Call::Finish(SLOTS as u16, 5, 9));
+    finish(last, SLOTS as u16, 0, 0);
+    finish(last, 0, 0, 0);
+    finish(last, 0, 7, 0);
+    finish(last, 0, u64::MAX - 1, 0);
+    finish(t, 0, 5, 0);
+    finish(t, 0, 5, 8);
+    finish(t, 0, 5, u64::MAX);
+    finish(t, 1, 5, 9);
+    finish(t, SLOTS as u16, 5, 9);
 }
 
 // Of own 2, 4, 3, 7, 8; of the others 7, 8.
 pub fn of_observations() {
     let t = one();
-    make(t, Call::Own(SLOTS as u16, 0, 8, 0));
-    make(t, Call::Own(0, 0, 8, 0));
-    make(t, Call::Own(0, 7, 8, 0));
-    make(t, Call::Own(0, 5, 8, 0));
-    make(t, Call::Own(0, 5, 9, 0));
-    make(t, Call::Own(0, 5, 9, 10));
-    make(t, Call::Own(1, 5, 9, 9));
-    make(t, Call::Own(SLOTS as u16, 5, 9, 9));
-    make(t, Call::Snap(8, 0));
-    make(t, Call::Snap(9, 0));
-    make(t, Call::Snap(9, 10));
-    make(t, Call::Oldest(8, 0));
-    make(t, Call::Oldest(9, 0));
-    make(t, Call::Oldest(9, 10));
-    make(t, Call::Vacuum(8, 0));
-    make(t, Call::Vacuum(9, 0));
-    make(t, Call::Vacuum(9, 10));
+    own(t, SLOTS as u16, 0, 8, 0);
+    own(t, 0, 0, 8, 0);
+    own(t, 0, 7, 8, 0);
+    own(t, 0, 5, 8, 0);
+    own(t, 0, 5, 9, 0);
+    own(t, 0, 5, 9, 10);
+    own(t, 1, 5, 9, 9);
+    own(t, SLOTS as u16, 5, 9, 9);
+    snap(t, 8, 0);
+    snap(t, 9, 0);
+    snap(t, 9, 10);
+    oldest(t, 8, 0);
+    oldest(t, 9, 0);
+    oldest(t, 9, 10);
+    vacuum(t, 8, 0);
+    vacuum(t, 9, 0);
+    vacuum(t, 9, 10);
 }

@@ -1,9 +1,10 @@
 // The story of README: a photo of two tiles is re-encoded while a page reads it. Each call is one critical section of the
 // host, which hands in what its atomics gave; the table that comes back is the next one in.
-use crate::calls::Call;
-use crate::calls::make;
+use crate::calls::begin;
+use crate::calls::finish;
 use crate::calls::value;
 use crate::say;
+use kinds::SlotNo;
 use kinds::Stamp;
 use kinds::Txid;
 use settled::Settled;
@@ -33,45 +34,19 @@ fn read(shown: Snapshot, new: Txid) -> u64 {
     0
 }
 
-// A page that comes after the re-encode reads both new tiles.
-fn next_page(t: Table, new: Txid) {
-    let begun = table::begin_transaction(t, Stamp(6));
-    let given = begun.answer;
-    let Answer::Begun { slot, id } = given else {
-        return;
-    };
-    let seen = table::create_transaction_snapshot(begun.table, slot, id, 7, 7);
-    say::line(b"next page: top and bottom=#", &[read(seen.snapshot, new)]);
-    say::table(seen.table);
-}
-
 // A page asks for its top tile before the re-encode is done, and for its bottom tile after: both are the old ones. The old
 // tiles may go once the id that replaced them is below the line.
-pub fn one_photo() {
-    say::word(b"part=story\n");
-    let made = make(
-        make(table::fresh(), Call::Begin(OLD)),
-        Call::Finish(0, OLD, 2),
-    );
-    let encode = table::begin_transaction(made, Stamp(3));
-    let encode_answer = encode.answer;
-    let Answer::Begun {
-        slot: place,
-        id: new,
-    } = encode_answer
-    else {
-        return;
-    };
-    let joined = table::begin_transaction(encode.table, Stamp(4));
-    let joined_answer = joined.answer;
-    let Answer::Begun { slot, id } = joined_answer else {
-        return;
+fn page(t: Table, encode: SlotNo, new: Txid) -> Table {
+    let joined = table::begin_transaction(t, Stamp(4));
+    let answer = joined.answer;
+    let Answer::Begun { slot, id } = answer else {
+        return joined.table;
     };
     let seen = table::create_transaction_snapshot(joined.table, slot, id, 5, 5);
     let top = read(seen.snapshot, new);
     let before = table::vacuum(seen.table, 5, 5);
     let before_answer = before.answer;
-    let done = table::finish_transaction(before.table, place, new, Stamp(5));
+    let done = table::finish_transaction(before.table, encode, new, Stamp(5));
     let after = table::vacuum(done.table, 6, 6);
     let after_answer = after.answer;
     let bottom = read(seen.snapshot, new);
@@ -88,5 +63,29 @@ pub fn one_photo() {
             value(last_answer),
         ],
     );
-    next_page(last.table, new);
+    last.table
+}
+
+// A page that comes after the re-encode reads both new tiles.
+fn next_page(t: Table, new: Txid) {
+    let begun = table::begin_transaction(t, Stamp(6));
+    let answer = begun.answer;
+    let Answer::Begun { slot, id } = answer else {
+        return;
+    };
+    let seen = table::create_transaction_snapshot(begun.table, slot, id, 7, 7);
+    say::line(b"next page: top and bottom=#", &[read(seen.snapshot, new)]);
+    say::table(seen.table);
+}
+
+pub fn one_photo() {
+    say::word(b"part=story\n");
+    let made = finish(begin(table::fresh(), OLD), 0, OLD, 2);
+    let begun = table::begin_transaction(made, Stamp(3));
+    let answer = begun.answer;
+    let Answer::Begun { slot, id } = answer else {
+        return;
+    };
+    let left = page(begun.table, slot, id);
+    next_page(left, id);
 }
