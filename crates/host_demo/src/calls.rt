@@ -21,8 +21,8 @@ pub fn value(answer: Answer) -> u64 {
 }
 
 // Document 01's number of an answer, and what it carries.
-pub fn answer(given: Answer) {
-    let numbers = output::numbers_of(given, 0, 0, 0, 0);
+pub fn answered(answer: Answer) {
+    let numbers = output::numbers_of(answer, 0, 0, 0, 0);
     let told = numbers.told;
     say::line(
         b": answer=# slot=# id=# seen=#",
@@ -32,20 +32,20 @@ pub fn answer(given: Answer) {
 
 // `rest` has a `#` where the call answers a value.
 fn plain(called: Outcome, rest: &[u8]) -> Table {
-    let given = called.answer;
+    let answer = called.answer;
     let next = called.table;
-    answer(given);
-    say::line(rest, &[value(given)]);
+    answered(answer);
+    say::line(rest, &[value(answer)]);
     say::table(next);
     next
 }
 
 // A snapshot, with three places of its list.
 fn listing(called: SnapshotOutcome) -> Table {
-    let given = called.answer;
+    let answer = called.answer;
     let next = called.table;
     let s = called.snapshot;
-    answer(given);
+    answered(answer);
     say::line(
         b" xmin=# xmax=# count=# ids=#,#,#",
         &[s.xmin, s.xmax, s.count as u64, s.ids[0], s.ids[1], s.ids[2]],

@@ -4,45 +4,50 @@ use crate::calls::end;
 use crate::calls::oldest;
 use crate::calls::snap;
 use crate::calls::vacuum;
+use crate::say::line;
 use crate::say::word;
 use crate::tables::full;
 use crate::tables::three;
 use kinds::SLOTS;
 
+fn row(n: u64) {
+    line(b"P#\n", &[n]);
+}
+
 pub fn snapshots_and_begins() {
     word(b"part=edges\n");
     let fresh = table::fresh();
     let taken = three();
-    word(b"P1\n");
+    row(1);
     snap(fresh, 1, 1);
-    word(b"P2\n");
+    row(2);
     let begun = begin(fresh, 5);
     snap(begun, 9, 3);
-    word(b"P3\n");
+    row(3);
     snap(taken, 12, 2);
-    word(b"P4\n");
+    row(4);
     snap(taken, 12, 12);
-    word(b"P5\n");
+    row(5);
     begin(full(), 400);
-    word(b"P6\n");
+    row(6);
     let exhausted = begin(fresh, u64::MAX - 1);
-    word(b"P7\n");
+    row(7);
     begin(exhausted, 7);
-    word(b"P8\n");
+    row(8);
     begin(fresh, u64::MAX);
 }
 
 pub fn ends_and_vacuums() {
     let fresh = table::fresh();
-    word(b"P9\n");
+    row(9);
     end(fresh, SLOTS as u16, 0);
-    word(b"P10\n");
+    row(10);
     end(fresh, 0, 0);
-    word(b"P11\n");
+    row(11);
     let again = begin(fresh, 5);
     let ended = end(again, 0, 5);
     end(ended, 0, 5);
-    word(b"P12\n");
+    row(12);
     let first = vacuum(fresh, 100, 100);
     let second = vacuum(first, 100, 50);
     oldest(second, 100, 50);

@@ -1,5 +1,5 @@
 // A host that owns its table in place: a decision says the answer and the change, and the host stores the change.
-use crate::calls::answer;
+use crate::calls::answered;
 use crate::say;
 use kinds::Stamp;
 
@@ -16,7 +16,7 @@ pub fn begin() {
     t.counters.sampled_clock = now.sampled_clock;
     t.counters.vacuum_line = now.vacuum_line;
     say::word(b"part=in place\nbegin 5");
-    let given = decided.answer;
-    answer(given);
+    let answer = decided.answer;
+    answered(answer);
     say::table(t);
 }
