@@ -7,7 +7,7 @@ use lib.ListN.{length}
 use Rattle.kinds.specs.declared.refusal.Verdict.{Verdict}
 use Rattle.kinds.specs.declared.refusal.Verdict.the-variants.{Pass, Refuse}
 use Rattle.model.specs.declared.Table.{Table}
-use Rattle.model.specs.Tables.{freshTable}
+use Rattle.model.specs.Tables.{freshTable, lineOf}
 use Rattle.model.specs.Answers.{xminTold, numbersOf}
 use Rattle.model.specs.Calls.{Call, after, answer, answerAccepted, answerBy, refusal}
 use Rattle.model.specs.History.{run, reached}
@@ -23,7 +23,7 @@ use Rattle.grammar.specs.Texts.{Whole}
 use Rattle.output.specs.Output.{printed, answerText, restLines}
 use Rattle.step.specs.Named.{callOf, callBy}
 use Rattle.replay.specs.Replay.{callsOf, textOf, replayOf}
-use Rattle.replay.specs.Tied.{TakesSnapshot, plain, of-transaction, recordLines, shownAt, Tied}
+use Rattle.replay.specs.Tied.{TakesSnapshot, plain, of-transaction, recordLines, shownAt, lineAt, Tied}
 
 -- records print their text, and those after them start on the table that their calls reach
 pub text-append :
@@ -65,11 +65,12 @@ unfolding replayOf textOf printed answerText restLines numbersOf recordLines cal
 tied n s v before r later e =
     let t = reached n (callsOf before) in
     let step = reached-snoc n before r in
+    let line : lineAt n before r ≡ lineOf (after n t (callOf r)) = ap (λ (u : Table). lineOf u) step in
     let own = printed n t (callOf r) in
     let last = lineText recordsKey (length (before ++ r ∷ later)) in
     let around = text-append n (freshTable n) before (r ∷ later) ∙ sym (append-assoc (textOf n (freshTable n) before) own _) in
     record {
       stands = rw (e, step) (ap (λ (text : List ℕ). text ++ last) around);
-      prints = rw step;
-      snapshot = λ k. rw (step, no-other-xmin n t r (shownAt n before r .xmin) k);
+      prints = rw line;
+      snapshot = λ k. rw (line, no-other-xmin n t r (shownAt n before r .xmin) k);
     }
