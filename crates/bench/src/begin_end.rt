@@ -6,7 +6,7 @@ use kinds::Txid;
 use std::num::wrapping_add_u64;
 use table::Answer;
 
-// What a round adds to the checksum.
+// What a round adds to the checksum, where the end was accepted.
 fn marked(sum: u64, slot: SlotNo, id: Txid, ended: Answer) -> u64 {
     let Answer::Done = ended else {
         return sum;
@@ -45,24 +45,22 @@ pub fn lent(layout: u64, rounds: u64) -> u64 {
     while i < rounds {
         i += 1;
         let number = Stamp(t.counters.clock);
-        let was = t.counters;
-        let first = table::decide_begin(&t.txids, was, number);
+        let first = table::decide_begin(&t.txids, t.counters, number);
         let begun = first.answer;
         let change = first.change;
-        let now = change.counters;
-        let entered = change.slot;
-        table::store_txid(&mut t.txids, entered);
-        table::store_xmin(&mut t.snapshot_xmins, entered);
-        t.counters.clock = now.clock;
+        let enters = change.slot;
+        table::store_txid(&mut t.txids, enters);
+        table::store_xmin(&mut t.snapshot_xmins, enters);
+        t.counters.clock = change.counters.clock;
         let Answer::Begun { slot, id } = begun else {
             continue;
         };
-        let second = table::decide_end(&t.txids, now, slot, id);
+        let second = table::decide_end(&t.txids, t.counters, slot, id);
         let ended = second.answer;
         let back = second.change;
-        let left = back.slot;
-        table::store_txid(&mut t.txids, left);
-        table::store_xmin(&mut t.snapshot_xmins, left);
+        let leaves = back.slot;
+        table::store_txid(&mut t.txids, leaves);
+        table::store_xmin(&mut t.snapshot_xmins, leaves);
         sum = marked(sum, slot, id, ended);
     }
     sum

@@ -11,22 +11,6 @@ fn marked(sum: u64, answer: Answer) -> u64 {
     wrapping_add_u64(sum, xmin)
 }
 
-pub fn by_value(layout: u64, rounds: u64) -> u64 {
-    let mut t = half_full(layout);
-    let mut sum: u64 = 0;
-    let mut i: u64 = 0;
-    while i < rounds {
-        i += 1;
-        let clock = kinds::saturating_next(t.counters.clock);
-        let answered = table::oldest_snapshot_xmin(t, clock, clock);
-        let after = answered.table;
-        let answer = answered.answer;
-        t = after;
-        sum = marked(sum, answer);
-    }
-    sum
-}
-
 pub fn lent(layout: u64, rounds: u64) -> u64 {
     let mut t = half_full(layout);
     let mut sum: u64 = 0;
@@ -34,8 +18,7 @@ pub fn lent(layout: u64, rounds: u64) -> u64 {
     while i < rounds {
         i += 1;
         let clock = kinds::saturating_next(t.counters.clock);
-        let was = t.counters;
-        let decided = table::decide_oldest(&t.txids, &t.snapshot_xmins, was, clock, clock);
+        let decided = table::decide_oldest(&t.txids, &t.snapshot_xmins, t.counters, clock, clock);
         let answer = decided.answer;
         let change = decided.change;
         let now = change.counters;

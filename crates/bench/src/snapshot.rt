@@ -12,22 +12,6 @@ fn marked(sum: u64, round: u64, xmin: u64, xmax: u64, ids: &[u64; SLOTS], count:
     wrapping_add_u64(with_count, ids[at])
 }
 
-pub fn by_value(layout: u64, rounds: u64) -> u64 {
-    let mut t = half_full(layout);
-    let mut sum: u64 = 0;
-    let mut i: u64 = 0;
-    while i < rounds {
-        i += 1;
-        let clock = kinds::saturating_next(t.counters.clock);
-        let answered = table::create_snapshot(t, clock, clock);
-        let after = answered.table;
-        let s = answered.snapshot;
-        t = after;
-        sum = marked(sum, i, s.xmin, s.xmax, &s.ids, s.count);
-    }
-    sum
-}
-
 pub fn lent(layout: u64, rounds: u64) -> u64 {
     let mut t = half_full(layout);
     let mut sum: u64 = 0;
@@ -35,8 +19,7 @@ pub fn lent(layout: u64, rounds: u64) -> u64 {
     while i < rounds {
         i += 1;
         let clock = kinds::saturating_next(t.counters.clock);
-        let was = t.counters;
-        let decided = table::decide_snap(&t.txids, was, clock, clock);
+        let decided = table::decide_snap(&t.txids, t.counters, clock, clock);
         let s = decided.snapshot;
         let change = decided.change;
         let now = change.counters;

@@ -1,6 +1,5 @@
--- Rounds are counted; nothing else is promised.
+-- Of the answers nothing is said. The loop ends: each turn leaves fewer rounds.
 use Prim.Native.Nat.{_≤_, _-_}
-use native.Mathlib.Omega.{arith}
 use borrow.Author.Needs.{needs}
 use Rattle.bench.proofs.begin_end.by_value.Statement.{statement}
 use Rattle.bench.proofs.begin_end.by_value.Tie as tie

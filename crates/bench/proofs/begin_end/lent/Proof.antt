@@ -1,4 +1,4 @@
--- Rounds are counted; nothing else is promised.
+-- Of the answers nothing is said. The loop ends: each turn leaves fewer rounds, which its far end finds at the loop's test.
 use Prim.Native.Nat.{_≤_, _-_}
 use native.Mathlib.Omega.{arith}
 use borrow.Author.Needs.{needs}
@@ -52,19 +52,21 @@ marked-requires c κs = search needs
 
 loop-less-2 : tie.Need-loop-less-2 Inv-loop μ-loop
 loop-less-2 c =
-    let marked = c .before .before .before .before .before in
-    let stored = marked .before .before .before .before .before in
-    let ended = stored .before .before .before .before .before in
-    let begun = ended .before .before .before .before .before in
-    omega (arith, begun .before .before .before .before .before .loop-test .taken)
+    let decided = c .before .before .before .before .before in
+    let asked = decided .before .before .before .before .before in
+    let stored = asked .before .before .before .before .before in
+    let begun = stored .before .before .before .before .before in
+    let round = begun .before .before .before .before .before in
+    omega (arith, round .loop-test .taken)
 
 loop-again-2 : tie.Need-loop-again-2 Inv-loop μ-loop
 loop-again-2 c =
-    let marked = c .before .before .before .before .before in
-    let stored = marked .before .before .before .before .before in
-    let ended = stored .before .before .before .before .before in
-    let begun = ended .before .before .before .before .before in
-    omega (arith, begun .before .before .before .before .before .loop-test .taken)
+    let decided = c .before .before .before .before .before in
+    let asked = decided .before .before .before .before .before in
+    let stored = asked .before .before .before .before .before in
+    let begun = stored .before .before .before .before .before in
+    let round = begun .before .before .before .before .before in
+    omega (arith, round .loop-test .taken)
 
 returns : tie.Need-returns Inv-loop μ-loop
 returns c = search needs

@@ -1,4 +1,4 @@
--- Slots are counted; nothing else is promised.
+-- The loop stays within the columns, and ends: each turn leaves fewer numbers above i.
 use Prim.Native.Nat.{_≤_, _-_}
 use borrow.Author.Needs.{needs}
 use Rattle.bench.proofs.fill.half_full.Statement.{statement}
