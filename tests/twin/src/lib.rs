@@ -21,4 +21,5 @@ pub mod shrink;
 pub mod sized;
 pub mod table;
 pub mod text;
+pub mod tiles;
 pub mod trace;

@@ -70,6 +70,12 @@ enum-told-6 c = search needs
 bare-number-requires-6 : tie.Need-bare-number-requires-6
 bare-number-requires-6 c κs = search needs
 
+enum-told-7 : tie.Need-enum-told-7
+enum-told-7 c = search needs
+
+bare-number-requires-7 : tie.Need-bare-number-requires-7
+bare-number-requires-7 c κs = search needs
+
 returns : tie.Need-returns
 unfolding told
 returns c = rw (c .before .before .r .given .1) (c .numbers .ensures)
@@ -110,6 +116,10 @@ returns-10 : tie.Need-returns-10
 unfolding told
 returns-10 c = rw (c .before .enum-told6 .given .1) (c .bare-number6 .ensures)
 
+returns-11 : tie.Need-returns-11
+unfolding told
+returns-11 c = rw (c .before .enum-told7 .given .1) (c .bare-number7 .ensures)
+
 pub tell-spec : {M : Type 1} → statement M
 tell-spec =
     tie.close
@@ -136,6 +146,8 @@ tell-spec =
     numbers-requires-4
     enum-told-6
     bare-number-requires-6
+    enum-told-7
+    bare-number-requires-7
     returns
     returns-2
     returns-3
@@ -145,4 +157,5 @@ tell-spec =
     returns-7
     returns-8
     returns-9
-    returns-10)
+    returns-10
+    returns-11)

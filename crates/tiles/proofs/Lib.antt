@@ -1,0 +1,3 @@
+pub mod Choices
+pub mod Rows
+pub mod Unique

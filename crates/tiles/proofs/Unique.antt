@@ -1,0 +1,15 @@
+-- At most one part fits what `used_part` promises: its bytes and where they lie are determined.
+-- `used_refusal` promises an equation of its result (`equal-unique` of crate kinds).
+use Prim.Native.Nat.{ℕ}
+use mathlib.Core.Path.{_≡_, sym, ap, _∙_}
+use denote.Ref.{ptr, now}
+use Rattle.kinds.specs.declared.Txid.{Txid}
+use Rattle.settled.specs.declared.Snapshot.{Snapshot}
+use Rattle.tiles.specs.Tiles.{Bytes, Part, PartFits}
+
+pub part-unique :
+    (n : ℕ) (shown : Snapshot) (maker : Txid) (older : Bytes) (olderUsed : ℕ) (newer : Bytes) (newerUsed : ℕ) (r s : Bytes) →
+    PartFits n shown maker older olderUsed newer newerUsed r → PartFits n shown maker older olderUsed newer newerUsed s →
+    (now r ≡ now s) × (ptr r ≡ ptr s)
+part-unique n shown maker older olderUsed newer newerUsed r s p q =
+    (ap (λ (x : Part). x .bytes) (p ∙ sym q), ap (λ (x : Part). x .start) (p ∙ sym q))
