@@ -23,6 +23,6 @@ pub fn half_full(layout: u64) -> Table {
             t.snapshot_xmins[at] = id;
         }
     }
-    t.clock = kinds::next_held(i as u64);
+    t.clock = kinds::saturating_next(i as u64);
     t
 }

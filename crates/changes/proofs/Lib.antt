@@ -1,2 +1,2 @@
-pub mod Decided
-pub mod Stored
+pub mod Past
+pub mod Stores

@@ -1,2 +1,2 @@
-pub mod Changes
-pub mod Lent
+pub mod Reserved
+pub mod Stored

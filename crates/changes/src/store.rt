@@ -1,24 +1,14 @@
-// How a change is stored: into a column that is lent, and into a table by value.
-use crate::Change;
-use crate::Counters;
+// How a change is stored: column by column where the table is owned in place, or whole on a table by value, which copies it.
 use kinds::SLOTS;
+use model::Change;
+use model::SlotChange;
 use model::Table;
 ghost use mathlib.Core.Path.{_≡_};
-ghost use Rattle.changes.specs.Changes.{countersOf, storedAt, applied};
+ghost use Rattle.model.specs.Changes.{applied};
+ghost use Rattle.changes.specs.Stored.{storedAt, storedTxid, storedXmin};
 
-// The three numbers beside the slots, as a decision takes them.
-pub fn counters_of(table: Table) -> Counters
-    ensures { λ r. ⌜ r ≡ countersOf table ⌝ }
-{
-    Counters {
-        clock: table.clock,
-        sampled_clock: table.sampled_clock,
-        line: table.line,
-    }
-}
-
-// Writes place i of a column, where the column has it: a change is stored by its two columns and its counters.
-pub fn store_at(column: &mut [u64; SLOTS], i: usize, x: u64)
+// Place i of a column, where the column has it.
+fn store_at(column: &mut [u64; SLOTS], i: usize, x: u64)
     ensures { λ _. do ⌜ now (column .exit) ≡ storedAt (← ⟦kinds::SLOTS⟧ .entry) (now (column .entry)) i x ⌝ }
 {
     if i < SLOTS {
@@ -26,16 +16,41 @@ pub fn store_at(column: &mut [u64; SLOTS], i: usize, x: u64)
     }
 }
 
+// The column of txids after a change.
+pub fn store_txid(txids: &mut [u64; SLOTS], change: SlotChange)
+    ensures { λ _. do ⌜ now (txids .exit) ≡ storedTxid (← ⟦kinds::SLOTS⟧ .entry) change (now (txids .entry)) ⌝ }
+{
+    match change {
+        SlotChange::Stays => {}
+        SlotChange::Enters { slot, txid } => store_at(txids, slot.0 as usize, txid.0),
+        SlotChange::Leaves { slot } => store_at(txids, slot.0 as usize, 0),
+        SlotChange::Retains { slot: _, xmin: _ } => {}
+    }
+}
+
+// The column of snapshot_xmins after a change.
+pub fn store_xmin(xmins: &mut [u64; SLOTS], change: SlotChange)
+    ensures { λ _. do ⌜ now (xmins .exit) ≡ storedXmin (← ⟦kinds::SLOTS⟧ .entry) change (now (xmins .entry)) ⌝ }
+{
+    match change {
+        SlotChange::Stays => {}
+        SlotChange::Enters { slot, txid } => store_at(xmins, slot.0 as usize, txid.0),
+        SlotChange::Leaves { slot } => store_at(xmins, slot.0 as usize, 0),
+        SlotChange::Retains { slot, xmin } => store_at(xmins, slot.0 as usize, xmin),
+    }
+}
+
 // The table after a change.
 pub fn apply(table: Table, change: Change) -> Table
-    ensures { λ r. do ⌜ r ≡ applied (← ⟦kinds::SLOTS⟧ .entry) table change ⌝ }
+    ensures { λ r. ⌜ r ≡ applied table change ⌝ }
 {
     let mut next = table;
     let counters = change.counters;
-    next.clock = counters.clock;
-    next.sampled_clock = counters.sampled_clock;
-    next.line = counters.line;
-    store_at(&mut next.txids, change.at, change.txid);
-    store_at(&mut next.snapshot_xmins, change.at, change.snapshot_xmin);
+    next.counters.clock = counters.clock;
+    next.counters.sampled_clock = counters.sampled_clock;
+    next.counters.vacuum_line = counters.vacuum_line;
+    let slot = change.slot;
+    store_txid(&mut next.txids, slot);
+    store_xmin(&mut next.snapshot_xmins, slot);
     next
 }

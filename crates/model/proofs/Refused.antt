@@ -20,17 +20,17 @@ use Rattle.kinds.proofs.Verdicts.{refuse-not-pass, same-refusal}
 use Rattle.model.specs.declared.Table.{Table}
 use Rattle.model.specs.Tally.{lowestEmpty}
 use Rattle.model.specs.Tests.{slotTest, holderTest, ownerTest, reservationTest, fullTest, observationTest}
-use Rattle.model.specs.Calls.{Call, begin, end, snap, own, oldest, vacuum, stamp, finish, refusal, spent, afterRefused}
+use Rattle.model.specs.Calls.{Call, begin, end, snap, own, oldest, vacuum, stamp, finish, refusal, spent}
 use Rattle.model.specs.Accepted.{Reserves}
-use Rattle.model.specs.Counts.{opens}
+use Rattle.model.specs.Deeds.{opens}
 use Rattle.model.proofs.Tests.{reserves}
 
 -- a refused call consumes nothing; or it is a begin on a full table, which consumes its number
-pub data Refused (n : ℕ) (t : Table) (c : Call) (r : Refusal) : Type 0 where
-  stays : consumed r ≡ [] → Refused n t c r
+pub data Declined (n : ℕ) (t : Table) (c : Call) (r : Refusal) : Type 0 where
+  stays : consumed r ≡ [] → Declined n t c r
   spends :
-      (number : Stamp) → c ≡ begin number → r ≡ NoFreeSlot (txidOf number) → Reserves (t .clock) (number .0) →
-      n ≤ lowestEmpty (t .txids) → Refused n t c r
+      (number : Stamp) → c ≡ begin number → r ≡ NoFreeSlot (txidOf number) → Reserves (t .counters .clock) (number .0) →
+      n ≤ lowestEmpty (t .txids) → Declined n t c r
 
 -- what a verdict consumes
 abbrev uses : Verdict → List ℕ
@@ -64,55 +64,50 @@ unfolding consumed
 observation-uses former clock sample =
     cond-uses (ltb clock former) _ _ refl (cond-uses (eqb sample 0 || ltb clock sample) _ _ refl refl)
 
-begin-refused :
+begin-declined :
     (n : ℕ) (t : Table) (number : Stamp) (r : Refusal) →
-    then (reservationTest (t .clock) number) (fullTest n (t .txids) number) ≡ Refuse r → Refused n t (begin number) r
-begin-refused n t number r e = first (reservationTest (t .clock) number) refl e
+    then (reservationTest (t .counters .clock) number) (fullTest n (t .txids) number) ≡ Refuse r → Declined n t (begin number) r
+begin-declined n t number r e = first (reservationTest (t .counters .clock) number) refl e
   where
     second :
-        reservationTest (t .clock) number ≡ Pass → (b : Bool) → leb n (lowestEmpty (t .txids)) ≡ b →
-        cond b (Refuse (NoFreeSlot (txidOf number))) Pass ≡ Refuse r → Refused n t (begin number) r
+        reservationTest (t .counters .clock) number ≡ Pass → (b : Bool) → leb n (lowestEmpty (t .txids)) ≡ b →
+        cond b (Refuse (NoFreeSlot (txidOf number))) Pass ≡ Refuse r → Declined n t (begin number) r
     second p true q h =
-        spends number refl (sym (same-refusal _ r h)) (reserves (t .clock) number p) (leb-true n (lowestEmpty (t .txids)) q)
+        spends number refl (sym (same-refusal _ r h)) (reserves (t .counters .clock) number p) (leb-true n (lowestEmpty (t .txids)) q)
     second p false q h = absurd (refuse-not-pass r (sym h))
 
     first :
-        (v : Verdict) → reservationTest (t .clock) number ≡ v → then v (fullTest n (t .txids) number) ≡ Refuse r →
-        Refused n t (begin number) r
+        (v : Verdict) → reservationTest (t .counters .clock) number ≡ v → then v (fullTest n (t .txids) number) ≡ Refuse r →
+        Declined n t (begin number) r
     first Pass p h = second p (leb n (lowestEmpty (t .txids))) refl h
-    first (Refuse s) p h = stays (sym (ap uses h) ∙ sym (ap uses p) ∙ reservation-uses (t .clock) number)
+    first (Refuse s) p h = stays (sym (ap uses h) ∙ sym (ap uses p) ∙ reservation-uses (t .counters .clock) number)
 
-pub refused : (n : ℕ) (t : Table) (c : Call) (r : Refusal) → refusal n t c ≡ Refuse r → Refused n t c r
+pub declined : (n : ℕ) (t : Table) (c : Call) (r : Refusal) → refusal n t c ≡ Refuse r → Declined n t c r
 unfolding refusal
-refused n t (begin number) r e = begin-refused n t number r e
-refused n t (end slot id) r e = stays (sym (ap uses e) ∙ owner-uses n (t .txids) slot id)
-refused n t (snap clock sample) r e = stays (sym (ap uses e) ∙ observation-uses (t .clock) clock sample)
-refused n t (own slot id clock sample) r e =
+declined n t (begin number) r e = begin-declined n t number r e
+declined n t (end slot id) r e = stays (sym (ap uses e) ∙ owner-uses n (t .txids) slot id)
+declined n t (snap clock sample) r e = stays (sym (ap uses e) ∙ observation-uses (t .counters .clock) clock sample)
+declined n t (own slot id clock sample) r e =
     stays
     (sym (ap uses e)
-    ∙ then-uses (ownerTest n (t .txids) slot id) (observationTest (t .clock) clock sample)
-    (owner-uses n (t .txids) slot id) (observation-uses (t .clock) clock sample))
-refused n t (oldest clock sample) r e = stays (sym (ap uses e) ∙ observation-uses (t .clock) clock sample)
-refused n t (vacuum clock sample) r e = stays (sym (ap uses e) ∙ observation-uses (t .clock) clock sample)
-refused n t (stamp number) r e = stays (sym (ap uses e) ∙ reservation-uses (t .clock) number)
-refused n t (finish slot id number) r e =
+    ∙ then-uses (ownerTest n (t .txids) slot id) (observationTest (t .counters .clock) clock sample)
+    (owner-uses n (t .txids) slot id) (observation-uses (t .counters .clock) clock sample))
+declined n t (oldest clock sample) r e = stays (sym (ap uses e) ∙ observation-uses (t .counters .clock) clock sample)
+declined n t (vacuum clock sample) r e = stays (sym (ap uses e) ∙ observation-uses (t .counters .clock) clock sample)
+declined n t (stamp number) r e = stays (sym (ap uses e) ∙ reservation-uses (t .counters .clock) number)
+declined n t (finish slot id number) r e =
     stays
     (sym (ap uses e)
-    ∙ then-uses (ownerTest n (t .txids) slot id) (reservationTest (t .clock) number)
-    (owner-uses n (t .txids) slot id) (reservation-uses (t .clock) number))
+    ∙ then-uses (ownerTest n (t .txids) slot id) (reservationTest (t .counters .clock) number)
+    (owner-uses n (t .txids) slot id) (reservation-uses (t .counters .clock) number))
 
--- every refusal but a begin's leaves the table
+-- every refusal but a begin's leaves the counters
 pub refused-kept :
-    (n : ℕ) (t : Table) (c : Call) (r : Refusal) → opens c ≡ false → refusal n t c ≡ Refuse r → afterRefused t r ≡ t
-unfolding spent afterRefused
-refused-kept n t c r b e = go (refused n t c r e)
+    (n : ℕ) (t : Table) (c : Call) (r : Refusal) → opens c ≡ false → refusal n t c ≡ Refuse r →
+    spent (consumed r) (t .counters) ≡ t .counters
+unfolding spent
+refused-kept n t c r b e = go (declined n t c r e)
   where
-    go : Refused n t c r → afterRefused t r ≡ t
+    go : Declined n t c r → spent (consumed r) (t .counters) ≡ t .counters
     go (stays h) = rw h
     go (spends number q _ _ _) = absurd (false≢true (sym b ∙ ap opens q))
-
--- no refusal moves a slot
-pub refused-txids : (n : ℕ) (t : Table) (c : Call) (r : Refusal) → Refused n t c r → afterRefused t r .txids ≡ t .txids
-unfolding consumed spent afterRefused
-refused-txids n t c r (stays p) = rw p
-refused-txids n t c r (spends number p q h f) = rw q

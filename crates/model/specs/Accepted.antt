@@ -6,7 +6,7 @@ use Rattle.kinds.specs.declared.SlotNo.{SlotNo}
 use Rattle.kinds.specs.declared.Txid.{Txid}
 use Rattle.kinds.specs.Kinds.{top}
 use Rattle.model.specs.declared.Table.{Table}
-use Rattle.model.specs.Tables.{txidAt}
+use Rattle.model.specs.Tables.{txidAt, clockOf}
 use Rattle.model.specs.Calls.{Call, begin, end, snap, own, oldest, vacuum, stamp, finish}
 
 -- the transaction (slot, id) is registered: the slot holds that txid
@@ -38,11 +38,11 @@ pub record Observes (former clock sample : ℕ) : Type 0 where
   pub within : sample ≤ clock
 
 abbrev pub Acceptable : ℕ → Table → Call → Type 0
-Acceptable n t (begin number) = Reserves (t .clock) (number .0) × Free n t
+Acceptable n t (begin number) = Reserves (clockOf t) (number .0) × Free n t
 Acceptable n t (end slot id) = Owns n t slot id
-Acceptable n t (snap clock sample) = Observes (t .clock) clock sample
-Acceptable n t (own slot id clock sample) = Owns n t slot id × Observes (t .clock) clock sample
-Acceptable n t (oldest clock sample) = Observes (t .clock) clock sample
-Acceptable n t (vacuum clock sample) = Observes (t .clock) clock sample
-Acceptable n t (stamp number) = Reserves (t .clock) (number .0)
-Acceptable n t (finish slot id number) = Owns n t slot id × Reserves (t .clock) (number .0)
+Acceptable n t (snap clock sample) = Observes (clockOf t) clock sample
+Acceptable n t (own slot id clock sample) = Owns n t slot id × Observes (clockOf t) clock sample
+Acceptable n t (oldest clock sample) = Observes (clockOf t) clock sample
+Acceptable n t (vacuum clock sample) = Observes (clockOf t) clock sample
+Acceptable n t (stamp number) = Reserves (clockOf t) (number .0)
+Acceptable n t (finish slot id number) = Owns n t slot id × Reserves (clockOf t) (number .0)

@@ -1,21 +1,29 @@
--- The eight calls on a table of n slots: when each is refused, the table after it, what it answers, and the snapshot that it shows.
-use Prim.Native.Nat.{ℕ, _+_, max}
-use mathlib.Core.Path.{_≡_}
+-- The eight calls on a table of n slots: when each is refused, what it changes, what it answers, and the snapshot that it shows.
+use Prim.Native.Nat.{ℕ, max}
 use mathlib.Core.List.{List, [], _∷_}
 use Rattle.kinds.specs.declared.Stamp.{Stamp}
 use Rattle.kinds.specs.declared.SlotNo.{SlotNo}
 use Rattle.kinds.specs.declared.Txid.{Txid}
-use Rattle.kinds.specs.declared.refusal.Refusal.{Refusal}
-use Rattle.kinds.specs.Refusals.{told, consumed}
 use Rattle.kinds.specs.declared.refusal.Verdict.{Verdict}
 use Rattle.kinds.specs.declared.refusal.Verdict.the-variants.{Pass, Refuse}
+use Rattle.kinds.specs.Kinds.{slot, txidOf}
+use Rattle.kinds.specs.Refusals.{consumed}
 use Rattle.kinds.specs.Verdicts.{then}
 use Rattle.settled.specs.declared.Snapshot.{Snapshot}
 use Rattle.settled.specs.Snapshots.{noSnapshot}
+use Rattle.model.specs.declared.Counters.{Counters}
 use Rattle.model.specs.declared.Table.{Table}
-use Rattle.model.specs.Tally.{active, lowestEmpty, xminOf, xmaxOf, snapshotOf, oldestOf}
-use Rattle.model.specs.Tables.{withSlot, withXmin, withClock, observed, withLine}
-use Rattle.model.specs.Answers.{Answer, registered, done, snapped, oldestIs, lineIs, stamped, answerTold}
+use Rattle.model.specs.declared.change.SlotChange.the-variants.{Stays, Enters, Leaves, Retains}
+use Rattle.model.specs.declared.change.Change.{Change}
+use Rattle.model.specs.declared.answer.Answer.{Answer}
+use Rattle.model.specs.declared.answer.Answer.the-variants.{Begun, Done, Oldest, Line, Stamped, Refused}
+use Rattle.model.specs.declared.answer.Decision.{Decision}
+use Rattle.model.specs.declared.answer.SnapshotDecision.{SnapshotDecision}
+use Rattle.model.specs.declared.answer.Outcome.{Outcome}
+use Rattle.model.specs.declared.answer.SnapshotOutcome.{SnapshotOutcome}
+use Rattle.model.specs.Tally.{active, lowestEmpty, xminOf, snapshotOf, oldestOf}
+use Rattle.model.specs.Tables.{lineOf, clockOf}
+use Rattle.model.specs.Changes.{change, pastNumber, observed, withLine, applied}
 use Rattle.model.specs.Tests.{ownerTest, reservationTest, fullTest, observationTest}
 
 -- a call with what the host hands in: a reserved number; a registration; a clock with a sample of it
@@ -31,72 +39,67 @@ pub data Call : Type 0 where
 
 -- the order of checks of each call
 unfoldable pub refusal : ℕ → Table → Call → Verdict
-refusal n t (begin number) = then (reservationTest (t .clock) number) (fullTest n (t .txids) number)
+refusal n t (begin number) = then (reservationTest (clockOf t) number) (fullTest n (t .txids) number)
 refusal n t (end slot id) = ownerTest n (t .txids) slot id
-refusal n t (snap clock sample) = observationTest (t .clock) clock sample
-refusal n t (own slot id clock sample) =
-    then (ownerTest n (t .txids) slot id) (observationTest (t .clock) clock sample)
-refusal n t (oldest clock sample) = observationTest (t .clock) clock sample
-refusal n t (vacuum clock sample) = observationTest (t .clock) clock sample
-refusal n t (stamp number) = reservationTest (t .clock) number
-refusal n t (finish slot id number) =
-    then (ownerTest n (t .txids) slot id) (reservationTest (t .clock) number)
+refusal n t (snap clock sample) = observationTest (clockOf t) clock sample
+refusal n t (own slot id clock sample) = then (ownerTest n (t .txids) slot id) (observationTest (clockOf t) clock sample)
+refusal n t (oldest clock sample) = observationTest (clockOf t) clock sample
+refusal n t (vacuum clock sample) = observationTest (clockOf t) clock sample
+refusal n t (stamp number) = reservationTest (clockOf t) number
+refusal n t (finish slot id number) = then (ownerTest n (t .txids) slot id) (reservationTest (clockOf t) number)
 
--- what call 9 finds on this table
+-- what oldest finds on this table
 abbrev pub oldestIn : Table → ℕ → ℕ
 oldestIn t sample = oldestOf (t .txids) (t .«snapshot_xmins») sample
 
 -- the line that a vacuum leaves
 abbrev pub raisedLine : Table → ℕ → ℕ
-raisedLine t sample = max (t .line) (oldestIn t sample)
+raisedLine t sample = max (lineOf t) (oldestIn t sample)
 
--- the table after an accepted call
-unfoldable pub afterAccepted : Table → Call → Table
-afterAccepted t (begin number) =
-    withSlot (lowestEmpty (t .txids)) (number .0) (number .0) (withClock (number .0 + 1) t)
-afterAccepted t (end slot id) = withSlot (slot .0) 0 0 t
-afterAccepted t (snap clock sample) = observed clock sample t
-afterAccepted t (own slot id clock sample) =
-    withXmin (slot .0) (xminOf sample (active (t .txids))) (observed clock sample t)
-afterAccepted t (oldest clock sample) = observed clock sample t
-afterAccepted t (vacuum clock sample) = withLine (raisedLine t sample) (observed clock sample t)
-afterAccepted t (stamp number) = withClock (number .0 + 1) t
-afterAccepted t (finish slot id number) = withSlot (slot .0) 0 0 (withClock (number .0 + 1) t)
+-- what an accepted call changes
+unfoldable pub changeAccepted : Table → Call → Change
+changeAccepted t (begin number) =
+    change (Enters (slot (lowestEmpty (t .txids))) (txidOf number)) (pastNumber (number .0) (t .counters))
+changeAccepted t (end slot id) = change (Leaves slot) (t .counters)
+changeAccepted t (snap clock sample) = change Stays (observed clock sample (t .counters))
+changeAccepted t (own slot id clock sample) =
+    change (Retains slot (xminOf sample (active (t .txids)))) (observed clock sample (t .counters))
+changeAccepted t (oldest clock sample) = change Stays (observed clock sample (t .counters))
+changeAccepted t (vacuum clock sample) = change Stays (withLine (raisedLine t sample) (observed clock sample (t .counters)))
+changeAccepted t (stamp number) = change Stays (pastNumber (number .0) (t .counters))
+changeAccepted t (finish slot id number) = change (Leaves slot) (pastNumber (number .0) (t .counters))
 
 -- the clock goes past each number that was consumed
-unfoldable pub spent : List ℕ → Table → Table
-spent [] t = t
-spent (number ∷ numbers) t = spent numbers (withClock (number + 1) t)
+unfoldable pub spent : List ℕ → Counters → Counters
+spent [] k = k
+spent (number ∷ numbers) k = spent numbers (pastNumber number k)
 
--- the table after a refusal: nothing moves but by what it consumes
-unfoldable pub afterRefused : Table → Refusal → Table
-afterRefused t r = spent (consumed r) t
+-- a refused call changes nothing but by what its refusal consumes
+abbrev pub changeBy : Verdict → Table → Call → Change
+changeBy Pass t c = changeAccepted t c
+changeBy (Refuse r) t c = change Stays (spent (consumed r) (t .counters))
 
-abbrev pub afterBy : Verdict → Table → Call → Table
-afterBy Pass t c = afterAccepted t c
-afterBy (Refuse r) t c = afterRefused t r
+unfoldable pub changeOf : ℕ → Table → Call → Change
+changeOf n t c = changeBy (refusal n t c) t c
 
+-- the table after a call
 unfoldable pub after : ℕ → Table → Call → Table
-after n t c = afterBy (refusal n t c) t c
-
--- what a snapshot of these txids tells
-abbrev pub snapshotTells : List ℕ → ℕ → Answer
-snapshotTells txids sample = snapped (xminOf sample (active txids)) (xmaxOf sample (active txids)) (active txids)
+after n t c = applied t (changeOf n t c)
 
 -- what an accepted call answers
 unfoldable pub answerAccepted : Table → Call → Answer
-answerAccepted t (begin number) = registered (lowestEmpty (t .txids)) (number .0)
-answerAccepted t (end slot id) = done
-answerAccepted t (snap clock sample) = snapshotTells (t .txids) sample
-answerAccepted t (own slot id clock sample) = snapshotTells (t .txids) sample
-answerAccepted t (oldest clock sample) = oldestIs (oldestIn t sample)
-answerAccepted t (vacuum clock sample) = lineIs (raisedLine t sample)
-answerAccepted t (stamp number) = stamped (number .0)
-answerAccepted t (finish slot id number) = stamped (number .0)
+answerAccepted t (begin number) = Begun (slot (lowestEmpty (t .txids))) (txidOf number)
+answerAccepted t (end slot id) = Done
+answerAccepted t (snap clock sample) = Done
+answerAccepted t (own slot id clock sample) = Done
+answerAccepted t (oldest clock sample) = Oldest (oldestIn t sample)
+answerAccepted t (vacuum clock sample) = Line (raisedLine t sample)
+answerAccepted t (stamp number) = Stamped number
+answerAccepted t (finish slot id number) = Stamped number
 
 abbrev pub answerBy : Verdict → Table → Call → Answer
 answerBy Pass t c = answerAccepted t c
-answerBy (Refuse r) t c = answerTold (told r)
+answerBy (Refuse r) t c = Refused r
 
 unfoldable pub answer : ℕ → Table → Call → Answer
 answer n t c = answerBy (refusal n t c) t c
@@ -120,7 +123,16 @@ shownBy (Refuse r) n t c = noSnapshot n
 unfoldable pub shown : ℕ → Table → Call → Snapshot
 shown n t c = shownBy (refusal n t c) n t c
 
--- a table and an answer are those that the rules give for this call
-pub record Outcome (n : ℕ) (t : Table) (c : Call) (next : Table) (tells : Answer) : Type 0 where
-  pub table : next ≡ after n t c
-  pub says : tells ≡ answer n t c
+-- what a call decides on lent columns, which are a table; of a snapshot call, with its snapshot
+unfoldable pub decision : ℕ → Table → Call → Decision
+decision n t c = record { change = changeOf n t c; answer = answer n t c }
+
+unfoldable pub snapshotDecision : ℕ → Table → Call → SnapshotDecision
+snapshotDecision n t c = record { change = changeOf n t c; answer = answer n t c; snapshot = shown n t c }
+
+-- what comes back from a call on a table by value
+unfoldable pub outcome : ℕ → Table → Call → Outcome
+outcome n t c = record { table = after n t c; answer = answer n t c }
+
+unfoldable pub snapshotOutcome : ℕ → Table → Call → SnapshotOutcome
+snapshotOutcome n t c = record { table = after n t c; answer = answer n t c; snapshot = shown n t c }

@@ -6,6 +6,7 @@ use lib.Dec.{ltb, leb, eqb}
 use lib.ListN.{length}
 use Rattle.settled.specs.Settled.{listed}
 use Rattle.model.specs.declared.Table.{Table}
+use Rattle.model.specs.Tables.{clockOf, sampleOf, lineOf}
 
 -- an empty slot has snapshot_xmin 0; a taken one has 1 ≤ snapshot_xmin ≤ txid < clock, and line ≤ txid
 abbrev pub slotPasses : ℕ → ℕ → ℕ → ℕ → Bool
@@ -35,4 +36,4 @@ passes n txids xmins clock sample line =
     numbersPass n (length txids) clock sample line && (slotsPass clock line txids xmins && differ txids)
 
 abbrev pub tablePasses : ℕ → Table → Bool
-tablePasses n t = passes n (t .txids) (t .«snapshot_xmins») (t .clock) (t .«sampled_clock») (t .line)
+tablePasses n t = passes n (t .txids) (t .«snapshot_xmins») (clockOf t) (sampleOf t) (lineOf t)

@@ -4,7 +4,7 @@ use mathlib.Core.Path.{_≡_}
 use mathlib.Core.Logic.{_≢_}
 use lib.ListN.{length}
 use Rattle.model.specs.declared.Table.{Table}
-use Rattle.model.specs.Tables.{txidAt, xminAt}
+use Rattle.model.specs.Tables.{txidAt, xminAt, clockOf, sampleOf, lineOf}
 
 -- an empty slot has snapshot_xmin 0; a taken one has 1 ≤ snapshot_xmin ≤ txid < clock, and line ≤ txid
 pub data SlotGood (clock line txid xmin : ℕ) : Type 0 where
@@ -15,9 +15,9 @@ pub data SlotGood (clock line txid xmin : ℕ) : Type 0 where
 pub record Good (n : ℕ) (t : Table) : Type 0 where
   pub txid-column : length (t .txids) ≡ n
   pub xmin-column : length (t .«snapshot_xmins») ≡ n
-  pub sample-from-1 : 1 ≤ t .«sampled_clock»
-  pub sample-to-clock : t .«sampled_clock» ≤ t .clock
-  pub line-from-1 : 1 ≤ t .line
-  pub line-to-clock : t .line ≤ t .clock
-  pub each : (i : ℕ) → SlotGood (t .clock) (t .line) (txidAt t i) (xminAt t i)
+  pub sample-from-1 : 1 ≤ sampleOf t
+  pub sample-to-clock : sampleOf t ≤ clockOf t
+  pub line-from-1 : 1 ≤ lineOf t
+  pub line-to-clock : lineOf t ≤ clockOf t
+  pub each : (i : ℕ) → SlotGood (clockOf t) (lineOf t) (txidAt t i) (xminAt t i)
   pub differ : (i j : ℕ) → txidAt t i ≢ 0 → txidAt t i ≡ txidAt t j → i ≡ j

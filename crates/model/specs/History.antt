@@ -3,7 +3,7 @@ use Prim.Native.Nat.{ℕ}
 use mathlib.Core.Path.{_≡_}
 use mathlib.Core.List.{List, [], _∷_, _++_}
 use mathlib.Core.Option.{Option, none, some}
-use mathlib.Core.Bool.{Bool, true, false, cond, _&&_}
+use mathlib.Core.Bool.{Bool, true, cond}
 use lib.Dec.{eqb}
 use Rattle.kinds.specs.declared.Stamp.{Stamp}
 use Rattle.kinds.specs.declared.SlotNo.{SlotNo}
@@ -14,7 +14,9 @@ use Rattle.settled.specs.declared.Snapshot.{Snapshot}
 use Rattle.model.specs.declared.Table.{Table}
 use Rattle.model.specs.Tally.{lowestEmpty}
 use Rattle.model.specs.Tables.{freshTable}
-use Rattle.model.specs.Calls.{Call, begin, end, snap, own, oldest, vacuum, stamp, finish, refusal, after, answer, shown}
+use Rattle.model.specs.declared.answer.Answer.the-variants.{Begun}
+use Rattle.model.specs.Calls.{Call, begin, own, refusal, after, answer, shown}
+use Rattle.model.specs.Deeds.{Deed, registers, ends, takes, idle, deed, sameTransaction, endOf, ownOf}
 use Rattle.model.specs.Accepted.{Registered}
 
 -- the table after the calls, one after the other
@@ -34,21 +36,6 @@ Accepts n t c = refusal n t c ≡ Pass
 pub record Never (n : ℕ) (t : Table) (kind : Call → Bool) (cs : List Call) : Type 0 where
   pub nowhere : (p q : List Call) (c : Call) → cs ≡ p ++ c ∷ q → kind c ≡ true → Accepts n (run n t p) c → ⊥
 
--- (slot, id) and (slot′, id′) are one transaction
-abbrev pub sameTransaction : SlotNo → Txid → SlotNo → Txid → Bool
-sameTransaction slot id slot′ id′ = eqb (slot .0) (slot′ .0) && eqb (id .0) (id′ .0)
-
--- the call is an end or a finish of (slot, id)
-abbrev pub endOf : SlotNo → Txid → Call → Bool
-endOf slot id (begin number) = false
-endOf slot id (end slot′ id′) = sameTransaction slot id slot′ id′
-endOf slot id (snap clock sample) = false
-endOf slot id (own slot′ id′ clock sample) = false
-endOf slot id (oldest clock sample) = false
-endOf slot id (vacuum clock sample) = false
-endOf slot id (stamp number) = false
-endOf slot id (finish slot′ id′ number) = sameTransaction slot id slot′ id′
-
 -- registered in words, for calls made on t: the calls are some before, an accepted begin, which answers slot and id, and
 -- later ones of which none is an accepted end or finish of (slot, id)
 pub record IsRegistered (n : ℕ) (t : Table) (slot : SlotNo) (id : Txid) (cs : List Call) : Type 0 where
@@ -56,21 +43,8 @@ pub record IsRegistered (n : ℕ) (t : Table) (slot : SlotNo) (id : Txid) (cs : 
   pub number : Stamp
   pub later : List Call
   pub written : cs ≡ before ++ begin number ∷ later
-  pub accepted : Accepts n (run n t before) (begin number)
-  pub answers-slot : answer n (run n t before) (begin number) .slot ≡ slot .0
-  pub answers-id : answer n (run n t before) (begin number) .id ≡ id .0
+  pub answers : answer n (run n t before) (begin number) ≡ Begun slot id
   pub not-ended : Never n (after n (run n t before) (begin number)) (endOf slot id) later
-
--- the call is a transaction snapshot of (slot, id)
-abbrev pub ownOf : SlotNo → Txid → Call → Bool
-ownOf slot id (begin number) = false
-ownOf slot id (end slot′ id′) = false
-ownOf slot id (snap clock sample) = false
-ownOf slot id (own slot′ id′ clock sample) = sameTransaction slot id slot′ id′
-ownOf slot id (oldest clock sample) = false
-ownOf slot id (vacuum clock sample) = false
-ownOf slot id (stamp number) = false
-ownOf slot id (finish slot′ id′ number) = false
 
 -- the last transaction snapshot of (slot, id), by walking the calls: the begin of a transaction in the slot forgets it ..
 abbrev pub forgotten : ℕ → SlotNo → Option Snapshot → Option Snapshot
@@ -80,20 +54,15 @@ forgotten entered slot last = cond (eqb entered (slot .0)) none last
 abbrev pub replaced : SlotNo → Txid → SlotNo → Txid → Snapshot → Option Snapshot → Option Snapshot
 replaced slot id slot′ id′ s last = cond (sameTransaction slot id slot′ id′) (some s) last
 
-abbrev pub notedAccepted : ℕ → SlotNo → Txid → Table → Call → Option Snapshot → Option Snapshot
-notedAccepted n slot id t (begin number) last = forgotten (lowestEmpty (t .txids)) slot last
-notedAccepted n slot id t (end slot′ id′) last = last
-notedAccepted n slot id t (snap clock sample) last = last
-notedAccepted n slot id t (own slot′ id′ clock sample) last =
-    replaced slot id slot′ id′ (shown n t (own slot′ id′ clock sample)) last
-notedAccepted n slot id t (oldest clock sample) last = last
-notedAccepted n slot id t (vacuum clock sample) last = last
-notedAccepted n slot id t (stamp number) last = last
-notedAccepted n slot id t (finish slot′ id′ number) last = last
+abbrev pub notedDeed : Deed → ℕ → SlotNo → Txid → Table → Call → Option Snapshot → Option Snapshot
+notedDeed registers n slot id t c last = forgotten (lowestEmpty (t .txids)) slot last
+notedDeed (ends slot′ id′) n slot id t c last = last
+notedDeed (takes slot′ id′) n slot id t c last = replaced slot id slot′ id′ (shown n t c) last
+notedDeed idle n slot id t c last = last
 
 -- a refused call takes no snapshot and replaces none
 abbrev pub notedBy : Verdict → ℕ → SlotNo → Txid → Table → Call → Option Snapshot → Option Snapshot
-notedBy Pass n slot id t c last = notedAccepted n slot id t c last
+notedBy Pass n slot id t c last = notedDeed (deed c) n slot id t c last
 notedBy (Refuse r) n slot id t c last = last
 
 unfoldable pub lastFrom : ℕ → SlotNo → Txid → Table → List Call → Option Snapshot → Option Snapshot

@@ -8,7 +8,10 @@ use Rattle.kinds.specs.declared.SlotNo.{SlotNo}
 use Rattle.kinds.specs.declared.Txid.{Txid}
 use Rattle.settled.specs.declared.Snapshot.{Snapshot}
 use Rattle.settled.specs.Settled.{settledIn}
-use Rattle.model.specs.Calls.{Call, own, vacuum, answer, shown}
+use Rattle.model.specs.declared.answer.Answer.the-variants.{Line}
+use Rattle.model.specs.Tables.{lineOf}
+use Rattle.model.specs.Calls.{Call, vacuum, answer, shown}
+use Rattle.model.specs.Deeds.{takesSnapshot}
 use Rattle.model.specs.Accepted.{Registered}
 use Rattle.model.specs.History.{reached, Accepts, lastOwn}
 
@@ -18,7 +21,7 @@ SettledBelow line s = (x : ℕ) → 1 ≤ x → x < line → settledIn (s .xmax)
 
 -- the line that a history has reached: what the last accepted vacuum answered, 1 before any; what every record prints
 abbrev pub lineAfter : ℕ → List Call → ℕ
-lineAfter n cs = reached n cs .line
+lineAfter n cs = lineOf (reached n cs)
 
 -- the snapshots that are covered at the end of a history: the last transaction snapshot of each transaction then registered
 pub data Covered (n : ℕ) (cs : List Call) (s : Snapshot) : Type 0 where
@@ -33,30 +36,26 @@ pub record Promise (n : ℕ) : Type 0 where
   pub held : (cs : List Call) (s : Snapshot) → Covered n cs s → SettledBelow (lineAfter n cs) s
   -- .. and in every transaction snapshot taken later
   pub later :
-      (before after : List Call) (slot : SlotNo) (id : Txid) (clock sample : ℕ) →
-      Accepts n (reached n (before ++ after)) (own slot id clock sample) →
-      SettledBelow (lineAfter n before) (shown n (reached n (before ++ after)) (own slot id clock sample))
+      (before after : List Call) (c : Call) → takesSnapshot c ≡ true → Accepts n (reached n (before ++ after)) c →
+      SettledBelow (lineAfter n before) (shown n (reached n (before ++ after)) c)
 
--- the line that an accepted vacuum answers at the end of a history
-abbrev pub vacuumAnswer : ℕ → List Call → ℕ → ℕ → ℕ
-vacuumAnswer n cs clock sample = answer n (reached n cs) (vacuum clock sample) .line
+-- a vacuum at the end of a history answers this line: it is given out
+abbrev pub Gives : ℕ → List Call → ℕ → ℕ → ℕ → Type 0
+Gives n cs clock sample line = answer n (reached n cs) (vacuum clock sample) ≡ Line line
 
 -- the same, said of the lines that vacuum answers
 pub record VacuumPromise (n : ℕ) : Type 0 where
   -- the answer is the table's line from then on
   pub is-line :
-      (cs : List Call) (clock sample : ℕ) → Accepts n (reached n cs) (vacuum clock sample) →
-      vacuumAnswer n cs clock sample ≡ lineAfter n (cs ++ vacuum clock sample ∷ [])
+      (cs : List Call) (clock sample line : ℕ) → Gives n cs clock sample line →
+      line ≡ lineAfter n (cs ++ vacuum clock sample ∷ [])
   pub never-falls :
-      (before after : List Call) (clock sample clock′ sample′ : ℕ) → Accepts n (reached n before) (vacuum clock sample) →
-      Accepts n (reached n (before ++ vacuum clock sample ∷ after)) (vacuum clock′ sample′) →
-      vacuumAnswer n before clock sample ≤ vacuumAnswer n (before ++ vacuum clock sample ∷ after) clock′ sample′
+      (before after : List Call) (clock sample line clock′ sample′ line′ : ℕ) → Gives n before clock sample line →
+      Gives n (before ++ vacuum clock sample ∷ after) clock′ sample′ line′ → line ≤ line′
   pub held :
-      (cs : List Call) (clock sample : ℕ) → Accepts n (reached n cs) (vacuum clock sample) → (s : Snapshot) →
-      Covered n (cs ++ vacuum clock sample ∷ []) s → SettledBelow (vacuumAnswer n cs clock sample) s
+      (cs : List Call) (clock sample line : ℕ) → Gives n cs clock sample line → (s : Snapshot) →
+      Covered n (cs ++ vacuum clock sample ∷ []) s → SettledBelow line s
   pub later :
-      (before after : List Call) (clock sample : ℕ) → Accepts n (reached n before) (vacuum clock sample) →
-      (slot : SlotNo) (id : Txid) (clock′ sample′ : ℕ) →
-      Accepts n (reached n (before ++ vacuum clock sample ∷ after)) (own slot id clock′ sample′) →
-      SettledBelow (vacuumAnswer n before clock sample)
-      (shown n (reached n (before ++ vacuum clock sample ∷ after)) (own slot id clock′ sample′))
+      (before after : List Call) (clock sample line : ℕ) → Gives n before clock sample line → (c : Call) →
+      takesSnapshot c ≡ true → Accepts n (reached n (before ++ vacuum clock sample ∷ after)) c →
+      SettledBelow line (shown n (reached n (before ++ vacuum clock sample ∷ after)) c)

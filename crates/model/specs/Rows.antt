@@ -1,18 +1,24 @@
--- The twelve situations at the edges, document 01, as one list.
+-- The twelve situations at the edges, and every pair of refusals whose order a call decides, each as one list.
 use Prim.Native.Nat.{ℕ, zero, suc, _+_, _-_}
 use mathlib.Core.Path.{_≡_}
 use mathlib.Core.List.{List, [], _∷_}
-use lib.ListN.{replicate}
+use lib.ListN.{length, replicate}
 use Rattle.kinds.specs.declared.Stamp.{Stamp}
-use Rattle.kinds.specs.Kinds.{number, slot, txid}
+use Rattle.kinds.specs.declared.refusal.Refusal.the-variants.{NoFreeSlot, InvalidSlot, SlotOwnershipMismatch, ZeroTxid, ClockExhausted, BadReservation, BadClock, BadSample}
+use Rattle.kinds.specs.Kinds.{top, number, slot, txid}
+use Rattle.settled.specs.declared.Snapshot.{Snapshot}
+use Rattle.settled.specs.Snapshots.{noSnapshot}
 use Rattle.model.specs.declared.Table.{Table}
-use Rattle.model.specs.Tables.{freshTable}
-use Rattle.model.specs.Answers.{Answer, registered, done, snapped, oldestIs, lineIs}
-use Rattle.model.specs.Calls.{Call, begin, end, snap, oldest, vacuum, after, answer}
+use Rattle.model.specs.declared.answer.Answer.{Answer}
+use Rattle.model.specs.declared.answer.Answer.the-variants.{Begun, Done, Oldest, Line, Stamped, Refused}
+use Rattle.model.specs.Tally.{places}
+use Rattle.model.specs.Tables.{counted, freshTable, clockOf, lineOf}
+use Rattle.model.specs.Calls.{Call, begin, end, snap, own, oldest, vacuum, stamp, finish, after, answer, shown}
 
--- what is seen of a call: its answer, and the clock and the line after it
+-- what is seen of a call: its answer, the snapshot beside it, and the clock and the line after it
 pub record Seen : Type 0 where
   pub answers : Answer
+  pub shows : Snapshot
   pub clock : ℕ
   pub line : ℕ
 
@@ -22,10 +28,13 @@ pub record Row : Type 0 where
   pub calls : List Call
   pub sees : List Seen
 
+abbrev seenOf : ℕ → Table → Call → Seen
+seenOf n t c =
+    record { answers = answer n t c; shows = shown n t c; clock = clockOf (after n t c); line = lineOf (after n t c) }
+
 unfoldable pub seenFrom : ℕ → Table → List Call → List Seen
 seenFrom n t [] = []
-seenFrom n t (c ∷ cs) =
-    record { answers = answer n t c; clock = after n t c .clock; line = after n t c .line } ∷ seenFrom n (after n t c) cs
+seenFrom n t (c ∷ cs) = seenOf n t c ∷ seenFrom n (after n t c) cs
 
 -- every row of the list holds at n slots
 unfoldable pub RowsHold : ℕ → List Row → Type 0
@@ -39,73 +48,78 @@ from (suc n) k = k ∷ from n (k + 1)
 
 -- a table whose taken slots, from slot 0 on, retain their own txids
 abbrev holding : List ℕ → ℕ → Table
-holding ids clock = record { txids = ids; «snapshot_xmins» = ids; clock = clock; «sampled_clock» = 1; line = 1 }
+holding ids clock = record { txids = ids; «snapshot_xmins» = ids; counters = counted clock 1 1 }
 
-abbrev seen : Answer → ℕ → ℕ → Seen
-seen a clock line = record { answers = a; clock = clock; line = line }
+-- seen of a call that shows no snapshot, and of one that does
+abbrev seen : ℕ → Answer → ℕ → ℕ → Seen
+seen n a clock line = record { answers = a; shows = noSnapshot n; clock = clock; line = line }
 
-abbrev refused : ℕ → ℕ → ℕ → ℕ → Answer
-refused k slot id observed =
-    record { number = k; slot = slot; id = id; seen = observed; at = 0; xmin = 0; xmax = 0; line = 0; ids = [] }
+abbrev snapped : ℕ → ℕ → ℕ → List ℕ → ℕ → Seen
+snapped n xmin xmax ids clock =
+    record {
+      answers = Done;
+      shows = record { xmin = xmin; xmax = xmax; ids = places n ids; count = length ids };
+      clock = clock;
+      line = 1;
+    }
 
--- three slots hold 9, 4, 7
+-- three slots hold 9, 4, 7; all hold an id; all are empty, at some clock
 abbrev three : ℕ → Table
 three n = holding (9 ∷ 4 ∷ 7 ∷ replicate (n - 3) 0) 12
+
+abbrev full : ℕ → ℕ → Table
+full n clock = holding (from n 1) clock
+
+abbrev empty : ℕ → ℕ → Table
+empty n clock = holding (replicate n 0) clock
+
+-- one call on a table, and what is seen of it
+abbrev one : Table → Call → Seen → Row
+one t c s = record { start = t; calls = c ∷ []; sees = s ∷ [] }
 
 -- P1 to P12 at n slots; `any` is the number of P7's begin, which may be any
 unfoldable pub rows : ℕ → Stamp → List Row
 rows n any =
     -- P1 fresh, snap 1/1: count 0, xmin = xmax = 1
-    record { start = freshTable n; calls = snap 1 1 ∷ []; sees = seen (snapped 1 1 []) 1 1 ∷ [] }
+    one (freshTable n) (snap 1 1) (snapped n 1 1 [] 1)
     -- P2 the whole case: the stale sample 3 gives xmin 3, not 5
     ∷ record {
       start = freshTable n;
       calls = begin (number 5) ∷ snap 9 3 ∷ [];
-      sees = seen (registered 0 5) 6 1 ∷ seen (snapped 3 6 (5 ∷ [])) 9 1 ∷ [];
+      sees = seen n (Begun (slot 0) (txid 5)) 6 1 ∷ snapped n 3 6 (5 ∷ []) 9 ∷ [];
     }
     -- P3 slots 0 to 2 hold 9, 4, 7; clock 12, sample 2
-    ∷ record { start = three n; calls = snap 12 2 ∷ []; sees = seen (snapped 2 10 (9 ∷ 4 ∷ 7 ∷ [])) 12 1 ∷ [] }
+    ∷ one (three n) (snap 12 2) (snapped n 2 10 (9 ∷ 4 ∷ 7 ∷ []) 12)
     -- P4 the same, sample 12
-    ∷ record { start = three n; calls = snap 12 12 ∷ []; sees = seen (snapped 4 12 (9 ∷ 4 ∷ 7 ∷ [])) 12 1 ∷ [] }
+    ∷ one (three n) (snap 12 12) (snapped n 4 12 (9 ∷ 4 ∷ 7 ∷ []) 12)
     -- P5 full with ids from 1 on, clock 300, begin 400: refusal 1 with 400, clock 401
-    ∷ record {
-      start = holding (from n 1) 300;
-      calls = begin (number 400) ∷ [];
-      sees = seen (refused 1 0 400 0) 401 1 ∷ [];
-    }
+    ∷ one (full n 300) (begin (number 400)) (seen n (Refused (NoFreeSlot (txid 400))) 401 1)
     -- P6 clock 1, begin 2^64 − 2: accepted, clock 2^64 − 1
-    ∷ record {
-      start = freshTable n;
-      calls = begin (number 18446744073709551614) ∷ [];
-      sees = seen (registered 0 18446744073709551614) 18446744073709551615 1 ∷ [];
-    }
+    ∷ one (freshTable n) (begin (number 18446744073709551614))
+    (seen n (Begun (slot 0) (txid 18446744073709551614)) 18446744073709551615 1)
     -- P7 any begin then: 5
     ∷ record {
       start = freshTable n;
       calls = begin (number 18446744073709551614) ∷ begin any ∷ [];
       sees =
-          seen (registered 0 18446744073709551614) 18446744073709551615 1
-          ∷ seen (refused 5 0 0 0) 18446744073709551615 1
+          seen n (Begun (slot 0) (txid 18446744073709551614)) 18446744073709551615 1
+          ∷ seen n (Refused ClockExhausted) 18446744073709551615 1
           ∷ [];
     }
     -- P8 clock 1, begin 2^64 − 1: 6
-    ∷ record {
-      start = freshTable n;
-      calls = begin (number 18446744073709551615) ∷ [];
-      sees = seen (refused 6 0 0 0) 1 1 ∷ [];
-    }
+    ∷ one (freshTable n) (begin (number 18446744073709551615)) (seen n (Refused BadReservation) 1 1)
     -- P9 end, the first slot number that no slot has, id 0: 2
-    ∷ record { start = freshTable n; calls = end (slot n) (txid 0) ∷ []; sees = seen (refused 2 n 0 0) 1 1 ∷ [] }
+    ∷ one (freshTable n) (end (slot n) (txid 0)) (seen n (Refused (InvalidSlot (slot n))) 1 1)
     -- P10 end, empty slot 0, id 0: 4
-    ∷ record { start = freshTable n; calls = end (slot 0) (txid 0) ∷ []; sees = seen (refused 4 0 0 0) 1 1 ∷ [] }
+    ∷ one (freshTable n) (end (slot 0) (txid 0)) (seen n (Refused ZeroTxid) 1 1)
     -- P11 end twice: the second is 3, observed 0
     ∷ record {
       start = freshTable n;
       calls = begin (number 5) ∷ end (slot 0) (txid 5) ∷ end (slot 0) (txid 5) ∷ [];
       sees =
-          seen (registered 0 5) 6 1
-          ∷ seen done 6 1
-          ∷ seen (refused 3 0 5 0) 6 1
+          seen n (Begun (slot 0) (txid 5)) 6 1
+          ∷ seen n Done 6 1
+          ∷ seen n (Refused (SlotOwnershipMismatch (slot 0) (txid 5) (txid 0))) 6 1
           ∷ [];
     }
     -- P12 empty table, vacuum 100/100, then 100/50: line 100 both times; oldest with 50 answers 50
@@ -113,13 +127,54 @@ rows n any =
       start = freshTable n;
       calls = vacuum 100 100 ∷ vacuum 100 50 ∷ oldest 100 50 ∷ [];
       sees =
-          seen (lineIs 100) 100 100
-          ∷ seen (lineIs 100) 100 100
-          ∷ seen (oldestIs 50) 100 100
+          seen n (Line 100) 100 100
+          ∷ seen n (Line 100) 100 100
+          ∷ seen n (Oldest 50) 100 100
           ∷ [];
     }
     ∷ []
 
--- every row holds, P7 whatever its number
-abbrev pub AllRowsHold : ℕ → Type 0
-AllRowsHold n = (any : Stamp) → RowsHold n (rows n any)
+-- the registration (slot 0, 6), where slot 0 holds 9
+abbrev mismatch : Answer
+mismatch = Refused (SlotOwnershipMismatch (slot 0) (txid 6) (txid 9))
+
+-- a call that earns two refusals is given the one that its order has first; the clock of `three` is 12
+unfoldable pub orders : ℕ → List Row
+orders n =
+    -- 2 before 4, and before 3, by every call that names a registration
+    one (three n) (end (slot n) (txid 6)) (seen n (Refused (InvalidSlot (slot n))) 12 1)
+    ∷ one (three n) (own (slot n) (txid 0) 12 1) (seen n (Refused (InvalidSlot (slot n))) 12 1)
+    ∷ one (three n) (finish (slot n) (txid 0) (number 12)) (seen n (Refused (InvalidSlot (slot n))) 12 1)
+    -- 4 before 3
+    ∷ one (three n) (end (slot 0) (txid 0)) (seen n (Refused ZeroTxid) 12 1)
+    ∷ one (three n) (own (slot 0) (txid 0) 12 1) (seen n (Refused ZeroTxid) 12 1)
+    ∷ one (three n) (finish (slot 0) (txid 0) (number 12)) (seen n (Refused ZeroTxid) 12 1)
+    -- 3 before 7 and 8
+    ∷ one (three n) (own (slot 0) (txid 6) 11 1) (seen n mismatch 12 1)
+    ∷ one (three n) (own (slot 0) (txid 6) 12 0) (seen n mismatch 12 1)
+    -- 7 before 8, by every call that observes
+    ∷ one (three n) (snap 11 0) (seen n (Refused BadClock) 12 1)
+    ∷ one (three n) (own (slot 0) (txid 9) 11 12) (seen n (Refused BadClock) 12 1)
+    ∷ one (three n) (oldest 11 0) (seen n (Refused BadClock) 12 1)
+    ∷ one (three n) (vacuum 11 12) (seen n (Refused BadClock) 12 1)
+    -- 8: the sample is 0, or above the given clock
+    ∷ one (three n) (snap 12 0) (seen n (Refused BadSample) 12 1)
+    ∷ one (three n) (own (slot 0) (txid 9) 12 13) (seen n (Refused BadSample) 12 1)
+    -- 3 before 5 and 6
+    ∷ one (holding (9 ∷ replicate (n - 1) 0) top) (finish (slot 0) (txid 6) (number 1)) (seen n mismatch top 1)
+    ∷ one (three n) (finish (slot 0) (txid 6) (number 0)) (seen n mismatch 12 1)
+    -- 5 before 6, and 6 at a number below the clock, by every call that reserves
+    ∷ one (empty n top) (begin (number 0)) (seen n (Refused ClockExhausted) top 1)
+    ∷ one (empty n top) (stamp (number 0)) (seen n (Refused ClockExhausted) top 1)
+    ∷ one (holding (9 ∷ replicate (n - 1) 0) top) (finish (slot 0) (txid 9) (number 0)) (seen n (Refused ClockExhausted) top 1)
+    ∷ one (three n) (stamp (number 11)) (seen n (Refused BadReservation) 12 1)
+    ∷ one (three n) (finish (slot 0) (txid 9) (number 11)) (seen n (Refused BadReservation) 12 1)
+    -- 5 and 6 before 1
+    ∷ one (full n top) (begin (number 1)) (seen n (Refused ClockExhausted) top 1)
+    ∷ one (full n 300) (begin (number 299)) (seen n (Refused BadReservation) 300 1)
+    ∷ []
+
+-- every row holds, P7 whatever its number, and every order
+pub record AllRowsHold (n : ℕ) : Type 0 where
+  pub edges : (any : Stamp) → RowsHold n (rows n any)
+  pub in-order : RowsHold n (orders n)

@@ -5,11 +5,11 @@ mod runs;
 use kinds::SLOTS;
 use lend::ROOM;
 use lend::check_first;
+use record_check::Slot;
 use runs::empty;
 use runs::full;
 use runs::good;
 use runs::put;
-use record_check::Slot;
 
 // One line: the case's name, and the check's answer.
 fn tell(name: &[u8], passed: bool) {

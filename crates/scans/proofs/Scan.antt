@@ -9,7 +9,7 @@ use native.Mathlib.Omega.{arith}
 use lib.ListN.{length, take, drop, getD, set, replicate, length-take, length-replicate, replicate-append-replicate}
 use lib.Seq.{sets, sets-eq, drop-at, getD-take}
 use borrow.Author.Tests.{eq-eqb, ne-eqb}
-use Rattle.kinds.specs.Kinds.{nextHeld}
+use Rattle.kinds.specs.Kinds.{saturatingNext}
 use Rattle.settled.specs.declared.Snapshot.{Snapshot}
 use Rattle.model.specs.Tally.{active, minimum, maximum, places, snapshotOf}
 use Rattle.scans.proofs.Slots.{active-miss, active-hit, active-none}
@@ -99,7 +99,7 @@ module _ {sample : ℕ} {txids start : List ℕ} where
       scanned-nothing e = rw (ids-are, count-is, low-is, eq-eqb _ _ e)
 
       pub scanned-some :
-          {xmax : ℕ} → (count ≡ 0 → ⊥) → xmax ≡ max sample (nextHeld high) →
+          {xmax : ℕ} → (count ≡ 0 → ⊥) → xmax ≡ max sample (saturatingNext high) →
           _≡_ {A = Snapshot} (record { xmin = low; xmax = xmax; ids = ids; count = count }) (snapshotOf n txids sample)
       unfolding snapshotOf
       scanned-some e m = rw (ids-are, count-is, low-is, high-is, ne-eqb _ _ e, m)
@@ -133,7 +133,7 @@ module _
         rw (← size) (scanned-nothing s (omega (arith, short)) (length start) (omega (arith, short, size)) (rw size z) e)
 
     pub over-some :
-        {xmax : ℕ} → end ≤ i → (count ≡ 0 → ⊥) → xmax ≡ max sample (nextHeld high) →
+        {xmax : ℕ} → end ≤ i → (count ≡ 0 → ⊥) → xmax ≡ max sample (saturatingNext high) →
         _≡_ {A = Snapshot} (record { xmin = low; xmax = xmax; ids = ids; count = count }) (snapshotOf n (take n txids) sample)
     over-some h e m =
         rw (← size) (scanned-some s (omega (arith, short)) (length start) (omega (arith, short, size)) (rw size z) e m)

@@ -41,7 +41,7 @@ pub fn take_snapshot(txids: &[u64], sample: u64) -> Snapshot
             count,
         };
     }
-    let above = kinds::next_held(high);
+    let above = kinds::saturating_next(high);
     let xmax = kinds::greater(sample, above);
     Snapshot {
         xmin: low,

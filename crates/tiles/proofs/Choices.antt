@@ -79,32 +79,34 @@ module _ (n : ℕ) (shown : Snapshot) (maker : Txid) (older olderUsed newer newe
   abbrev may-use : Bool
   may-use = settledIn (shown .xmax) (shown .ids) (shown .count) (maker .0)
 
+  -- by the settled answer, and what `fitting` made of it
   pub choice-yes :
-      paperSettled Yes ≡ settledTest n (shown .xmax) (shown .ids) (shown .count) maker →
-      choice n shown maker older olderUsed newer newerUsed ≡ fitted (lengthTest older olderUsed newer newerUsed) Newer
+      (r : Choice) → paperSettled Yes ≡ settledTest n (shown .xmax) (shown .ids) (shown .count) maker →
+      r ≡ fitted (lengthTest older olderUsed newer newerUsed) Newer → r ≡ choice n shown maker older olderUsed newer newerUsed
   unfolding settledTest choice
-  choice-yes e = by-yes first-two may-use lengths e
+  choice-yes r e f = f ∙ sym (by-yes first-two may-use lengths e)
 
   pub choice-no :
-      paperSettled No ≡ settledTest n (shown .xmax) (shown .ids) (shown .count) maker →
-      choice n shown maker older olderUsed newer newerUsed ≡ fitted (lengthTest older olderUsed newer newerUsed) Older
+      (r : Choice) → paperSettled No ≡ settledTest n (shown .xmax) (shown .ids) (shown .count) maker →
+      r ≡ fitted (lengthTest older olderUsed newer newerUsed) Older → r ≡ choice n shown maker older olderUsed newer newerUsed
   unfolding settledTest choice
-  choice-no e = by-no first-two may-use lengths e
+  choice-no r e f = f ∙ sym (by-no first-two may-use lengths e)
 
   pub choice-refused :
       (r : Refusal) → paperSettled (Unanswered r) ≡ settledTest n (shown .xmax) (shown .ids) (shown .count) maker →
-      choice n shown maker older olderUsed newer newerUsed ≡ Refused r
+      Refused r ≡ choice n shown maker older olderUsed newer newerUsed
   unfolding settledTest choice
-  choice-refused r e = by-refused r first-two may-use lengths e
+  choice-refused r e = sym (by-refused r first-two may-use lengths e)
 
-  pub newer-within : choice n shown maker older olderUsed newer newerUsed ≡ Newer → newerUsed ≤ newer
+  -- the chosen run has its used bytes
+  pub newer-within : (r : Choice) → r ≡ choice n shown maker older olderUsed newer newerUsed → r ≡ Newer → newerUsed ≤ newer
   unfolding choice
-  newer-within e =
-      let passed = then-pass first-two lengths (newer-passed (then first-two lengths) may-use e) in
+  newer-within r p e =
+      let passed = then-pass first-two lengths (newer-passed (then first-two lengths) may-use (sym p ∙ e)) in
       within older olderUsed newer newerUsed (passed .1) .1
 
-  pub older-within : choice n shown maker older olderUsed newer newerUsed ≡ Older → olderUsed ≤ older
+  pub older-within : (r : Choice) → r ≡ choice n shown maker older olderUsed newer newerUsed → r ≡ Older → olderUsed ≤ older
   unfolding choice
-  older-within e =
-      let passed = then-pass first-two lengths (older-passed (then first-two lengths) may-use e) in
+  older-within r p e =
+      let passed = then-pass first-two lengths (older-passed (then first-two lengths) may-use (sym p ∙ e)) in
       within older olderUsed newer newerUsed (passed .1) .0

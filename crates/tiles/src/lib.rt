@@ -4,7 +4,6 @@ use kinds::Txid;
 use settled::Settled;
 use settled::Snapshot;
 ghost use mathlib.Core.Path.{_≡_};
-ghost use Rattle.kinds.specs.Refusals.{told};
 ghost use Rattle.tiles.specs.Tiles.{choice, fitted, lengthTest, PartFits, tileOf};
 
 // Which coding is handed out, or why none.
@@ -49,25 +48,6 @@ fn choose(
         Settled::Yes => fitting(Choice::Newer, older, older_used, newer, newer_used),
         Settled::No => fitting(Choice::Older, older, older_used, newer, newer_used),
         Settled::Refused(refusal) => Choice::Refused(refusal),
-    }
-}
-
-// The number of a refusal.
-fn number_of(refusal: Refusal) -> u64
-    ensures { λ r. ⌜ r ≡ told refusal .number ⌝ }
-{
-    match refusal {
-        Refusal::NoFreeSlot(_) => 1,
-        Refusal::InvalidSlot(_) => 2,
-        Refusal::SlotOwnershipMismatch { .. } => 3,
-        Refusal::ZeroTxid => 4,
-        Refusal::ClockExhausted => 5,
-        Refusal::BadReservation => 6,
-        Refusal::BadClock => 7,
-        Refusal::BadSample => 8,
-        Refusal::BadTrace(_) => 9,
-        Refusal::BadSnapshot => 10,
-        Refusal::BadLength => 11,
     }
 }
 
@@ -126,6 +106,9 @@ pub fn used_refusal(
     match choice {
         Choice::Newer => 0,
         Choice::Older => 0,
-        Choice::Refused(refusal) => number_of(refusal),
+        Choice::Refused(refusal) => {
+            let said = kinds::tell(refusal);
+            said.number
+        }
     }
 }

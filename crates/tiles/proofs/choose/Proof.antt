@@ -1,5 +1,4 @@
 use Rattle.tiles.proofs.Choices.{choice-yes, choice-no, choice-refused}
-use mathlib.Core.Path.{_≡_, sym, _∙_}
 use borrow.Author.Needs.{needs}
 use Rattle.tiles.proofs.choose.Statement.{statement}
 use Rattle.tiles.proofs.choose.Tie as tie
@@ -25,17 +24,17 @@ enum-known-said c = search needs
 returns : tie.Need-returns
 returns c =
     let said = rw (c .before .enum-told .given .1) at (c .before .before .before .is-settled .ensures) in
-    c .fitting .ensures ∙ sym (choice-yes _ _ _ _ _ _ _ said)
+    choice-yes _ _ _ _ _ _ _ _ said (c .fitting .ensures)
 
 returns-2 : tie.Need-returns-2
 returns-2 c =
     let said = rw (c .before .enum-told2 .given .1) at (c .before .before .before .is-settled .ensures) in
-    c .fitting2 .ensures ∙ sym (choice-no _ _ _ _ _ _ _ said)
+    choice-no _ _ _ _ _ _ _ _ said (c .fitting2 .ensures)
 
 returns-3 : tie.Need-returns-3
 returns-3 c =
     let said = rw (c .before .said .given .1) at (c .before .before .before .is-settled .ensures) in
-    sym (choice-refused _ _ _ _ _ _ _ _ said)
+    choice-refused _ _ _ _ _ _ _ _ said
 
 pub choose-spec : {M : Type 1} → statement M
 choose-spec =

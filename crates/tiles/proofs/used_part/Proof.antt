@@ -1,7 +1,6 @@
 use Rattle.tiles.proofs.Choices.{newer-within, older-within}
 use lib.ListN.{length, take, length-take}
 use native.Mathlib.Omega.{arith}
-use mathlib.Core.Path.{_≡_, sym, _∙_}
 use borrow.Author.Needs.{needs}
 use Rattle.tiles.proofs.used_part.Statement.{statement}
 use Rattle.tiles.proofs.used_part.Tie as tie
@@ -14,8 +13,7 @@ enum-told c = search needs
 
 slice-aggregate-result : tie.Need-slice-aggregate-result
 slice-aggregate-result c =
-    let b = c .before .before .before in
-    let fits = newer-within _ _ _ _ _ _ _ (sym (b .choose .ensures) ∙ c .before .enum-told .given .1) in
+    let fits = newer-within _ _ _ _ _ _ _ _ (c .before .before .before .choose .ensures) (c .before .enum-told .given .1) in
     rw length-take (omega (arith, fits))
 
 returns : tie.Need-returns
@@ -26,8 +24,7 @@ enum-told-2 c = search needs
 
 slice-aggregate-result-2 : tie.Need-slice-aggregate-result-2
 slice-aggregate-result-2 c =
-    let b = c .before .before .before in
-    let fits = older-within _ _ _ _ _ _ _ (sym (b .choose .ensures) ∙ c .before .enum-told2 .given .1) in
+    let fits = older-within _ _ _ _ _ _ _ _ (c .before .before .before .choose .ensures) (c .before .enum-told2 .given .1) in
     rw length-take (omega (arith, fits))
 
 returns-2 : tie.Need-returns-2

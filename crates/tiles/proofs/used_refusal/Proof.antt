@@ -1,3 +1,5 @@
+use Rattle.kinds.specs.declared.told.Told.{Told}
+use mathlib.Core.Path.{_≡_, ap}
 use borrow.Author.Needs.{needs}
 use Rattle.tiles.proofs.used_refusal.Statement.{statement}
 use Rattle.tiles.proofs.used_refusal.Tie as tie
@@ -14,8 +16,8 @@ enum-told-2 c = search needs
 enum-known-choice : tie.Need-enum-known-choice
 enum-known-choice c = search needs
 
-number-of-requires : tie.Need-number-of-requires
-number-of-requires c κs = search needs
+tell-requires : tie.Need-tell-requires
+tell-requires c κs = search needs
 
 returns : tie.Need-returns
 returns c = rw (← c .before .before .choose .ensures, c .enum-told .given .1)
@@ -24,7 +26,9 @@ returns-2 : tie.Need-returns-2
 returns-2 c = rw (← c .before .before .choose .ensures, c .enum-told2 .given .1)
 
 returns-3 : tie.Need-returns-3
-returns-3 c = rw (← c .before .before .before .before .choose .ensures, c .before .before .choice .given .1) (c .number-of .ensures)
+returns-3 c =
+    let b = c .before .before .before .before in
+    rw (← b .choose .ensures, c .before .before .choice .given .1) (ap (λ (t : Told). t .number) (c .tell .ensures))
 
 pub used-refusal-spec : {M : Type 1} → statement M
 used-refusal-spec =
@@ -34,7 +38,7 @@ used-refusal-spec =
     enum-told
     enum-told-2
     enum-known-choice
-    number-of-requires
+    tell-requires
     returns
     returns-2
     returns-3)

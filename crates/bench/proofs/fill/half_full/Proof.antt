@@ -45,8 +45,8 @@ loop-less-2 c = search needs
 loop-again-2 : tie.Need-loop-again-2 Inv-loop μ-loop
 loop-again-2 c = search needs
 
-next-held-requires : tie.Need-next-held-requires Inv-loop μ-loop
-next-held-requires c κs = search needs
+saturating-next-requires : tie.Need-saturating-next-requires Inv-loop μ-loop
+saturating-next-requires c κs = search needs
 
 returns : tie.Need-returns Inv-loop μ-loop
 returns c = search needs
@@ -69,5 +69,5 @@ half-full-spec =
     loop-again
     loop-less-2
     loop-again-2
-    next-held-requires
+    saturating-next-requires
     returns)

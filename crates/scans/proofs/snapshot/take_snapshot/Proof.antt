@@ -84,8 +84,8 @@ returns c =
     let t = c .before .before .before .before .before .before .args .txids .now in
     over-nothing _ t (l .inv) z e (omega arith) (c .if2 .taken)
 
-next-held-requires : tie.Need-next-held-requires Inv-loop μ-loop
-next-held-requires c κs = search needs
+saturating-next-requires : tie.Need-saturating-next-requires Inv-loop μ-loop
+saturating-next-requires c κs = search needs
 
 greater-requires-2 : tie.Need-greater-requires-2 Inv-loop μ-loop
 greater-requires-2 c κs = search needs
@@ -96,7 +96,7 @@ returns-2 c =
     let z = c .before .before .before .before .before .zeros .ensures in
     let e = c .before .before .before .before .before .before .shorter .ensures in
     let a = c .before .before .before .before .before .before .before .before .args in
-    let xmax = c .greater2 .ensures ∙ ap (max (a .sample)) (c .before .next-held .ensures) in
+    let xmax = c .greater2 .ensures ∙ ap (max (a .sample)) (c .before .saturating-next .ensures) in
     over-some _ (a .txids .now) (l .inv) z e (omega arith) (c .before .before .if2 .left) xmax
 
 pub take-snapshot-spec : {M : Type 1} → statement M
@@ -121,6 +121,6 @@ take-snapshot-spec =
     loop-less-2
     loop-again-2
     returns
-    next-held-requires
+    saturating-next-requires
     greater-requires-2
     returns-2)

@@ -1,0 +1,12 @@
+use borrow.Author.Needs.{needs}
+use Rattle.changes.proofs.counters.reserved.Statement.{statement}
+use Rattle.changes.proofs.counters.reserved.Tie as tie
+
+saturating-next-requires : tie.Need-saturating-next-requires
+saturating-next-requires c κs = search needs
+
+returns : tie.Need-returns
+returns c = rw (c .saturating-next .ensures)
+
+pub reserved-spec : {M : Type 1} → statement M
+reserved-spec = tie.close (tie.spec saturating-next-requires returns)

@@ -1,0 +1,161 @@
+-- Each case of a refusal: the numbers that the case of `told` gives, by the arm that was taken.
+use Rattle.kinds.specs.Refusals.{told}
+use borrow.Author.Needs.{needs}
+use Rattle.kinds.proofs.told.tell.Statement.{statement}
+use Rattle.kinds.proofs.told.tell.Tie as tie
+
+enum-known-r : tie.Need-enum-known-r
+enum-known-r c = search needs
+
+numbers-requires : tie.Need-numbers-requires
+numbers-requires c κs = search needs
+
+enum-known-r-2 : tie.Need-enum-known-r-2
+enum-known-r-2 c = search needs
+
+cast-numbers : tie.Need-cast-numbers
+cast-numbers c = search needs
+
+numbers-requires-2 : tie.Need-numbers-requires-2
+numbers-requires-2 c κs = search needs
+
+enum-known-r-3 : tie.Need-enum-known-r-3
+enum-known-r-3 c = search needs
+
+cast-numbers-2 : tie.Need-cast-numbers-2
+cast-numbers-2 c = search needs
+
+numbers-requires-3 : tie.Need-numbers-requires-3
+numbers-requires-3 c κs = search needs
+
+enum-told : tie.Need-enum-told
+enum-told c = search needs
+
+bare-number-requires : tie.Need-bare-number-requires
+bare-number-requires c κs = search needs
+
+enum-told-2 : tie.Need-enum-told-2
+enum-told-2 c = search needs
+
+bare-number-requires-2 : tie.Need-bare-number-requires-2
+bare-number-requires-2 c κs = search needs
+
+enum-told-3 : tie.Need-enum-told-3
+enum-told-3 c = search needs
+
+bare-number-requires-3 : tie.Need-bare-number-requires-3
+bare-number-requires-3 c κs = search needs
+
+enum-told-4 : tie.Need-enum-told-4
+enum-told-4 c = search needs
+
+bare-number-requires-4 : tie.Need-bare-number-requires-4
+bare-number-requires-4 c κs = search needs
+
+enum-told-5 : tie.Need-enum-told-5
+enum-told-5 c = search needs
+
+bare-number-requires-5 : tie.Need-bare-number-requires-5
+bare-number-requires-5 c κs = search needs
+
+enum-known-r-4 : tie.Need-enum-known-r-4
+enum-known-r-4 c = search needs
+
+numbers-requires-4 : tie.Need-numbers-requires-4
+numbers-requires-4 c κs = search needs
+
+enum-told-6 : tie.Need-enum-told-6
+enum-told-6 c = search needs
+
+bare-number-requires-6 : tie.Need-bare-number-requires-6
+bare-number-requires-6 c κs = search needs
+
+enum-told-7 : tie.Need-enum-told-7
+enum-told-7 c = search needs
+
+bare-number-requires-7 : tie.Need-bare-number-requires-7
+bare-number-requires-7 c κs = search needs
+
+returns : tie.Need-returns
+unfolding told
+returns c = rw (c .before .before .r .given .1) (c .numbers .ensures)
+
+returns-2 : tie.Need-returns-2
+unfolding told
+returns-2 c = rw (c .before .before .before .r2 .given .1) (c .numbers2 .ensures)
+
+returns-3 : tie.Need-returns-3
+unfolding told
+returns-3 c = rw (c .before .before .before .r3 .given .1) (c .numbers3 .ensures)
+
+returns-4 : tie.Need-returns-4
+unfolding told
+returns-4 c = rw (c .before .enum-told .given .1) (c .bare-number .ensures)
+
+returns-5 : tie.Need-returns-5
+unfolding told
+returns-5 c = rw (c .before .enum-told2 .given .1) (c .bare-number2 .ensures)
+
+returns-6 : tie.Need-returns-6
+unfolding told
+returns-6 c = rw (c .before .enum-told3 .given .1) (c .bare-number3 .ensures)
+
+returns-7 : tie.Need-returns-7
+unfolding told
+returns-7 c = rw (c .before .enum-told4 .given .1) (c .bare-number4 .ensures)
+
+returns-8 : tie.Need-returns-8
+unfolding told
+returns-8 c = rw (c .before .enum-told5 .given .1) (c .bare-number5 .ensures)
+
+returns-9 : tie.Need-returns-9
+unfolding told
+returns-9 c = rw (c .before .before .r4 .given .1) (c .numbers4 .ensures)
+
+returns-10 : tie.Need-returns-10
+unfolding told
+returns-10 c = rw (c .before .enum-told6 .given .1) (c .bare-number6 .ensures)
+
+returns-11 : tie.Need-returns-11
+unfolding told
+returns-11 c = rw (c .before .enum-told7 .given .1) (c .bare-number7 .ensures)
+
+pub tell-spec : {M : Type 1} → statement M
+tell-spec =
+    tie.close
+    (tie.spec
+    enum-known-r
+    numbers-requires
+    enum-known-r-2
+    cast-numbers
+    numbers-requires-2
+    enum-known-r-3
+    cast-numbers-2
+    numbers-requires-3
+    enum-told
+    bare-number-requires
+    enum-told-2
+    bare-number-requires-2
+    enum-told-3
+    bare-number-requires-3
+    enum-told-4
+    bare-number-requires-4
+    enum-told-5
+    bare-number-requires-5
+    enum-known-r-4
+    numbers-requires-4
+    enum-told-6
+    bare-number-requires-6
+    enum-told-7
+    bare-number-requires-7
+    returns
+    returns-2
+    returns-3
+    returns-4
+    returns-5
+    returns-6
+    returns-7
+    returns-8
+    returns-9
+    returns-10
+    returns-11)

@@ -1,0 +1,57 @@
+// What a call answers, and the records in which an answer stands beside what the call changed.
+use crate::Change;
+use crate::Table;
+use kinds::Refusal;
+use kinds::SlotNo;
+use kinds::Stamp;
+use kinds::Told;
+use kinds::Txid;
+use settled::Snapshot;
+
+pub enum Answer {
+    // Begin: the slot taken, and the id.
+    Begun { slot: SlotNo, id: Txid },
+    // End, and the snapshot calls, whose snapshot stands beside the answer.
+    Done,
+    // Oldest: the oldest retained xmin.
+    Oldest(u64),
+    // Vacuum: the line.
+    Line(u64),
+    // Stamp and finish: the stamp.
+    Stamped(Stamp),
+    Refused(Refusal),
+}
+
+// An answer as numbers, beside the vacuum line after the call and the length of the list of ids; what isn't given is 0.
+pub struct Numbers {
+    pub told: Told,
+    pub xmin: u64,
+    pub xmax: u64,
+    pub vacuum_line: u64,
+    pub count: u64,
+}
+
+// What a call decides on lent columns: who owns the table makes the change.
+pub struct Decision {
+    pub change: Change,
+    pub answer: Answer,
+}
+
+// Of a snapshot call. Beside a refusal stands the snapshot of zeros.
+pub struct SnapshotDecision {
+    pub change: Change,
+    pub answer: Answer,
+    pub snapshot: Snapshot,
+}
+
+// What comes back from a call on a table by value.
+pub struct Outcome {
+    pub table: Table,
+    pub answer: Answer,
+}
+
+pub struct SnapshotOutcome {
+    pub table: Table,
+    pub answer: Answer,
+    pub snapshot: Snapshot,
+}
