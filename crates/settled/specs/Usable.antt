@@ -7,7 +7,8 @@ use lib.Dec.{eqb}
 use Rattle.kinds.specs.declared.Txid.{Txid}
 use Rattle.kinds.specs.declared.refusal.Verdict.{Verdict}
 use Rattle.kinds.specs.declared.refusal.Verdict.the-variants.{Pass, Refuse}
-use Rattle.kinds.specs.Refusals.{Told, told, accepted}
+use Rattle.kinds.specs.declared.told.Told.{Told}
+use Rattle.kinds.specs.Refusals.{told, accepted}
 use Rattle.kinds.specs.Verdicts.{then, zeroTest}
 use Rattle.settled.specs.declared.usable.Usable.{Usable}
 use Rattle.settled.specs.declared.usable.Usable.the-variants.{Yes, No, Refused}

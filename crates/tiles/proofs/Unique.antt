@@ -8,8 +8,8 @@ use Rattle.settled.specs.declared.Snapshot.{Snapshot}
 use Rattle.tiles.specs.Tiles.{Bytes, Part, PartFits}
 
 pub part-unique :
-    (n : ℕ) (shown : Snapshot) (maker : Txid) (older : Bytes) (olderUsed : ℕ) (newer : Bytes) (newerUsed : ℕ) (r s : Bytes) →
-    PartFits n shown maker older olderUsed newer newerUsed r → PartFits n shown maker older olderUsed newer newerUsed s →
+    (n : ℕ) (shown : Snapshot) (own maker : Txid) (older : Bytes) (olderUsed : ℕ) (newer : Bytes) (newerUsed : ℕ) (r s : Bytes) →
+    PartFits n shown own maker older olderUsed newer newerUsed r → PartFits n shown own maker older olderUsed newer newerUsed s →
     (now r ≡ now s) × (ptr r ≡ ptr s)
-part-unique n shown maker older olderUsed newer newerUsed r s p q =
+part-unique n shown own maker older olderUsed newer newerUsed r s p q =
     (ap (λ (x : Part). x .bytes) (p ∙ sym q), ap (λ (x : Part). x .start) (p ∙ sym q))

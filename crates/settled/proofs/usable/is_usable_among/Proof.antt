@@ -13,7 +13,7 @@ enum-told-2 : tie.Need-enum-told-2
 enum-told-2 c = search needs
 
 returns : tie.Need-returns
-returns c = 
+returns c =
     let b = c .before .before .before in
     let said = rw (b .enum-told2 .given .1) at (b .before .before .is-settled-among .ensures) in
     usable-own _ _ _ _ _ _ said (c .if1 .taken)
@@ -22,18 +22,18 @@ enum-known-said : tie.Need-enum-known-said
 enum-known-said c = search needs
 
 returns-2 : tie.Need-returns-2
-returns-2 c = 
+returns-2 c =
     let said = rw (c .enum-told .given .1) at (c .before .before .is-settled-among .ensures) in
     usable-settled _ _ _ _ _ _ said
 
 returns-3 : tie.Need-returns-3
-returns-3 c = 
+returns-3 c =
     let b = c .before .before .before in
     let said = rw (b .enum-told2 .given .1) at (b .before .before .is-settled-among .ensures) in
     usable-neither _ _ _ _ _ _ said (c .if1 .left)
 
 returns-4 : tie.Need-returns-4
-returns-4 c = 
+returns-4 c =
     let said = rw (c .before .said .given .1) at (c .before .before .before .is-settled-among .ensures) in
     usable-refused _ _ _ _ _ _ _ said
 
