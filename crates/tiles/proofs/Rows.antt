@@ -15,10 +15,14 @@ shown count = record { xmin = 10; xmax = 20; ids = 10 ∷ 14 ∷ 0 ∷ 0 ∷ [];
 abbrev run : ℕ → List ℕ → Bytes
 run block bytes = record { ptr = (block, 0); name = 0; now = bytes }
 
--- a count, a maker, and the two used lengths
+-- a count, the reader's own id, a maker, and the two used lengths
+abbrev read : ℕ → ℕ → ℕ → ℕ → ℕ → Tile
+read count own maker olderUsed newerUsed =
+    tileOf 4 (shown count) (txid own) (txid maker) (run 7 (1 ∷ 2 ∷ 3 ∷ [])) olderUsed (run 8 (4 ∷ 5 ∷ [])) newerUsed
+
+-- by a reader with no id
 abbrev asked : ℕ → ℕ → ℕ → ℕ → Tile
-asked count maker olderUsed newerUsed =
-    tileOf 4 (shown count) (txid maker) (run 7 (1 ∷ 2 ∷ 3 ∷ [])) olderUsed (run 8 (4 ∷ 5 ∷ [])) newerUsed
+asked count maker olderUsed newerUsed = read count 0 maker olderUsed newerUsed
 
 abbrev of-older : List ℕ → Tile
 of-older bytes = record { refusal = 0; part = record { bytes = bytes; start = (7, 0) } }
@@ -56,3 +60,11 @@ pub order :
     ≡ refused 10 ∷ refused 10 ∷ refused 10 ∷ refused 10 ∷ refused 4 ∷ refused 4 ∷ []
 unfolding choice listed told
 order = refl
+
+-- a transaction reads its own coding back: in flight, at xmax, beside others, and never where a refusal is given
+pub own :
+    read 2 14 14 3 2 ∷ read 2 20 20 3 2 ∷ read 2 10 14 3 2 ∷ read 2 14 9 3 2 ∷ read 2 14 14 4 2 ∷ read 5 14 14 3 2 ∷ []
+    ≡ of-newer (4 ∷ 5 ∷ []) ∷ of-newer (4 ∷ 5 ∷ []) ∷ of-older (1 ∷ 2 ∷ 3 ∷ []) ∷ of-newer (4 ∷ 5 ∷ []) ∷ refused 11
+    ∷ refused 10 ∷ []
+unfolding choice listed told
+own = refl

@@ -13,7 +13,8 @@ use Rattle.kinds.specs.declared.refusal.Verdict.the-variants.{Pass, Refuse}
 use Rattle.kinds.specs.Refusals.{told}
 use Rattle.kinds.specs.Verdicts.{then, zeroTest}
 use Rattle.settled.specs.declared.Snapshot.{Snapshot}
-use Rattle.settled.specs.Settled.{settledIn, countTest}
+use Rattle.settled.specs.Settled.{countTest}
+use Rattle.settled.specs.Usable.{usableIn}
 use Rattle.tiles.specs.declared.Choice.{Choice}
 use Rattle.tiles.specs.declared.Choice.the-variants.{Newer, Older, Refused}
 
@@ -31,12 +32,12 @@ chosen (Refuse r) usable = Refused r
 chosen Pass true = Newer
 chosen Pass false = Older
 
--- 10, 4, 11, then the newer coding if its maker is settled, else the older. Of the runs it reads their lengths
-unfoldable pub choice : ℕ → Snapshot → Txid → ℕ → ℕ → ℕ → ℕ → Choice
-choice n shown maker older olderUsed newer newerUsed =
+-- 10, 4, 11, then the newer coding if its maker is usable, else the older. Of the runs it reads their lengths
+unfoldable pub choice : ℕ → Snapshot → Txid → Txid → ℕ → ℕ → ℕ → ℕ → Choice
+choice n shown own maker older olderUsed newer newerUsed =
     chosen
     (then (then (countTest n (shown .count)) (zeroTest maker)) (lengthTest older olderUsed newer newerUsed))
-    (settledIn (shown .xmax) (shown .ids) (shown .count) (maker .0))
+    (usableIn (shown .xmax) (shown .ids) (shown .count) (own .0) (maker .0))
 
 -- a lent run of bytes
 abbrev pub Bytes : Type 0
@@ -65,16 +66,21 @@ handed Newer older olderUsed newer newerUsed = record { refusal = 0; part = firs
 handed Older older olderUsed newer newerUsed = record { refusal = 0; part = first olderUsed older }
 handed (Refused r) older olderUsed newer newerUsed = record { refusal = told r .number; part = first 0 older }
 
-abbrev pub tileOf : ℕ → Snapshot → Txid → Bytes → ℕ → Bytes → ℕ → Tile
-tileOf n shown maker older olderUsed newer newerUsed =
+abbrev pub tileOf : ℕ → Snapshot → Txid → Txid → Bytes → ℕ → Bytes → ℕ → Tile
+tileOf n shown own maker older olderUsed newer newerUsed =
     handed
-    (choice n shown maker (length (now older)) olderUsed (length (now newer)) newerUsed)
+    (choice n shown own maker (length (now older)) olderUsed (length (now newer)) newerUsed)
     older
     olderUsed
     newer
     newerUsed
 
 -- what `used_part` promises of the part that it hands out
-abbrev pub PartFits : ℕ → Snapshot → Txid → Bytes → ℕ → Bytes → ℕ → Bytes → Type 0
-PartFits n shown maker older olderUsed newer newerUsed r =
-    whole r ≡ tileOf n shown maker older olderUsed newer newerUsed .part
+abbrev pub PartFits : ℕ → Snapshot → Txid → Txid → Bytes → ℕ → Bytes → ℕ → Bytes → Type 0
+PartFits n shown own maker older olderUsed newer newerUsed r =
+    whole r ≡ tileOf n shown own maker older olderUsed newer newerUsed .part
+
+-- what `used_refusal` promises of its number
+abbrev pub NumberFits : ℕ → Snapshot → Txid → Txid → Bytes → ℕ → Bytes → ℕ → ℕ → Type 0
+NumberFits n shown own maker older olderUsed newer newerUsed r =
+    r ≡ tileOf n shown own maker older olderUsed newer newerUsed .refusal

@@ -20,6 +20,7 @@ fn shown(count: usize) -> Snapshot {
 fn show<'a>(
     label: &[u8],
     count: usize,
+    own: u64,
     maker: u64,
     older: &'a [u8],
     older_used: usize,
@@ -27,9 +28,10 @@ fn show<'a>(
     newer_used: usize,
 ) {
     let seen = shown(count);
+    let reader = Txid(own);
     let id = Txid(maker);
-    let number = tiles::used_refusal(seen, id, older, older_used, newer, newer_used);
-    let part = tiles::used_part(seen, id, older, older_used, newer, newer_used);
+    let number = tiles::used_refusal(seen, reader, id, older, older_used, newer, newer_used);
+    let part = tiles::used_part(seen, reader, id, older, older_used, newer, newer_used);
     io::write_all(1, label);
     io::write_all(1, b": refusal=");
     io::print_decimal(1, number);
@@ -38,11 +40,12 @@ fn show<'a>(
     io::write_all(1, b"\n");
 }
 
-// Asked of a run of five bytes and one of three.
-fn ask(label: &[u8], count: usize, maker: u64, older_used: usize, newer_used: usize) {
+// Asked of a run of five bytes and one of three, by the reader with this id.
+fn read(label: &[u8], count: usize, own: u64, maker: u64, older_used: usize, newer_used: usize) {
     show(
         label,
         count,
+        own,
         maker,
         b"older",
         older_used,
@@ -51,14 +54,19 @@ fn ask(label: &[u8], count: usize, maker: u64, older_used: usize, newer_used: us
     );
 }
 
+// By a reader with no id.
+fn ask(label: &[u8], count: usize, maker: u64, older_used: usize, newer_used: usize) {
+    read(label, count, 0, maker, older_used, newer_used);
+}
+
 fn choices() {
     ask(b"settled", 2, 9, 5, 3);
     ask(b"listed", 2, 14, 5, 3);
     ask(b"at xmax", 2, 20, 5, 3);
     ask(b"past the count", 1, 14, 5, 3);
     ask(b"a full list", SLOTS, 9, 5, 3);
-    show(b"equal runs, settled", 2, 9, b"same", 4, b"same", 4);
-    show(b"equal runs, listed", 2, 10, b"same", 3, b"same", 4);
+    show(b"equal runs, settled", 2, 0, 9, b"same", 4, b"same", 4);
+    show(b"equal runs, listed", 2, 0, 10, b"same", 3, b"same", 4);
 }
 
 fn lengths() {
@@ -71,8 +79,8 @@ fn lengths() {
     ask(b"older one beyond, chosen", 2, 10, 6, 3);
     ask(b"older one beyond, not chosen", 2, 9, 6, 3);
     ask(b"the largest length", 2, 9, 5, 18446744073709551615);
-    show(b"empty runs", 2, 9, b"", 0, b"", 0);
-    show(b"one byte of an empty run", 2, 10, b"", 0, b"", 1);
+    show(b"empty runs", 2, 0, 9, b"", 0, b"", 0);
+    show(b"one byte of an empty run", 2, 0, 10, b"", 0, b"", 1);
 }
 
 fn orders() {
@@ -84,8 +92,20 @@ fn orders() {
     ask(b"4 before 11", 2, 0, 5, 4);
 }
 
+// What a transaction made itself it may read, although it is in flight.
+fn own_tiles() {
+    read(b"own, in flight", 2, 14, 14, 5, 3);
+    read(b"own, at xmax", 2, 20, 20, 5, 3);
+    read(b"another's, in flight", 2, 10, 14, 5, 3);
+    read(b"another's, settled", 2, 14, 9, 5, 3);
+    read(b"own, 10 first", SLOTS + 1, 14, 14, 5, 3);
+    read(b"own, 4 first", 2, 14, 0, 5, 3);
+    read(b"own, one beyond", 2, 14, 14, 5, 4);
+}
+
 fn main() {
     choices();
     lengths();
     orders();
+    own_tiles();
 }

@@ -1,4 +1,4 @@
-//! Which bytes a tile's decoder gets, in plain Rust.
+//! Which versions a reader may use, and which bytes a tile's decoder gets, in plain Rust.
 
 use crate::table::SLOTS;
 
@@ -21,14 +21,20 @@ pub fn settled(seen: &Seen, id: u64) -> Result<bool, u8> {
     Ok(id < seen.xmax && !listed)
 }
 
-/// The used part of the newer coding if its maker is settled, else of the older; or refusal 10, 4 or 11.
+/// Refusal 10 or 4, or whether the id is settled or the reader's own (0 for none).
+pub fn usable(seen: &Seen, own: u64, id: u64) -> Result<bool, u8> {
+    Ok(settled(seen, id)? || own == id)
+}
+
+/// The used part of the newer coding if the reader may use it, else of the older; or refusal 10, 4 or 11.
 pub fn right_bytes<'a>(
     seen: &Seen,
+    own: u64,
     maker: u64,
     (older, older_used): (&'a [u8], usize),
     (newer, newer_used): (&'a [u8], usize),
 ) -> Result<&'a [u8], u8> {
-    let from_newer = settled(seen, maker)?;
+    let from_newer = usable(seen, own, maker)?;
     let older = older.get(..older_used).ok_or(11)?;
     let newer = newer.get(..newer_used).ok_or(11)?;
     Ok(if from_newer { newer } else { older })

@@ -5,14 +5,14 @@ use twin::tiles::{Seen, right_bytes};
 
 type Runs<'a> = ((&'a [u8], usize), (&'a [u8], usize));
 
-/// A label, the count, the newer coding's maker, and the two codings.
-fn line(label: &str, count: usize, maker: u64, (older, newer): Runs) -> String {
+/// A label, the count, the reader's own id, the newer coding's maker, and the two codings.
+fn read(label: &str, count: usize, own: u64, maker: u64, (older, newer): Runs) -> String {
     let seen = Seen {
         xmax: 20,
         ids: &[10, 14],
         count,
     };
-    let (refusal, part) = match right_bytes(&seen, maker, older, newer) {
+    let (refusal, part) = match right_bytes(&seen, own, maker, older, newer) {
         Ok(part) => (0, part),
         Err(number) => (number, &b""[..]),
     };
@@ -20,6 +20,11 @@ fn line(label: &str, count: usize, maker: u64, (older, newer): Runs) -> String {
         "{label}: refusal={refusal} part={}\n",
         String::from_utf8_lossy(part)
     )
+}
+
+/// The same, by a reader with no id.
+fn line(label: &str, count: usize, maker: u64, runs: Runs) -> String {
+    read(label, count, 0, maker, runs)
 }
 
 fn usual(older_used: usize, newer_used: usize) -> Runs<'static> {
@@ -53,6 +58,13 @@ fn answers() -> String {
         line("10 before 4 and 11", over, 0, usual(6, 4)),
         line("4", 2, 0, usual(5, 3)),
         line("4 before 11", 2, 0, usual(5, 4)),
+        read("own, in flight", 2, 14, 14, usual(5, 3)),
+        read("own, at xmax", 2, 20, 20, usual(5, 3)),
+        read("another's, in flight", 2, 10, 14, usual(5, 3)),
+        read("another's, settled", 2, 14, 9, usual(5, 3)),
+        read("own, 10 first", over, 14, 14, usual(5, 3)),
+        read("own, 4 first", 2, 14, 0, usual(5, 3)),
+        read("own, one beyond", 2, 14, 14, usual(5, 4)),
     ]
     .concat()
 }
@@ -70,7 +82,7 @@ fn the_part_lies_in_its_run() {
         ids: &[10],
         count: 1,
     };
-    let start = |maker| right_bytes(&seen, maker, (&older, 0), (&newer, 4)).map(<[u8]>::as_ptr);
+    let start = |maker| right_bytes(&seen, 0, maker, (&older, 0), (&newer, 4)).map(<[u8]>::as_ptr);
     assert_eq!(start(9), Ok(newer.as_ptr()));
     assert_eq!(start(10), Ok(older.as_ptr()));
 }

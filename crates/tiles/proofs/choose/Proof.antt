@@ -3,8 +3,8 @@ use borrow.Author.Needs.{needs}
 use Rattle.tiles.proofs.choose.Statement.{statement}
 use Rattle.tiles.proofs.choose.Tie as tie
 
-is-settled-requires : tie.Need-is-settled-requires
-is-settled-requires c κs = search needs
+is-usable-requires : tie.Need-is-usable-requires
+is-usable-requires c κs = search needs
 
 enum-told : tie.Need-enum-told
 enum-told c = search needs
@@ -23,24 +23,24 @@ enum-known-said c = search needs
 
 returns : tie.Need-returns
 returns c =
-    let said = rw (c .before .enum-told .given .1) at (c .before .before .before .is-settled .ensures) in
-    choice-yes _ _ _ _ _ _ _ _ said (c .fitting .ensures)
+    let said = rw (c .before .enum-told .given .1) at (c .before .before .before .is-usable .ensures) in
+    choice-yes _ _ _ _ _ _ _ _ _ said (c .fitting .ensures)
 
 returns-2 : tie.Need-returns-2
 returns-2 c =
-    let said = rw (c .before .enum-told2 .given .1) at (c .before .before .before .is-settled .ensures) in
-    choice-no _ _ _ _ _ _ _ _ said (c .fitting2 .ensures)
+    let said = rw (c .before .enum-told2 .given .1) at (c .before .before .before .is-usable .ensures) in
+    choice-no _ _ _ _ _ _ _ _ _ said (c .fitting2 .ensures)
 
 returns-3 : tie.Need-returns-3
 returns-3 c =
-    let said = rw (c .before .said .given .1) at (c .before .before .before .is-settled .ensures) in
-    choice-refused _ _ _ _ _ _ _ _ said
+    let said = rw (c .before .said .given .1) at (c .before .before .before .is-usable .ensures) in
+    choice-refused _ _ _ _ _ _ _ _ _ said
 
 pub choose-spec : {M : Type 1} → statement M
 choose-spec =
     tie.close
     (tie.spec
-    is-settled-requires
+    is-usable-requires
     enum-told
     fitting-requires
     enum-told-2

@@ -13,7 +13,7 @@ enum-told c = search needs
 
 slice-aggregate-result : tie.Need-slice-aggregate-result
 slice-aggregate-result c =
-    let fits = newer-within _ _ _ _ _ _ _ _ (c .before .before .before .choose .ensures) (c .before .enum-told .given .1) in
+    let fits = newer-within _ _ _ _ _ _ _ _ _ (c .before .before .before .choose .ensures) (c .before .enum-told .given .1) in
     rw length-take (omega (arith, fits))
 
 returns : tie.Need-returns
@@ -24,7 +24,7 @@ enum-told-2 c = search needs
 
 slice-aggregate-result-2 : tie.Need-slice-aggregate-result-2
 slice-aggregate-result-2 c =
-    let fits = older-within _ _ _ _ _ _ _ _ (c .before .before .before .choose .ensures) (c .before .enum-told2 .given .1) in
+    let fits = older-within _ _ _ _ _ _ _ _ _ (c .before .before .before .choose .ensures) (c .before .enum-told2 .given .1) in
     rw length-take (omega (arith, fits))
 
 returns-2 : tie.Need-returns-2

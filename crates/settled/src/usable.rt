@@ -1,0 +1,40 @@
+// The usable test: which versions a reader may use. Settled is what all readers of a snapshot agree on; a transaction
+// may besides use what it made itself, although its own id is in flight.
+use crate::Settled;
+use crate::Snapshot;
+use crate::is_settled_among;
+use kinds::Refusal;
+use kinds::Txid;
+ghost use Rattle.settled.specs.Usable.{UsableFits};
+
+pub enum Usable {
+    Yes,
+    No,
+    Refused(Refusal),
+}
+
+// The test on a snapshot's parts, lent. `own` is the reader's id, 0 for none. Refusals 10 and 4 are the settled test's.
+pub fn is_usable_among(ids: &[u64], count: usize, xmax: u64, own: Txid, id: Txid) -> Usable
+    ensures { λ r. do ⌜ UsableFits (← ⟦kinds::SLOTS⟧ .entry) xmax (now (ids .entry)) count own id r ⌝ }
+{
+    let said = is_settled_among(ids, count, xmax, id);
+    match said {
+        Settled::Yes => Usable::Yes,
+        Settled::No => {
+            if own.0 == id.0 {
+                return Usable::Yes;
+            }
+            Usable::No
+        }
+        Settled::Refused(refusal) => Usable::Refused(refusal),
+    }
+}
+
+// An id is usable exactly when it is settled or the reader's own.
+pub fn is_usable(snapshot: Snapshot, own: Txid, id: Txid) -> Usable
+    ensures { λ r. do ⌜ UsableFits (← ⟦kinds::SLOTS⟧ .entry) (snapshot .xmax) (snapshot .ids) (snapshot .count) own id r ⌝ }
+{
+    let count = snapshot.count;
+    let xmax = snapshot.xmax;
+    is_usable_among(&snapshot.ids, count, xmax, own, id)
+}
