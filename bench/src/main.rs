@@ -15,14 +15,12 @@ unsafe extern "C" {
     safe fn bench_snapshot_lent(layout: u64, rounds: u64) -> u64;
     safe fn bench_oldest_by_value(layout: u64, rounds: u64) -> u64;
     safe fn bench_oldest_lent(layout: u64, rounds: u64) -> u64;
-    safe fn bench_settled_by_value(layout: u64, rounds: u64) -> u64;
-    safe fn bench_settled_lent(layout: u64, rounds: u64) -> u64;
 }
 
 type Rounds = extern "C" fn(u64, u64) -> u64;
 
 /// A job's name, then plain Rust, the calls by value, the lent decisions.
-const JOBS: [(&str, [Rounds; 3]); 5] = [
+const JOBS: [(&str, [Rounds; 3]); 4] = [
     (
         "begin+end",
         [
@@ -46,10 +44,6 @@ const JOBS: [(&str, [Rounds; 3]); 5] = [
     (
         "oldest",
         [jobs::oldest, bench_oldest_by_value, bench_oldest_lent],
-    ),
-    (
-        "settled",
-        [jobs::settled, bench_settled_by_value, bench_settled_lent],
     ),
 ];
 const LAYOUTS: [&str; 2] = ["lower half", "every second"];

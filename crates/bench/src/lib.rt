@@ -1,8 +1,7 @@
-// The four jobs that bench/ times: each is done over and over on a half-full table, and answers a checksum.
+// Three jobs that bench/run times: each is done over and over on a half-full table, and answers a checksum.
 mod begin_end;
 mod fill;
 mod oldest;
-mod settle;
 mod snapshot;
 
 use kinds::SLOTS;
@@ -51,18 +50,6 @@ pub extern "C" fn bench_oldest_by_value(layout: u64, rounds: u64) -> u64 {
 #[no_mangle]
 pub extern "C" fn bench_oldest_lent(layout: u64, rounds: u64) -> u64 {
     oldest::lent(layout, rounds)
-}
-
-// The settled test, the snapshot passed by value.
-#[no_mangle]
-pub extern "C" fn bench_settled_by_value(layout: u64, rounds: u64) -> u64 {
-    settle::by_value(layout, rounds)
-}
-
-// The settled test, the snapshot's ids lent.
-#[no_mangle]
-pub extern "C" fn bench_settled_lent(layout: u64, rounds: u64) -> u64 {
-    settle::lent(layout, rounds)
 }
 
 // A whole replay into a lent buffer, for the race inside one process: the length of the output, or 0 without room.
