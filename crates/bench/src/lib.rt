@@ -5,7 +5,6 @@ mod oldest;
 mod snapshot;
 
 use kinds::SLOTS;
-use replay::Replayed;
 ghost use mathlib.Core.Path.{_≡_};
 
 // How many slots the measured tables have.
@@ -50,14 +49,4 @@ pub extern "C" fn bench_oldest_by_value(layout: u64, rounds: u64) -> u64 {
 #[no_mangle]
 pub extern "C" fn bench_oldest_lent(layout: u64, rounds: u64) -> u64 {
     oldest::lent(layout, rounds)
-}
-
-// A whole replay into a lent buffer, for the race inside one process: the length of the output, or 0 without room.
-#[no_mangle]
-pub extern "C" fn sockhurdle_replay(input: &[u8], out: &mut [u8]) -> usize {
-    let said = replay::replay_into(input, out);
-    match said {
-        Replayed::Written(length) => length,
-        Replayed::NoRoom(_) => 0,
-    }
 }

@@ -1,2 +1,0 @@
-pub mod OldestRules
-pub mod VacuumRules

@@ -1,2 +1,0 @@
-pub mod Oldests
-pub mod Vacuums

@@ -1,6 +1,6 @@
 -- What an accepted call does: to the slots, by its deed, in four cases; and to the counters. Proofs about histories go by these
 -- and not by the single calls.
-use Prim.Native.Nat.{ℕ, _≤_, _+_}
+use Prim.Native.Nat.{ℕ, _≤_}
 use mathlib.Core.Path.{_≡_, refl}
 use native.Mathlib.Nat.{le-refl}
 use native.Mathlib.Omega.{arith}
@@ -13,6 +13,7 @@ use Rattle.model.specs.declared.Table.{Table}
 use Rattle.model.specs.declared.change.SlotChange.the-variants.{Stays, Enters, Leaves, Retains}
 use Rattle.model.specs.Tally.{active, lowestEmpty, xminOf}
 use Rattle.model.specs.Tables.{lineOf, clockOf, sampleOf}
+use Rattle.model.specs.Changes.{pastNumber}
 use Rattle.model.specs.Calls.{Call, begin, end, snap, own, oldest, vacuum, stamp, finish, raisedLine, changeAccepted}
 use Rattle.model.specs.Deeds.{ends, idle, deed}
 use Rattle.model.specs.Accepted.{Reserves, Free, Owns, Acceptable}
@@ -22,7 +23,8 @@ pub data Does (n : ℕ) (t : Table) (c : Call) : Type 0 where
   enters :
       (number : Stamp) → c ≡ begin number →
       changeAccepted t c .slot ≡ Enters (slot (lowestEmpty (t .txids))) (txidOf number) →
-      Reserves (clockOf t) (number .0) → changeAccepted t c .counters .clock ≡ number .0 + 1 → Free n t → Does n t c
+      Reserves (clockOf t) (number .0) → changeAccepted t c .counters ≡ pastNumber (number .0) (t .counters) → Free n t →
+      Does n t c
   leaves :
       (slot : SlotNo) (id : Txid) → deed c ≡ ends slot id → changeAccepted t c .slot ≡ Leaves slot → Owns n t slot id →
       Does n t c

@@ -13,7 +13,7 @@ use lib.Seq.{take-append-seam}
 use borrow.Author.Tests.{eqb-true, eqb-false, eq-eqb, ne-eqb}
 use Rattle.settled.specs.Settled.{listed}
 use Rattle.settled.proofs.Listed.{listed-none, listed-head, listed-tail, listed-cases}
-use Rattle.model.specs.Tally.{unless, active, retained, lowestEmpty, minimum, maximum, places}
+use Rattle.model.specs.Tally.{consUnless, active, retained, lowestEmpty, minimum, maximum, places}
 
 -- the smallest is at most the number and each member, and at least what they all are
 pub minimum-start : (a : ℕ) (xs : List ℕ) → minimum a xs ≤ a
@@ -59,22 +59,22 @@ maximum-bound a [] k h f = h
 maximum-bound a (y ∷ ys) k h f =
     maximum-bound (max a y) ys k (omega (arith, f y (listed-head y ys))) (λ x e. f x (listed-tail x y ys e))
 
--- a number that `unless` puts in front, or a member, is listed
-unless-head : (b : Bool) (x : ℕ) (ys : List ℕ) → b ≡ false → listed x (unless b x ys) ≡ true
-unless-head true x ys e = absurd (false≢true (sym e))
-unless-head false x ys e = listed-head x ys
+-- a number that `consUnless` puts in front, or a member, is listed
+consUnless-head : (b : Bool) (x : ℕ) (ys : List ℕ) → b ≡ false → listed x (consUnless b x ys) ≡ true
+consUnless-head true x ys e = absurd (false≢true (sym e))
+consUnless-head false x ys e = listed-head x ys
 
-unless-tail : (b : Bool) (x y : ℕ) (ys : List ℕ) → listed x ys ≡ true → listed x (unless b y ys) ≡ true
-unless-tail true x y ys e = e
-unless-tail false x y ys e = listed-tail x y ys e
+consUnless-tail : (b : Bool) (x y : ℕ) (ys : List ℕ) → listed x ys ≡ true → listed x (consUnless b y ys) ≡ true
+consUnless-tail true x y ys e = e
+consUnless-tail false x y ys e = listed-tail x y ys e
 
 -- the txid of a taken slot is active
 pub taken-active : (txids : List ℕ) (i : ℕ) → getD txids i 0 ≢ 0 → listed (getD txids i 0) (active txids) ≡ true
 unfolding active
 taken-active [] zero h = absurd (h refl)
 taken-active [] (suc i) h = absurd (h refl)
-taken-active (x ∷ xs) zero h = unless-head (eqb x 0) x (active xs) (ne-eqb x 0 h)
-taken-active (x ∷ xs) (suc i) h = unless-tail (eqb x 0) (getD xs i 0) x (active xs) (taken-active xs i h)
+taken-active (x ∷ xs) zero h = consUnless-head (eqb x 0) x (active xs) (ne-eqb x 0 h)
+taken-active (x ∷ xs) (suc i) h = consUnless-tail (eqb x 0) (getD xs i 0) x (active xs) (taken-active xs i h)
 
 -- an active id stands in a slot, and is not 0
 pub active-taken : (txids : List ℕ) (x : ℕ) → listed x (active txids) ≡ true → (i : ℕ) × (getD txids i 0 ≡ x) × (x ≢ 0)
@@ -85,7 +85,7 @@ active-taken (y ∷ ys) x e = go (eqb y 0) refl e (active-taken ys x)
     further : (i : ℕ) × (getD ys i 0 ≡ x) × (x ≢ 0) → (i : ℕ) × (getD (y ∷ ys) i 0 ≡ x) × (x ≢ 0)
     further (i, p, q) = (suc i, p, q)
 
-    go : (b : Bool) → eqb y 0 ≡ b → listed x (unless b y (active ys)) ≡ true →
+    go : (b : Bool) → eqb y 0 ≡ b → listed x (consUnless b y (active ys)) ≡ true →
         (listed x (active ys) ≡ true → (i : ℕ) × (getD ys i 0 ≡ x) × (x ≢ 0)) →
         (i : ℕ) × (getD (y ∷ ys) i 0 ≡ x) × (x ≢ 0)
     go true p e ih = further (ih e)
@@ -103,9 +103,9 @@ unfolding retained
 taken-retained [] xmins zero e h = absurd (h refl)
 taken-retained [] xmins (suc i) e h = absurd (h refl)
 taken-retained (x ∷ xs) [] i e h = absurd (suc-ne-zero _ e)
-taken-retained (x ∷ xs) (m ∷ ms) zero e h = unless-head (eqb x 0) m (retained xs ms) (ne-eqb x 0 h)
+taken-retained (x ∷ xs) (m ∷ ms) zero e h = consUnless-head (eqb x 0) m (retained xs ms) (ne-eqb x 0 h)
 taken-retained (x ∷ xs) (m ∷ ms) (suc i) e h =
-    unless-tail (eqb x 0) (getD ms i 0) m (retained xs ms) (taken-retained xs ms i (suc-inj e) h)
+    consUnless-tail (eqb x 0) (getD ms i 0) m (retained xs ms) (taken-retained xs ms i (suc-inj e) h)
 
 -- the lowest empty slot is empty (a place past the end reads 0), and those below it are taken
 pub lowest-empty : (txids : List ℕ) → getD txids (lowestEmpty txids) 0 ≡ 0
@@ -138,7 +138,7 @@ active-cons : (x : ℕ) (xs : List ℕ) → length (active (x ∷ xs)) ≡ taken
 unfolding active
 active-cons x xs = go (eqb x 0)
   where
-    go : (b : Bool) → length (unless b x (active xs)) ≡ cond {A = ℕ} b 0 1 + length (active xs)
+    go : (b : Bool) → length (consUnless b x (active xs)) ≡ cond {A = ℕ} b 0 1 + length (active xs)
     go true = omega arith
     go false = omega arith
 
@@ -161,7 +161,7 @@ unfolding active
 active-length [] = le-refl _
 active-length (x ∷ xs) = go (eqb x 0) (active-length xs)
   where
-    go : (b : Bool) → length (active xs) ≤ length xs → length (unless b x (active xs)) ≤ suc (length xs)
+    go : (b : Bool) → length (active xs) ≤ length xs → length (consUnless b x (active xs)) ≤ suc (length xs)
     go true ih = omega arith
     go false ih = omega arith
 

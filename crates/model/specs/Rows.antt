@@ -36,10 +36,18 @@ unfoldable pub seenFrom : ℕ → Table → List Call → List Seen
 seenFrom n t [] = []
 seenFrom n t (c ∷ cs) = seenOf n t c ∷ seenFrom n (after n t c) cs
 
+-- what is seen of each row, and what it says
+unfoldable pub seenIn : ℕ → List Row → List (List Seen)
+seenIn n [] = []
+seenIn n (r ∷ rs) = seenFrom n (r .start) (r .calls) ∷ seenIn n rs
+
+unfoldable pub said : List Row → List (List Seen)
+said [] = []
+said (r ∷ rs) = r .sees ∷ said rs
+
 -- every row of the list holds at n slots
-unfoldable pub RowsHold : ℕ → List Row → Type 0
-RowsHold n [] = Unit
-RowsHold n (r ∷ rs) = (seenFrom n (r .start) (r .calls) ≡ r .sees) × RowsHold n rs
+abbrev pub RowsHold : ℕ → List Row → Type 0
+RowsHold n rs = seenIn n rs ≡ said rs
 
 -- ids from k on, one a slot
 abbrev from : ℕ → ℕ → List ℕ

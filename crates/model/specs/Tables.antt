@@ -1,7 +1,7 @@
 -- The fresh table, what its slots hold, and columns that are lent.
 use Prim.Native.Nat.{ℕ}
 use mathlib.Core.List.{List, []}
-use lib.ListN.{replicate, getD}
+use lib.ListN.{replicate, getD, take}
 use Rattle.model.specs.declared.Counters.{Counters}
 use Rattle.model.specs.declared.Table.{Table}
 
@@ -36,3 +36,7 @@ lent txids xmins was = record { txids = txids; «snapshot_xmins» = xmins; count
 -- .. a call that reads no snapshot_xmin is lent none
 abbrev pub lentTxids : List ℕ → Counters → Table
 lentTxids txids was = lent txids [] was
+
+-- .. a snapshot has n places, so a snapshot call is lent no more than n slots
+abbrev pub lentSlots : ℕ → List ℕ → Counters → Table
+lentSlots n txids was = lentTxids (take n txids) was

@@ -28,7 +28,7 @@ pub struct Numbers {
     pub xmin: u64,
     pub xmax: u64,
     pub vacuum_line: u64,
-    pub count: u64,
+    pub count: usize,
 }
 
 // What a call decides on lent columns: who owns the table makes the change.

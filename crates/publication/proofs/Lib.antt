@@ -1,2 +1,1 @@
-pub mod StampRules
-pub mod FinishRules
+pub mod Accepted

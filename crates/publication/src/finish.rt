@@ -1,19 +1,25 @@
 // Finish: end and stamp in one section. All checks come first, so a bad stamp leaves the transaction registered.
-use crate::stamp::StampAnswer;
-use crate::stamp::StampDecision;
-use crate::stamp::Stamped;
-use changes::Counters;
 use kinds::SlotNo;
 use kinds::Stamp;
 use kinds::Txid;
 use kinds::Verdict;
+use model::Answer;
+use model::Change;
+use model::Counters;
+use model::Decision;
+use model::Outcome;
+use model::SlotChange;
 use model::Table;
 ghost use mathlib.Core.Path.{_≡_};
-ghost use Rattle.publication.specs.Finish.{finishVerdict, finishDecision, FinishFits};
+ghost use Rattle.kinds.specs.Verdicts.{then};
+ghost use Rattle.model.specs.Tables.{lentTxids};
+ghost use Rattle.model.specs.Tests.{ownerTest, reservationTest};
+ghost use Rattle.model.specs.Calls.{finish, decision, outcome};
 
 // Refusals 2, 4, 3, 5, 6, in this order.
 fn finish_test(txids: &[u64], clock: u64, slot: SlotNo, id: Txid, number: Stamp) -> Verdict
-    ensures { λ r. do ⌜ r ≡ finishVerdict (← ⟦kinds::SLOTS⟧ .entry) (now (txids .entry)) clock slot id number ⌝ }
+    ensures { λ r. do
+      ⌜ r ≡ then (ownerTest (← ⟦kinds::SLOTS⟧ .entry) (now (txids .entry)) slot id) (reservationTest clock number) ⌝ }
 {
     let owner = verdicts::owner_test(txids, slot, id);
     match owner {
@@ -22,46 +28,49 @@ fn finish_test(txids: &[u64], clock: u64, slot: SlotNo, id: Txid, number: Stamp)
     }
 }
 
-// What finish decides on lent columns.
+// What finish decides, for who owns the table in place and so makes the change there.
 pub fn decide_finish(
     txids: &[u64],
     was: Counters,
     slot: SlotNo,
     id: Txid,
     number: Stamp,
-) -> StampDecision
-    ensures { λ r. do ⌜ r ≡ finishDecision (← ⟦kinds::SLOTS⟧ .entry) (now (txids .entry)) was slot id number ⌝ }
+) -> Decision
+    ensures { λ r. do
+      ⌜ r ≡ decision (← ⟦kinds::SLOTS⟧ .entry) (lentTxids (now (txids .entry)) was) (finish slot id number) ⌝ }
 {
     let verdict = finish_test(txids, was.clock, slot, id, number);
     match verdict {
-        Verdict::Refuse(r) => {
-            let change = changes::counters_only(was);
-            StampDecision {
-                answer: Stamped::Refused(r),
-                change,
-            }
-        }
+        Verdict::Refuse(r) => Decision {
+            change: Change {
+                slot: SlotChange::Stays,
+                counters: was,
+            },
+            answer: Answer::Refused(r),
+        },
         Verdict::Pass => {
             let counters = changes::reserved(was, number);
-            let change = changes::slot_change(slot.0 as usize, 0, 0, counters);
-            StampDecision {
-                answer: Stamped::Accepted(number),
-                change,
+            Decision {
+                change: Change {
+                    slot: SlotChange::Leaves { slot },
+                    counters,
+                },
+                answer: Answer::Stamped(number),
             }
         }
     }
 }
 
-// Finish on a table by value.
-pub fn finish_transaction(table: Table, slot: SlotNo, id: Txid, number: Stamp) -> StampAnswer
-    ensures { λ r. do ⌜ FinishFits (← ⟦kinds::SLOTS⟧ .entry) table slot id number r ⌝ }
+// By value, which copies the table: who owns it in place asks decide_finish.
+pub fn finish_transaction(table: Table, slot: SlotNo, id: Txid, number: Stamp) -> Outcome
+    ensures { λ r. do ⌜ r ≡ outcome (← ⟦kinds::SLOTS⟧ .entry) table (finish slot id number) ⌝ }
 {
-    let was = changes::counters_of(table);
+    let was = table.counters;
     let decided = decide_finish(&table.txids, was, slot, id, number);
     let change = decided.change;
     let answer = decided.answer;
     let next = changes::apply(table, change);
-    StampAnswer {
+    Outcome {
         table: next,
         answer,
     }

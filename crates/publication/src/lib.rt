@@ -4,8 +4,5 @@ mod stamp;
 
 pub use finish::decide_finish;
 pub use finish::finish_transaction;
-pub use stamp::StampAnswer;
-pub use stamp::StampDecision;
-pub use stamp::Stamped;
 pub use stamp::decide_stamp;
 pub use stamp::reserve_publication_clock;

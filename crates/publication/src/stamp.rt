@@ -1,62 +1,55 @@
 // The publication stamp: the clock moves past it, the rest stays.
-use changes::Change;
-use changes::Counters;
-use kinds::Refusal;
 use kinds::Stamp;
 use kinds::Verdict;
+use model::Answer;
+use model::Change;
+use model::Counters;
+use model::Decision;
+use model::Outcome;
+use model::SlotChange;
 use model::Table;
 ghost use mathlib.Core.Path.{_≡_};
-ghost use Rattle.publication.specs.Stamps.{stampDecision, StampFits};
+ghost use mathlib.Core.List.{[]};
+ghost use Rattle.model.specs.Tables.{lentTxids};
+ghost use Rattle.model.specs.Calls.{stamp, decision, outcome};
 
-pub enum Stamped {
-    Accepted(Stamp),
-    Refused(Refusal),
-}
-
-pub struct StampDecision {
-    pub answer: Stamped,
-    pub change: Change,
-}
-
-// What a stamp decides. Refusals 5, 6, in this order.
-pub fn decide_stamp(was: Counters, number: Stamp) -> StampDecision
-    ensures { λ r. do ⌜ r ≡ stampDecision (← ⟦kinds::SLOTS⟧ .entry) was number ⌝ }
+// What a stamp decides, for who owns the table in place and so makes the change there; it reads no slot. Refusals 5, 6, in
+// this order.
+pub fn decide_stamp(was: Counters, number: Stamp) -> Decision
+    ensures { λ r. do ⌜ r ≡ decision (← ⟦kinds::SLOTS⟧ .entry) (lentTxids [] was) (stamp number) ⌝ }
 {
     let verdict = verdicts::reservation_test(was.clock, number);
     match verdict {
-        Verdict::Refuse(r) => {
-            let change = changes::counters_only(was);
-            StampDecision {
-                answer: Stamped::Refused(r),
-                change,
-            }
-        }
+        Verdict::Refuse(r) => Decision {
+            change: Change {
+                slot: SlotChange::Stays,
+                counters: was,
+            },
+            answer: Answer::Refused(r),
+        },
         Verdict::Pass => {
             let counters = changes::reserved(was, number);
-            let change = changes::counters_only(counters);
-            StampDecision {
-                answer: Stamped::Accepted(number),
-                change,
+            Decision {
+                change: Change {
+                    slot: SlotChange::Stays,
+                    counters,
+                },
+                answer: Answer::Stamped(number),
             }
         }
     }
 }
 
-pub struct StampAnswer {
-    pub table: Table,
-    pub answer: Stamped,
-}
-
-// The stamp on a table by value.
-pub fn reserve_publication_clock(table: Table, number: Stamp) -> StampAnswer
-    ensures { λ r. do ⌜ StampFits (← ⟦kinds::SLOTS⟧ .entry) table number r ⌝ }
+// By value, which copies the table: who owns it in place asks decide_stamp.
+pub fn reserve_publication_clock(table: Table, number: Stamp) -> Outcome
+    ensures { λ r. do ⌜ r ≡ outcome (← ⟦kinds::SLOTS⟧ .entry) table (stamp number) ⌝ }
 {
-    let was = changes::counters_of(table);
+    let was = table.counters;
     let decided = decide_stamp(was, number);
     let change = decided.change;
     let answer = decided.answer;
     let next = changes::apply(table, change);
-    StampAnswer {
+    Outcome {
         table: next,
         answer,
     }

@@ -1,2 +1,1 @@
-pub mod BeginRules
-pub mod EndRules
+pub mod Begins

@@ -5,4 +5,5 @@ pub mod Whole
 pub mod Parts
 pub mod Room
 pub mod Next
+pub mod Pieces
 pub mod Sending

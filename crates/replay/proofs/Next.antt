@@ -1,26 +1,21 @@
--- What was put at a buffer's start is what stands next in the text: the last line, and refusal 9.
-use Prim.Native.Nat.{ℕ, _+_, _≤_}
-use mathlib.Core.Path.{_≡_, refl, sym, ap, _∙_}
-use mathlib.Core.Bool.{Bool, true, false}
+-- What was put at a buffer's start: the last line has room in 29 bytes and refusal 9 in 33, whatever their numbers.
+use Prim.Native.Nat.{ℕ, _+_, _≤_, _<_, _^_}
+use mathlib.Core.Path.{_≡_, sym, ap, _∙_}
 use mathlib.Core.List.{List}
 use native.Mathlib.Nat.{zero-add}
 use native.Mathlib.Omega.{arith}
-use lib.Dec.{leb}
 use lib.ListN.{length, take, drop}
-use lib.Seq.{take-length, take-append-seam}
-use borrow.Author.Tests.{leb-true}
+use lib.Seq.{take-append-seam}
+use borrow.Author.Tests.{le-leb}
 use Rattle.text.specs.Keys.{recordsKey}
 use Rattle.text.specs.Line.{lineText}
 use Rattle.text.specs.Write.{spliced, written}
-use Rattle.trace.specs.declared.Reading.the-variants.{Broken}
-use Rattle.trace.specs.Trace.{traceOf, reading}
-use Rattle.trace.proofs.Refusal.{trace-breaks}
-use Rattle.replay.specs.Replay.{brokenText, replayOf}
+use Rattle.text.proofs.Decimal.{length-word}
+use Rattle.text.proofs.Splice.{line-length}
+use Rattle.replay.specs.Replay.{brokenText}
 use Rattle.replay.specs.Into.{BrokenFits, EndFits}
-use Rattle.replay.specs.Sent.{SentOf, SentFits, StandsNext}
 use Rattle.replay.specs.declared.into.Replayed.{Replayed}
 use Rattle.replay.specs.declared.into.Replayed.the-variants.{Written, NoRoom}
-use Rattle.replay.specs.declared.out.Sent.{Sent}
 use Rattle.replay.proofs.Running.{inside-of}
 
 -- a buffer with a text put at its start begins with it
@@ -28,63 +23,41 @@ pub begins-with : (xs t : List ℕ) {ys : List ℕ} → ys ≡ spliced xs 0 t �
 unfolding spliced
 begins-with xs t e = rw e (take-append-seam t (drop (0 + length t) xs))
 
--- a text was put at a buffer's start
-pub record PutNext (t xs ys : List ℕ) (end : ℕ) : Type 0 where
-  pub size : end ≡ length t
-  pub inside : end ≤ length xs
-  pub text : take (length t) ys ≡ t
+-- and holds it whole
+pub put-inside :
+    (xs t : List ℕ) {ys : List ℕ} {size : ℕ} → size ≡ length t → ys ≡ spliced xs 0 t → length ys ≡ length xs → size ≤ length ys
+put-inside xs t k e same =
+    let fit = inside-of xs 0 t (omega arith) (ap length (sym e) ∙ same) in
+    omega (arith, k, same, fit)
 
--- and is what stands next
-pub put-next :
-    {n : ℕ} {s : List ℕ} {sent : ℕ} {t xs ys : List ℕ} {k : ℕ} → PutNext t xs ys k → drop sent (replayOf n s) ≡ t →
-    StandsNext n s sent k ys
-put-next {t = t} p e = record { bytes = rw (p .size, e) (p .text ∙ sym (take-length t)) }
+-- a text had room at a buffer's start, and was put there
+pub record PutFirst (t xs ys : List ℕ) (r : Replayed) : Type 0 where
+  pub says : r ≡ Written (length t)
+  pub text : ys ≡ spliced xs 0 t
 
-pub end-is :
-    (count : ℕ) {xs ys : List ℕ} {r : Replayed} {end : ℕ} → EndFits count 0 xs ys r → r ≡ Written end →
-    PutNext (lineText recordsKey count) xs ys end
+pub put-size : {t xs ys : List ℕ} {r : Replayed} {end : ℕ} → PutFirst t xs ys r → r ≡ Written end → end ≡ length t
+put-size {t} {end = end} p e =
+    let h : Written end ≡ Written (length t) = sym e ∙ p .says in
+    cc
+
+pub put-had-room : {t xs ys : List ℕ} {r : Replayed} {filled : ℕ} → PutFirst t xs ys r → r ≡ NoRoom filled → ⊥
+put-had-room {t} {filled = filled} p e =
+    let h : NoRoom filled ≡ Written (length t) = sym e ∙ p .says in
+    let z : _≡_ {A = ℕ} 0 1 = cc in
+    omega arith
+
+pub broken-put :
+    (line : ℕ) {xs ys : List ℕ} {r : Replayed} → 33 ≤ length xs → BrokenFits line xs ys r → PutFirst (brokenText line) xs ys r
+broken-put line {xs} room f =
+    let ok = le-leb 33 (length xs) room in
+    record { says = rw ok at (f .says); text = rw ok at (f .text) }
+
+pub end-put :
+    (count : ℕ) {xs ys : List ℕ} {r : Replayed} → count < 2 ^ 64 → 29 ≤ length xs → EndFits count 0 xs ys r →
+    PutFirst (lineText recordsKey count) xs ys r
 unfolding written
-end-is count {xs} {ys} {r} {end} f e = go (leb (0 + length (lineText recordsKey count)) (length xs)) refl
-  where
-    go : (b : Bool) → leb (0 + length (lineText recordsKey count)) (length xs) ≡ b → PutNext (lineText recordsKey count) xs ys end
-    go true q =
-        let h : Written end ≡ Written (0 + length (lineText recordsKey count)) = sym e ∙ (rw q at (f .says)) in
-        let same : end ≡ 0 + length (lineText recordsKey count) = cc in
-        let fit = leb-true (0 + length (lineText recordsKey count)) (length xs) q in
-        let left : ys ≡ spliced xs 0 (lineText recordsKey count) = rw q at (f .text) in
-        record { size = omega (arith, same); inside = omega (arith, same, fit); text = begins-with xs (lineText recordsKey count) left }
-    go false q =
-        let h : Written end ≡ NoRoom 0 = sym e ∙ (rw q at (f .says)) in
-        let z : _≡_ {A = ℕ} 0 1 = cc in
-        absurd (omega arith)
-
-pub broken-is :
-    (line : ℕ) {xs ys : List ℕ} {r : Replayed} {end : ℕ} → BrokenFits line xs ys r → r ≡ Written end → length ys ≡ length xs →
-    PutNext (brokenText line) xs ys end
-broken-is line {xs} {ys} {r} {end} f e k = go (leb 33 (length xs)) refl
-  where
-    go : (b : Bool) → leb 33 (length xs) ≡ b → PutNext (brokenText line) xs ys end
-    go true q =
-        let h : Written end ≡ Written (length (brokenText line)) = sym e ∙ (rw q at (f .says)) in
-        let same : end ≡ length (brokenText line) = cc in
-        let left : ys ≡ spliced xs 0 (brokenText line) = rw q at (f .text) in
-        let fit = inside-of xs 0 (brokenText line) (omega arith) (ap length (sym left) ∙ k) in
-        record { size = same; inside = omega (arith, same, fit); text = begins-with xs (brokenText line) left }
-    go false q =
-        let h : Written end ≡ NoRoom 0 = sym e ∙ (rw q at (f .says)) in
-        let z : _≡_ {A = ℕ} 0 1 = cc in
-        absurd (omega arith)
-
-broken-replay : (n : ℕ) (s : List ℕ) (line : ℕ) → reading s ≡ Broken line → replayOf n s ≡ brokenText line
-unfolding reading replayOf
-broken-replay n s line e = rw (trace-breaks (traceOf s) line e)
-
-pub broken-next :
-    {n : ℕ} {s : List ℕ} {line : ℕ} {xs ys : List ℕ} {k : ℕ} → reading s ≡ Broken line → PutNext (brokenText line) xs ys k →
-    StandsNext n s 0 k ys
-broken-next {n} {s} {line} e p = put-next p (broken-replay n s line e)
-
-pub broken-sent :
-    {n : ℕ} {s : List ℕ} {line : ℕ} {xs ys : List ℕ} {k : ℕ} {r : Sent} → reading s ≡ Broken line →
-    PutNext (brokenText line) xs ys k → SentOf (0 + k) r → SentFits n s r
-broken-sent {n} {s} {line} e p h = record { went = rw (broken-replay n s line e, ← p .size) (rw zero-add at h) }
+end-put count {xs} small size f =
+    let last = lineText recordsKey count in
+    let fit : 0 + length last ≤ length xs = omega (arith, line-length recordsKey count, length-word count small) in
+    let ok = le-leb (0 + length last) (length xs) fit in
+    record { says = (rw ok at (f .says)) ∙ ap Written (zero-add (length last)); text = rw ok at (f .text) }

@@ -1,32 +1,53 @@
--- Where a run to a file descriptor stands: what went and what is still to come are the whole text.
-use Prim.Native.Nat.{ℕ, _+_, _*_, _≤_, _<_}
+-- Where a run to a file descriptor stands. The invariant, `Sending`: the pieces that have not gone are the parts of the records
+-- that are left, from the table as it is now, and the last line. What pieces are stands in specs/Sent.antt.
+use Prim.Native.Nat.{ℕ, zero, suc, _+_, _≤_, _<_, _^_}
 use mathlib.Core.Path.{_≡_, refl, sym, ap, _∙_}
-use mathlib.Core.List.{List, [], _∷_, _++_, append-assoc}
+use mathlib.Core.Bool.{true, false}
+use mathlib.Core.List.{List, [], _∷_, _++_}
 use native.Mathlib.Omega.{arith}
-use lib.ListN.{length, take, drop, length-append, length-drop}
-use lib.Seq.{take-append-seam, drop-append-seam, drop-drop}
+use lib.IntN.{ℤ}
+use lib.ListN.{length, drop}
+use lib.Seq.{drop-drop}
 use Rattle.model.specs.declared.Table.{Table}
 use Rattle.model.specs.Tables.{freshTable}
 use Rattle.model.specs.Facts.{Good}
 use Rattle.model.proofs.Moves.{good-fresh}
 use Rattle.text.specs.Keys.{recordsKey}
 use Rattle.text.specs.Line.{lineText}
+use Rattle.text.specs.Write.{spliced}
 use Rattle.trace.specs.declared.Record.{Record}
-use Rattle.trace.specs.declared.Reading.the-variants.{Whole}
-use Rattle.trace.specs.Trace.{reading, recordsFrom, firstRecord, Boundary}
+use Rattle.trace.specs.declared.Reading.the-variants.{Whole, Broken}
+use Rattle.trace.specs.Trace.{Records, Breaks, traceOf, reading, recordsFrom, firstRecord, Boundary}
 use Rattle.trace.proofs.Grammar.{accepted, opened}
+use Rattle.trace.proofs.Refusal.{trace-breaks}
 use Rattle.trace.proofs.Walk.{At, ended, broke, went, look, no-records}
 use Rattle.trace.proofs.Loop.{next-record, none-left, end-only}
 use Rattle.render.specs.Output.{need}
-use Rattle.replay.specs.Replay.{textOf, replayOf}
+use Rattle.replay.specs.Replay.{brokenText}
 use Rattle.replay.specs.Part.{partOf, PartFits}
-use Rattle.replay.specs.declared.out.Sent.{Sent}
-use Rattle.replay.specs.declared.out.Sent.the-variants.{All}
+use Rattle.replay.specs.declared.border.Handed.{Handed}
 use Rattle.replay.specs.declared.part.Progress.{Progress}
-use Rattle.replay.specs.Sent.{SentOf, StandsNext}
-use Rattle.replay.proofs.Parts.{parts-join}
+use Rattle.replay.specs.Sent.{partsOf, piecesOf, handed, isTrace, PieceNext, AllWent}
 use Rattle.replay.proofs.Room.{part-good, part-goes-on}
-use Rattle.replay.proofs.Next.{begins-with}
+use Rattle.replay.proofs.Pieces.{pieces-few, no-parts, piece-next, all-went}
+
+-- refusal 9 is the one piece of a text that is no trace
+module _ (n : ℕ) (s : List ℕ) (line : ℕ) (e : reading s ≡ Broken line) where
+  breaks : traceOf s ≡ Breaks line
+  unfolding reading
+  breaks = trace-breaks (traceOf s) line e
+
+  one-piece : piecesOf n s ≡ brokenText line ∷ []
+  unfolding piecesOf
+  one-piece = rw breaks
+
+  pub broken-next :
+      (to : ℤ) (xs : List ℕ) {ys : List ℕ} {size : ℕ} → size ≡ length (brokenText line) → ys ≡ spliced xs 0 (brokenText line) →
+      PieceNext n s (handed to 0) size ys
+  broken-next to xs k put = piece-next (handed to 0) xs (rw one-piece (omega arith)) one-piece k put
+
+  pub broken-all : {to : ℤ} {r : Handed} → r ≡ handed to (0 + 1) → AllWent n s to false r
+  broken-all {to} g = all-went (handed to 0) (ap isTrace breaks) (one-piece) refl g
 
 -- no more records are left than bytes
 records-inside : (s : List ℕ) (rs : List Record) (at : ℕ) → Boundary s at → recordsFrom s at ≡ rs → at + length rs ≤ length s
@@ -45,101 +66,114 @@ records-inside s (r ∷ rs) at h e = go (look s at 0) (records-inside s rs)
         let same : recordsFrom s i ≡ rs = cc in
         omega (arith, ih i (m .again) same, m .further)
 
--- what a part prints, and what is to come after it
-abbrev partText : ℕ → List ℕ → Table → ℕ → List ℕ → List ℕ
-partText n s t at xs = partOf n (length xs) 0 t (recordsFrom s at) .text
+-- the parts to come and the last line; `most` is at least how many records are left
+abbrev toCome : ℕ → ℕ → List ℕ → ℕ → Table → ℕ → List (List ℕ)
+toCome most n s count t at = partsOf most n 65536 t (recordsFrom s at) ++ (lineText recordsKey count ∷ [])
 
-abbrev restText : ℕ → List ℕ → ℕ → Table → ℕ → List ℕ
-restText n s count t at = textOf n t (recordsFrom s at) ++ lineText recordsKey count
-
-pub record Sending (n : ℕ) (s : List ℕ) (count : ℕ) (t : Table) (at sent : ℕ) : Type 0 where
+pub record Sending (n : ℕ) (s : List ℕ) (count : ℕ) (to : ℤ) (t : Table) (at : ℕ) (h : Handed) : Type 0 where
   pub boundary : Boundary s at
   pub good : Good n t
-  -- a part is at most a buffer's worth, so the count stays a machine number
-  pub bounded : sent + 65536 * length (recordsFrom s at) ≤ 65536 * 65536
-  pub inside : sent ≤ length (replayOf n s)
-  pub rest : drop sent (replayOf n s) ≡ restText n s count t at
-
--- what all writes took is the sum
-pub all-sent : {most total : ℕ} {r : Sent} → SentOf most r → r ≡ All total → total ≡ most
-all-sent h e = rw e at h
+  pub few : length (piecesOf n s) < 2 ^ 64
+  pub same : h .to ≡ to
+  pub most : ℕ
+  pub enough : length (recordsFrom s at) ≤ most
+  pub rest : drop (h .pieces) (piecesOf n s) ≡ toCome most n s count t at
 
 -- n is the number of slots of the table that a run begins with
 pub from-fresh :
-    {n : ℕ} {t₀ : Table} {s : List ℕ} {count : ℕ} {t : Table} {at sent : ℕ} → t₀ ≡ freshTable n →
-    Sending (length (t₀ .txids)) s count t at sent → Sending n s count t at sent
+    {n : ℕ} {t₀ : Table} {s : List ℕ} {count : ℕ} {to : ℤ} {t : Table} {at : ℕ} {h : Handed} → t₀ ≡ freshTable n →
+    Sending (length (t₀ .txids)) s count to t at h → Sending n s count to t at h
 from-fresh {n} {t₀} e w =
     let size = ap (λ (t : Table). length (t .txids)) e ∙ good-fresh n .txid-column in
     rw size at w
 
 pub to-fresh :
-    {n : ℕ} {t₀ : Table} {s : List ℕ} {count : ℕ} {t : Table} {at sent : ℕ} → t₀ ≡ freshTable n → Sending n s count t at sent →
-    Sending (length (t₀ .txids)) s count t at sent
+    {n : ℕ} {t₀ : Table} {s : List ℕ} {count : ℕ} {to : ℤ} {t : Table} {at : ℕ} {h : Handed} → t₀ ≡ freshTable n →
+    Sending n s count to t at h → Sending (length (t₀ .txids)) s count to t at h
 to-fresh {n} {t₀} e w =
     let size = ap (λ (t : Table). length (t .txids)) e ∙ good-fresh n .txid-column in
     rw size w
 
 module _ (n : ℕ) (s : List ℕ) (count : ℕ) where
-  pub sending-start : reading s ≡ Whole count → Sending n s count (freshTable n) firstRecord 0
-  unfolding replayOf
+  pub is-whole : reading s ≡ Whole count → isTrace (traceOf s) ≡ true
+  is-whole e = ap isTrace (opened s count e .records)
+
+  pub sending-start : {to : ℤ} → reading s ≡ Whole count → Sending n s count to (freshTable n) firstRecord (handed to 0)
+  unfolding piecesOf
   sending-start e =
       let b = opened s count e in
-      let short = accepted s (recordsFrom s firstRecord) (b .records) .short in
-      let few = records-inside s (recordsFrom s firstRecord) firstRecord (b .boundary) refl in
+      let rs = recordsFrom s firstRecord in
+      let short = accepted s rs (b .records) .short in
+      let inside = records-inside s rs firstRecord (b .boundary) refl in
       record {
         boundary = b .boundary;
         good = good-fresh n;
-        bounded = omega (arith, short, few);
-        inside = omega arith;
+        few = omega (arith, short, inside, pieces-few n s rs (b .records));
+        same = refl;
+        most = length rs;
+        enough = omega arith;
         rest = rw (b .records) (rw (b .many));
       }
 
-  module _ {t : Table} {at sent : ℕ} (w : Sending n s count t at sent) where
+  module _ {to : ℤ} {t : Table} {at : ℕ} {h : Handed} (w : Sending n s count to t at h) where
     module _ {xs ys : List ℕ} {r : Progress} (p : PartFits n s at t xs ys r) where
-      split : drop sent (replayOf n s) ≡ partText n s t at xs ++ restText n s count (r .table) (r .at)
-      split =
-          let join = parts-join n (length xs) 0 t (recordsFrom s at) .text in
-          let more : textOf n t (recordsFrom s at) ≡ partText n s t at xs ++ textOf n (r .table) (recordsFrom s (r .at)) =
-          rw (p .left, p .table) join in
-          w .rest ∙ rw (more, append-assoc)
+      -- the next piece is what this part put into the buffer
+      record Split : Type 0 where
+        most : ℕ
+        enough : length (recordsFrom s (r .at)) ≤ most
+        less : length (recordsFrom s (r .at)) < length (recordsFrom s at)
+        next :
+            drop (h .pieces) (piecesOf n s)
+            ≡ partOf n (length xs) 0 t (recordsFrom s at) .text ∷ toCome most n s count (r .table) (r .at)
 
-      -- a part is what stands next in the text
-      pub part-next : StandsNext n s sent (r .filled) ys
-      part-next =
-          let text = partText n s t at xs in
-          let there = take-append-seam text (restText n s count (r .table) (r .at)) in
-          record { bytes = rw (p .filled) (begins-with xs text (p .text) ∙ sym (rw split there)) }
-
-      -- one part more
-      pub sending-part :
-          length xs ≡ 65536 → need n ≤ 65536 → (at ≡ length s → ⊥) →
-          (length (recordsFrom s (r .at)) < length (recordsFrom s at)) × Sending n s count (r .table) (r .at) (sent + r .filled)
-      sending-part size room h = go (recordsFrom s at) refl
+      split : length xs ≡ 65536 → need n ≤ 65536 → (at ≡ length s → ⊥) → Split
+      unfolding partsOf
+      split size room more = go (recordsFrom s at) refl (w .most) refl
         where
-          go :
-              (rs : List Record) → recordsFrom s at ≡ rs →
-              (length (recordsFrom s (r .at)) < length (recordsFrom s at)) × Sending n s count (r .table) (r .at) (sent + r .filled)
-          go [] e = absurd (h (end-only s at (w .boundary) e))
-          go (q ∷ rs) e =
+          go : (rs : List Record) → recordsFrom s at ≡ rs → (m : ℕ) → w .most ≡ m → Split
+          go [] e m f = absurd (more (end-only s at (w .boundary) e))
+          go (q ∷ rs) e zero f = absurd (omega (arith, w .enough, ap length e))
+          go (q ∷ rs) e (suc m) f =
               let on = part-goes-on n (length xs) t q rs (w .good) (omega arith) in
-              let less : length (recordsFrom s (r .at)) < length (recordsFrom s at) = rw (p .left, e) (omega (arith, on)) in
-              let text = partText n s t at xs in
-              let rest = restText n s count (r .table) (r .at) in
-              let long = sym (length-drop sent (replayOf n s)) ∙ ap length split ∙ length-append text rest in (
-                less,
-                record {
-                  boundary = p .boundary;
-                  good = rw (p .table) (part-good n (length xs) t (recordsFrom s at) (w .good));
-                  bounded = omega (arith, less, size, p .inside, w .bounded);
-                  inside = omega (arith, long, p .filled, w .inside);
-                  rest = sym (drop-drop (r .filled) sent (replayOf n s)) ∙ rw (p .filled, split) (drop-append-seam text rest);
-                },
-              )
+              let left : length (recordsFrom s (r .at)) ≤ length rs = rw (p .left, e) on in
+              record {
+                most = m;
+                enough = omega (arith, left, w .enough, ap length e);
+                less = omega (arith, left, ap length e);
+                next = rw (p .left, p .table, size, e) (rw (f, e) at (w .rest));
+              }
+
+      module _ (size : length xs ≡ 65536) (room : need n ≤ 65536) (more : at ≡ length s → ⊥) where
+        pub part-next : PieceNext n s h (r .filled) ys
+        part-next = piece-next h xs (w .few) (split size room more .next) (p .filled) (p .text)
+
+        pub part-less : length (recordsFrom s (r .at)) < length (recordsFrom s at)
+        part-less = split size room more .less
+
+        -- one piece more
+        pub sending-part : Sending n s count to (r .table) (r .at) (handed (h .to) (h .pieces + 1))
+        sending-part =
+            let part = split size room more in
+            record {
+              boundary = p .boundary;
+              good = rw (p .table) (part-good n (length xs) t (recordsFrom s at) (w .good));
+              few = w .few;
+              same = w .same;
+              most = part .most;
+              enough = part .enough;
+              rest = sym (drop-drop 1 (h .pieces) (piecesOf n s)) ∙ rw (part .next);
+            }
 
     -- no record is left: the last line is
-    pub sending-over : at ≡ length s → drop sent (replayOf n s) ≡ lineText recordsKey count
-    unfolding textOf
-    sending-over h = w .rest ∙ rw (none-left s at h)
+    module _ (over : at ≡ length s) where
+      last-piece : drop (h .pieces) (piecesOf n s) ≡ lineText recordsKey count ∷ []
+      last-piece = w .rest ∙ rw (none-left s at over, no-parts (w .most) n t)
 
-    pub sending-whole : at ≡ length s → sent + length (lineText recordsKey count) ≡ length (replayOf n s)
-    sending-whole h = omega (arith, sym (length-drop sent (replayOf n s)) ∙ ap length (sending-over h), w .inside)
+      pub last-next :
+          (xs : List ℕ) {ys : List ℕ} {size : ℕ} → size ≡ length (lineText recordsKey count) →
+          ys ≡ spliced xs 0 (lineText recordsKey count) → PieceNext n s h size ys
+      last-next xs k put = piece-next h xs (w .few) last-piece k put
+
+      pub last-all :
+          {fd : ℤ} {r : Handed} → reading s ≡ Whole count → h .to ≡ fd → r ≡ handed (h .to) (h .pieces + 1) → AllWent n s fd true r
+      last-all e same g = all-went h (is-whole e) last-piece same g

@@ -1,8 +1,11 @@
 // The replay: a captured trace in, the answers of its calls out.
+mod border;
 mod into;
 mod out;
 mod part;
 
+pub use border::Handed;
+pub use border::Stopped;
 pub use into::Replayed;
 pub use into::replay_into;
 pub use out::Sent;

@@ -1,85 +1,109 @@
-// A whole replay to a file descriptor, through one buffer that is written in large pieces.
+// A whole replay to a file descriptor, through one buffer that is handed on in large pieces.
+use crate::border::Handed;
+use crate::border::Stopped;
+use crate::border::Went;
+use crate::border::hand_on;
+use crate::border::nothing;
 use crate::into::Replayed;
 use crate::into::put_broken;
 use crate::into::put_records;
 use crate::part::run_part;
 use trace::Reading;
-ghost use Prim.Native.Nat.{_+_, _≤_, _<_, _^_};
+ghost use Prim.Native.Nat.{_≤_};
 ghost use mathlib.Core.Path.{_≡_};
 ghost use lib.ListN.{length};
+ghost use Rattle.text.specs.Keys.{recordsKey};
+ghost use Rattle.text.specs.Line.{lineText};
+ghost use Rattle.text.specs.Write.{spliced};
 ghost use Rattle.trace.specs.declared.Reading.the-variants.{Whole, Broken};
 ghost use Rattle.trace.specs.Trace.{reading};
-ghost use Rattle.replay.specs.Sent.{SentOf, SentFits, StandsNext};
+ghost use Rattle.replay.specs.Replay.{brokenText};
+ghost use Rattle.replay.specs.Sent.{SentFits};
 
-// How many bytes went: all of the text, or those before the first write that failed.
+// How a replay to a descriptor ended: all of a trace's answers went; the text is no trace, and all of refusal 9 went; or
+// a write failed, and no further one was made.
 pub enum Sent {
-    All(usize),
-    Failed(usize),
+    All(Handed),
+    Refused(Handed),
+    Failed(Stopped),
 }
 
-// Writes the first `more` bytes of a buffer, after `sent` that went before.
-// It takes the trace so that the contract can say which bytes those are.
-fn write_next(s: &[u8], fd: i32, buf: &[u8], sent: usize, more: usize) -> Sent
-    requires { ⌜ more ≤ length (now buf) ⌝ }
-    requires { ⌜ sent + more < 2 ^ 64 ⌝ }
-    requires { do ⌜ StandsNext (← ⟦kinds::SLOTS⟧) (now s) sent more (now buf) ⌝ }
-    ensures { λ r. ⌜ SentOf (sent + more) r ⌝ }
+// The two lines of refusal 9 at the buffer's start: 33 bytes hold them, whatever the line is. Answers their length.
+fn broken_lines(buf: &mut [u8], line: usize) -> usize
+    requires { ⌜ 33 ≤ length (now buf) ⌝ }
+    ensures { λ r. ⌜ r ≡ length (brokenText line) ⌝ }
+    ensures { λ _. ⌜ now (buf .exit) ≡ spliced (now (buf .entry)) 0 (brokenText line) ⌝ }
 {
-    let went = io::write_all(fd, &buf[..more]);
-    if went {
-        Sent::All(sent + more)
-    } else {
-        Sent::Failed(sent)
+    let said = put_broken(buf, line);
+    match said {
+        Replayed::Written(end) => end,
+        Replayed::NoRoom(_) => 0,
     }
 }
 
-// Refusal 9 of a trace that breaks a rule. Its two lines have room in 64 bytes.
-fn broken_to(s: &[u8], line: usize, fd: i32) -> Sent
+// The last line at the buffer's start: 29 bytes hold it, whatever the count is. Answers its length.
+fn last_line(buf: &mut [u8], count: usize) -> usize
+    requires { ⌜ 29 ≤ length (now buf) ⌝ }
+    ensures { λ r. ⌜ r ≡ length (lineText recordsKey count) ⌝ }
+    ensures { λ _. ⌜ now (buf .exit) ≡ spliced (now (buf .entry)) 0 (lineText recordsKey count) ⌝ }
+{
+    let said = put_records(buf, 0, count);
+    match said {
+        Replayed::Written(end) => end,
+        Replayed::NoRoom(_) => 0,
+    }
+}
+
+// Refusal 9 of a text that is no trace: one piece.
+fn broken_to(s: &[u8], line: usize, to: i32) -> Sent
     requires { ⌜ reading (now s) ≡ Broken line ⌝ }
-    ensures { λ r. do ⌜ SentFits (← ⟦kinds::SLOTS⟧ .entry) (now (s .entry)) r ⌝ }
+    ensures { λ r. do ⌜ SentFits (← ⟦kinds::SLOTS⟧ .entry) (now (s .entry)) to r ⌝ }
 {
     let mut buf = [0u8; 64];
-    let said = put_broken(&mut buf, line);
-    match said {
-        Replayed::Written(end) => write_next(s, fd, &buf, 0, end),
-        Replayed::NoRoom(_) => Sent::Failed(0),
+    let size = broken_lines(&mut buf, line);
+    let start = nothing(to);
+    let went = hand_on(s, start, &buf, size);
+    match went {
+        Went::On(all) => Sent::Refused(all),
+        Went::Failed(place) => Sent::Failed(place),
     }
 }
 
 // Runs the records of a trace that was read, a buffer's worth at a time, and says how many there are.
 // It stops at the first write that fails: the output is then a beginning of the right one, without the last line.
-fn run_to(s: &[u8], count: usize, fd: i32) -> Sent
+fn run_to(s: &[u8], count: usize, to: i32) -> Sent
     requires { ⌜ reading (now s) ≡ Whole count ⌝ }
-    ensures { λ r. do ⌜ SentFits (← ⟦kinds::SLOTS⟧ .entry) (now (s .entry)) r ⌝ }
+    ensures { λ r. do ⌜ SentFits (← ⟦kinds::SLOTS⟧ .entry) (now (s .entry)) to r ⌝ }
 {
     let mut buf = io::large_buffer();
     let mut table = table::fresh();
     let mut at = trace::first_record();
-    let mut sent: usize = 0;
+    let mut gone = nothing(to);
     while at != s.len() {
         let part = run_part(s, at, table, &mut buf);
-        let wrote = write_next(s, fd, &buf, sent, part.filled);
-        let Sent::All(total) = wrote else {
-            return Sent::Failed(sent);
-        };
-        sent = total;
+        let went = hand_on(s, gone, &buf, part.filled);
+        match went {
+            Went::On(more) => gone = more,
+            Went::Failed(place) => return Sent::Failed(place),
+        }
         at = part.at;
         table = part.table;
     }
-    let said = put_records(&mut buf, 0, count);
-    match said {
-        Replayed::Written(end) => write_next(s, fd, &buf, sent, end),
-        Replayed::NoRoom(_) => Sent::Failed(sent),
+    let size = last_line(&mut buf, count);
+    let went = hand_on(s, gone, &buf, size);
+    match went {
+        Went::On(all) => Sent::All(all),
+        Went::Failed(place) => Sent::Failed(place),
     }
 }
 
-// The text that a trace prints, to a file descriptor.
-pub fn replay_to(s: &[u8], fd: i32) -> Sent
-    ensures { λ r. do ⌜ SentFits (← ⟦kinds::SLOTS⟧ .entry) (now (s .entry)) r ⌝ }
+// The text that a trace prints, to a file descriptor. The whole trace is read before any record is run.
+pub fn replay_to(s: &[u8], to: i32) -> Sent
+    ensures { λ r. do ⌜ SentFits (← ⟦kinds::SLOTS⟧ .entry) (now (s .entry)) to r ⌝ }
 {
     let reading = trace::read_trace(s);
     match reading {
-        Reading::Broken(line) => broken_to(s, line, fd),
-        Reading::Whole(count) => run_to(s, count, fd),
+        Reading::Broken(line) => broken_to(s, line, to),
+        Reading::Whole(count) => run_to(s, count, to),
     }
 }

@@ -14,7 +14,7 @@ fn shorter(a: usize, b: usize) -> usize
 
 // What a snapshot with this sample holds; a slot past the snapshot's places is not read.
 pub fn take_snapshot(txids: &[u64], sample: u64) -> Snapshot
-    ensures { λ r. do ⌜ r ≡ snapshotOf (← ⟦kinds::SLOTS⟧ .entry) (take (← ⟦kinds::SLOTS⟧ .entry) (now (txids .entry))) sample ⌝ }
+    ensures { λ r. do n ← ⟦kinds::SLOTS⟧ .entry; ⌜ r ≡ snapshotOf n (take n (now (txids .entry))) sample ⌝ }
 {
     let end = shorter(SLOTS, txids.len());
     let mut ids = kinds::zeros();

@@ -1,4 +1,3 @@
 pub mod Named
+pub mod Put
 pub mod Step
-pub mod Plain
-pub mod Listing

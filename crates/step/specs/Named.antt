@@ -1,13 +1,9 @@
--- The call that a record names, and what it prints.
-use Prim.Native.Nat.{ℕ}
-use mathlib.Core.List.{List}
+-- The call that a record names.
 use Rattle.kinds.specs.Kinds.{number, slot, txid}
-use Rattle.model.specs.declared.Table.{Table}
-use Rattle.model.specs.Calls.{Call, begin, end, snap, own, oldest, vacuum, stamp, finish, after, answer}
+use Rattle.model.specs.Calls.{Call, begin, end, snap, own, oldest, vacuum, stamp, finish}
 use Rattle.trace.specs.declared.Op.{Op}
 use Rattle.trace.specs.declared.Op.the-variants.{Begin, End, Snap, Own, Oldest, Vacuum, Stamp, Finish}
 use Rattle.trace.specs.declared.Record.{Record}
-use Rattle.render.specs.Output.{answerText}
 
 -- the call with the fields that its op reads
 abbrev pub callBy : Op → Record → Call
@@ -22,7 +18,3 @@ callBy Finish r = finish (slot (r .slot)) (txid (r .id)) (number (r .stamp))
 
 unfoldable pub callOf : Record → Call
 callOf r = callBy (r .op) r
-
--- what a call prints: its answer, and the line after it
-unfoldable pub outputOf : ℕ → Table → Call → List ℕ
-outputOf n t c = answerText (after n t c .line) (answer n t c)

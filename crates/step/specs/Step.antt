@@ -1,28 +1,28 @@
--- What running one call promises, on a table whose columns and counters are lent.
-use Prim.Native.Nat.{ℕ, _≤_}
-use mathlib.Core.Path.{_≡_}
+-- What running one call promises, on columns and counters that are lent: they are a table.
+use Prim.Native.Nat.{ℕ}
+use mathlib.Core.Bool.{cond}
 use mathlib.Core.List.{List}
+use lib.Dec.{leb}
 use lib.ListN.{length}
 use Rattle.model.specs.declared.Table.{Table}
-use Rattle.model.specs.Calls.{Call, after, answer}
-use Rattle.changes.specs.declared.Counters.{Counters}
-use Rattle.changes.specs.Changes.{applied}
-use Rattle.changes.specs.Lent.{Lent}
-use Rattle.render.specs.Output.{putText, leftText}
-use Rattle.step.specs.declared.Outcome.{Outcome}
-use Rattle.step.specs.Named.{outputOf}
+use Rattle.model.specs.declared.change.SlotChange.the-variants.{Stays}
+use Rattle.model.specs.Changes.{change}
+use Rattle.model.specs.Calls.{Call, changeOf, shown}
+use Rattle.output.specs.Output.{printed, putText, leftText}
+use Rattle.text.specs.declared.Put.the-variants.{NoRoom}
+use Rattle.step.specs.declared.Ran.{Ran}
 
--- the call's text is put where it has room, and its change is the table's next step
-pub record Ran (n : ℕ) (t : Table) (c : Call) (xs : List ℕ) (at : ℕ) (ys : List ℕ) (o : Outcome) : Type 0 where
-  pub put : o .put ≡ putText n xs at (length (answer n t c .ids)) (outputOf n t c)
-  pub left : ys ≡ leftText n xs at (length (answer n t c .ids)) (outputOf n t c)
-  pub table : applied n t (o .change) ≡ after n t c
+-- its text is put where it has room, and its change is the table's next step
+abbrev pub ranOf : ℕ → Table → Call → List ℕ → ℕ → Ran
+ranOf n t c xs at = record { put = putText n xs at (shown n t c .count) (printed n t c); change = changeOf n t c }
 
--- for every table of at most n slots that lent these txids and counters
-abbrev pub RanBy : ℕ → List ℕ → Counters → Call → List ℕ → ℕ → List ℕ → Outcome → Type 0
-RanBy n txids was c xs at ys o = (t : Table) → Lent t txids was → length (t .txids) ≤ n → Ran n t c xs at ys o
+abbrev pub leftOf : ℕ → Table → Call → List ℕ → ℕ → List ℕ
+leftOf n t c xs at = leftText n xs at (shown n t c .count) (printed n t c)
 
--- .. and these snapshot_xmins
-abbrev pub RanByBoth : ℕ → List ℕ → List ℕ → Counters → Call → List ℕ → ℕ → List ℕ → Outcome → Type 0
-RanByBoth n txids xmins was c xs at ys o =
-    (t : Table) → Lent t txids was → t .«snapshot_xmins» ≡ xmins → length (t .txids) ≤ n → Ran n t c xs at ys o
+-- nothing is run on columns of more than n slots
+unfoldable pub ran : ℕ → Table → Call → List ℕ → ℕ → Ran
+ran n t c xs at =
+    cond (leb (length (t .txids)) n) (ranOf n t c xs at) (record { put = NoRoom; change = change Stays (t .counters) })
+
+unfoldable pub ranLeft : ℕ → Table → Call → List ℕ → ℕ → List ℕ
+ranLeft n t c xs at = cond (leb (length (t .txids)) n) (leftOf n t c xs at) xs

@@ -1,24 +1,24 @@
 // The call that a record names.
-use crate::Outcome;
-use crate::listing::run_own;
-use crate::listing::run_snap;
-use crate::plain::plain_begin;
-use crate::plain::plain_end;
-use crate::plain::plain_finish;
-use crate::plain::plain_oldest;
-use crate::plain::plain_stamp;
-use crate::plain::plain_vacuum;
-use crate::plain::put_plain;
-use changes::Counters;
+use crate::Ran;
+use crate::put::put_listing;
+use crate::put::put_plain;
+use kinds::SLOTS;
 use kinds::SlotNo;
 use kinds::Stamp;
 use kinds::Txid;
+use table::Change;
+use table::Counters;
+use table::SlotChange;
+use text::Put;
 use trace::Op;
 use trace::Record;
+ghost use mathlib.Core.Path.{_≡_};
+ghost use Rattle.model.specs.Tables.{lent};
 ghost use Rattle.step.specs.Named.{callOf};
-ghost use Rattle.step.specs.Step.{RanByBoth};
+ghost use Rattle.step.specs.Step.{ran, ranLeft};
 
-// Runs a record on the table that lent these columns and counters.
+// Runs a record on the table that lent these columns and counters. A snapshot has a place for each slot of a table: columns
+// with more slots than that are no table's, and nothing is run on them.
 pub fn run_record<'a>(
     txids: &'a [u64],
     xmins: &'a [u64],
@@ -26,21 +26,47 @@ pub fn run_record<'a>(
     r: Record,
     buf: &mut [u8],
     at: usize,
-) -> Outcome
-    ensures { λ o. do ⌜ RanByBoth (← ⟦kinds::SLOTS⟧ .entry) (now (txids .entry)) (now (xmins .entry)) was (callOf r) (now (buf .entry)) at (now (buf .exit)) o ⌝ }
+) -> Ran
+    ensures { λ o. do
+      n ← ⟦kinds::SLOTS⟧ .entry
+      ⌜ o ≡ ran n (lent (now (txids .entry)) (now (xmins .entry)) was) (callOf r) (now (buf .entry)) at ⌝ }
+    ensures { λ _. do
+      n ← ⟦kinds::SLOTS⟧ .entry
+      ⌜ now (buf .exit) ≡ ranLeft n (lent (now (txids .entry)) (now (xmins .entry)) was) (callOf r) (now (buf .entry)) at ⌝ }
 {
+    if SLOTS < txids.len() {
+        return Ran {
+            put: Put::NoRoom,
+            change: Change {
+                slot: SlotChange::Stays,
+                counters: was,
+            },
+        };
+    }
     let op = r.op;
     let slot = SlotNo(r.slot);
     let id = Txid(r.id);
     let number = Stamp(r.stamp);
     match op {
-        Op::Begin => put_plain(plain_begin(txids, was, number), buf, at),
-        Op::End => put_plain(plain_end(txids, was, slot, id), buf, at),
-        Op::Snap => run_snap(txids, was, r.clock, r.sample, buf, at),
-        Op::Own => run_own(txids, was, slot, id, r.clock, r.sample, buf, at),
-        Op::Oldest => put_plain(plain_oldest(txids, xmins, was, r.clock, r.sample), buf, at),
-        Op::Vacuum => put_plain(plain_vacuum(txids, xmins, was, r.clock, r.sample), buf, at),
-        Op::Stamp => put_plain(plain_stamp(was, number), buf, at),
-        Op::Finish => put_plain(plain_finish(txids, was, slot, id, number), buf, at),
+        Op::Begin => put_plain(table::decide_begin(txids, was, number), buf, at),
+        Op::End => put_plain(table::decide_end(txids, was, slot, id), buf, at),
+        Op::Snap => put_listing(table::decide_snap(txids, was, r.clock, r.sample), buf, at),
+        Op::Own => put_listing(
+            table::decide_own(txids, was, slot, id, r.clock, r.sample),
+            buf,
+            at,
+        ),
+        Op::Oldest => put_plain(
+            table::decide_oldest(txids, xmins, was, r.clock, r.sample),
+            buf,
+            at,
+        ),
+        Op::Vacuum => put_plain(
+            table::decide_vacuum(txids, xmins, was, r.clock, r.sample),
+            buf,
+            at,
+        ),
+        Op::Stamp => put_plain(table::decide_stamp(was, number), buf, at),
+        Op::Finish => put_plain(table::decide_finish(txids, was, slot, id, number), buf, at),
     }
 }

@@ -1,43 +1,33 @@
-// The slot table as a host uses it: the fresh table, the eight calls by value, and the same calls decided on lent columns.
-mod rows;
+// The slot table under one name: the fresh table, the eight calls by value, the same calls decided on lent columns, and how a
+// change that was decided is stored. What stands above the table knows this crate and the model's definitions.
+mod holds;
 
-pub use changes::Change;
-pub use changes::Counters;
 pub use changes::apply;
-pub use changes::counters_of;
-pub use changes::store_at;
-pub use horizon::Oldest;
-pub use horizon::OldestAnswer;
-pub use horizon::OldestDecision;
-pub use horizon::VacuumAnswer;
-pub use horizon::VacuumDecision;
-pub use horizon::Vacuumed;
+pub use changes::store_txid;
+pub use changes::store_xmin;
+pub use holds::promise_holds;
+pub use holds::rows_hold;
 pub use horizon::decide_oldest;
 pub use horizon::decide_vacuum;
 pub use horizon::oldest_snapshot_xmin;
 pub use horizon::vacuum;
+pub use model::Answer;
+pub use model::Change;
+pub use model::Counters;
+pub use model::Decision;
+pub use model::Outcome;
+pub use model::SlotChange;
+pub use model::SnapshotDecision;
+pub use model::SnapshotOutcome;
 pub use model::Table;
-pub use publication::StampAnswer;
-pub use publication::StampDecision;
-pub use publication::Stamped;
 pub use publication::decide_finish;
 pub use publication::decide_stamp;
 pub use publication::finish_transaction;
 pub use publication::reserve_publication_clock;
-pub use registration::BeginAnswer;
-pub use registration::BeginDecision;
-pub use registration::Begun;
-pub use registration::EndAnswer;
-pub use registration::EndDecision;
-pub use registration::Ended;
 pub use registration::begin_transaction;
 pub use registration::decide_begin;
 pub use registration::decide_end;
 pub use registration::end_transaction;
-pub use rows::rows_hold;
-pub use snapshots::SnapshotAnswer;
-pub use snapshots::SnapshotDecision;
-pub use snapshots::Taken;
 pub use snapshots::create_snapshot;
 pub use snapshots::create_transaction_snapshot;
 pub use snapshots::decide_own;
@@ -54,8 +44,10 @@ pub fn fresh() -> Table
     Table {
         txids,
         snapshot_xmins,
-        clock: 1,
-        sampled_clock: 1,
-        line: 1,
+        counters: Counters {
+            clock: 1,
+            sampled_clock: 1,
+            vacuum_line: 1,
+        },
     }
 }

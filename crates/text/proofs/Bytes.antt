@@ -30,7 +30,7 @@ starts-text (b ∷ k) (c ∷ s) e = go (eqb c b) refl e (starts-text k s)
     go true p e ih = ap₂ (λ (x : ℕ) (l : List ℕ). x ∷ l) (eqb-true c b p) (ih e)
     go false p e ih = absurd (false≢true e)
 
--- a key that stands at `at` ends within the bytes, unless it is empty
+-- a key that stands at `at` ends within the bytes, consUnless it is empty
 pub starts-room : (k s : List ℕ) (at : ℕ) → 0 < length k → starts k (drop at s) ≡ true → at + length k ≤ length s
 starts-room k s at h e = omega (arith, simp (length-append, length-drop) at (ap length (starts-text k (drop at s) e)))
 

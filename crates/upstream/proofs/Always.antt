@@ -1,70 +1,104 @@
--- Upstream's well_formed is kept by every call, whatever it is given and however it is refused.
+-- Upstream's well_formed is kept by every call, whatever it is given and however it is refused; this is E1 of all its functions.
+-- Its part on slots and clocks is the table check at line 1 (Yes.antt), which every call keeps (model's `good-after`), and no
+-- step of upstream's state sees the line (`line-unread`). Its part on the history: `Step` says what a call reserves
+-- (Histories.antt), and who is registered after a call was so before, or is its begin (model's `was`).
 use Prim.Native.Nat.{ℕ}
-use mathlib.Core.Path.{_≡_, refl, subst}
-use mathlib.Core.Logic.{_⊎_, inl, inr}
-use mathlib.Core.List.{List}
-use Rattle.kinds.specs.declared.refusal.Refusal.the-variants.{NoFreeSlot, InvalidSlot, SlotOwnershipMismatch, ZeroTxid, ClockExhausted, BadReservation, BadClock, BadSample, BadTrace, BadSnapshot}
+use mathlib.Core.Path.{_≡_, refl, sym, subst, _∙_}
+use mathlib.Core.Logic.{_≢_}
+use mathlib.Core.List.{List, [], _∷_}
+use Rattle.kinds.specs.Kinds.{slot, txid}
 use Rattle.kinds.specs.declared.refusal.Verdict.{Verdict}
 use Rattle.kinds.specs.declared.refusal.Verdict.the-variants.{Pass, Refuse}
 use Rattle.kinds.specs.Refusals.{consumed}
+use Rattle.model.specs.declared.Counters.{Counters}
 use Rattle.model.specs.declared.Table.{Table}
-use Rattle.model.specs.Tables.{observed}
-use Rattle.model.specs.Calls.{Call, begin, end, snap, own, oldest, vacuum, stamp, finish, refusal, afterAccepted, spent, afterRefused, afterBy, after}
-use Rattle.upstream.specs.States.{State, stateOf, stateAfter, historyBy, Shaped, Foreseen}
-use Rattle.upstream.specs.Relations.{WellFormed, Sound}
-use Rattle.upstream.proofs.Runs.{Observing, seen, observing}
-use Rattle.upstream.proofs.Moves.{well-observed}
-use Rattle.upstream.proofs.Begin.{begin-meets}
-use Rattle.upstream.proofs.End.{end-meets}
-use Rattle.upstream.proofs.Snapshots.{own-keeps}
-use Rattle.upstream.proofs.Oldest.{oldest-meets}
-use Rattle.upstream.proofs.Publish.{stamp-meets, finish-meets}
+use Rattle.model.specs.Tables.{txidAt}
+use Rattle.model.specs.Changes.{pastNumber, withLine, applied}
+use Rattle.model.specs.Calls.{Call, begin, end, snap, own, oldest, vacuum, stamp, finish}
+use Rattle.model.specs.Calls.{refusal, changeAccepted, spent, changeBy, changeOf, after}
+use Rattle.model.specs.Facts.{Good}
+use Rattle.model.specs.Reservations.{reservesBy}
+use Rattle.model.proofs.Facts.{good-after}
+use Rattle.model.proofs.Holders.{Was, before-it, begun-by-it, was}
+use Rattle.model.proofs.Reservations.{reserve-step}
+use Rattle.upstream.specs.States.{State, at, pushes, stateOf, stateAfter, historyBy, Shaped}
+use Rattle.upstream.specs.Relations.{Contains, HistoryOf, WellFormed, Sound}
+use Rattle.upstream.proofs.Pairs.{slotsOf, txid-at}
+use Rattle.upstream.proofs.Yes.{from-good, atLine, to-good}
+use Rattle.upstream.proofs.Histories.{contains-pushes, contains-last, history-step}
 
--- refusals 4 to 8 move nothing
-unforeseen :
-    (v : Verdict) (t : Table) (history : List ℕ) (c : Call) →
-    Foreseen v ⊎ (stateOf t history ≡ stateOf (afterBy v t c) (historyBy v history c))
-unfolding consumed spent afterRefused
-unforeseen Pass t history c = inl tt
-unforeseen (Refuse (NoFreeSlot txid)) t history c = inl tt
-unforeseen (Refuse (InvalidSlot i)) t history c = inl tt
-unforeseen (Refuse (SlotOwnershipMismatch i expected observed)) t history c = inl tt
-unforeseen (Refuse ZeroTxid) t history c = inr refl
-unforeseen (Refuse ClockExhausted) t history c = inr refl
-unforeseen (Refuse BadReservation) t history c = inr refl
-unforeseen (Refuse BadClock) t history c = inr refl
-unforeseen (Refuse BadSample) t history c = inr refl
-unforeseen (Refuse (BadTrace line)) t history c = inr refl
-unforeseen (Refuse BadSnapshot) t history c = inr refl
+-- no test reads the line ..
+refusal-unseen : (n line : ℕ) (t : Table) (c : Call) → refusal n (atLine line t) c ≡ refusal n t c
+unfolding refusal
+refusal-unseen n line t (begin number) = refl
+refusal-unseen n line t (end slot id) = refl
+refusal-unseen n line t (snap clock sample) = refl
+refusal-unseen n line t (own slot id clock sample) = refl
+refusal-unseen n line t (oldest clock sample) = refl
+refusal-unseen n line t (vacuum clock sample) = refl
+refusal-unseen n line t (stamp number) = refl
+refusal-unseen n line t (finish slot id number) = refl
 
-module _ (n : ℕ) (t : Table) (history : List ℕ) (s : Shaped n t) (w : WellFormed n (stateOf t history)) where
-  sound : Sound n t
-  sound = record { shape = s; table = w .table }
+spent-unseen : (ids : List ℕ) (line : ℕ) (k : Counters) → spent ids (withLine line k) ≡ withLine line (spent ids k)
+unfolding spent
+spent-unseen [] line k = refl
+spent-unseen (x ∷ ids) line k = spent-unseen ids line (pastNumber x k)
 
-  -- snap and vacuum: upstream's state shows of both no more than the observation
-  observation-keeps :
-      (c m : ℕ) (call : Call) → stateOf (afterAccepted t call) (historyBy Pass history call) ≡ stateOf (observed c m t) history →
-      (v : Verdict) → Observing (t .clock) c m v → WellFormed n (stateOf (afterBy v t call) (historyBy v history call))
-  observation-keeps c m call e v (seen f) = rw e (well-observed n t history w c m f)
+-- .. and nothing but the line is changed by it
+changed-unseen :
+    (v : Verdict) (line : ℕ) (t : Table) (history : List ℕ) (c : Call) →
+    stateOf (applied (atLine line t) (changeBy v (atLine line t) c)) history ≡ stateOf (applied t (changeBy v t c)) history
+unfolding changeAccepted
+changed-unseen Pass line t history (begin number) = refl
+changed-unseen Pass line t history (end slot id) = refl
+changed-unseen Pass line t history (snap clock sample) = refl
+changed-unseen Pass line t history (own slot id clock sample) = refl
+changed-unseen Pass line t history (oldest clock sample) = refl
+changed-unseen Pass line t history (vacuum clock sample) = refl
+changed-unseen Pass line t history (stamp number) = refl
+changed-unseen Pass line t history (finish slot id number) = refl
+changed-unseen (Refuse r) line t history c = rw (spent-unseen (consumed r) line (t .counters))
 
-  foreseen-keeps : (c : Call) → Foreseen (refusal n t c) → WellFormed n (stateAfter n t history c)
-  unfolding refusal afterAccepted after
-  foreseen-keeps (begin k) f = begin-meets n t history k sound f .l-begin-e1 (w .history)
-  foreseen-keeps (end i id) f = end-meets n t history i id sound f .l-end-e1 (w .history)
-  foreseen-keeps (snap c m) f = observation-keeps c m (snap c m) refl (refusal n t (snap c m)) (observing (t .clock) c m f)
-  foreseen-keeps (own i id c m) f = own-keeps n t history sound i id c m f (w .history)
-  foreseen-keeps (oldest c m) f = oldest-meets n t history c m sound f .l-oldest-e1 (w .history)
-  foreseen-keeps (vacuum c m) f = observation-keeps c m (vacuum c m) refl (refusal n t (vacuum c m)) (observing (t .clock) c m f)
-  foreseen-keeps (stamp k) f = stamp-meets n t history sound k f .l-stamp-e1 (w .history)
-  foreseen-keeps (finish i id k) f = finish-meets n t history sound i id k f .l-finish-e1 (w .history)
+pub line-unread :
+    (n line : ℕ) (t : Table) (history : List ℕ) (c : Call) →
+    stateAfter n (atLine line t) history c ≡ stateAfter n t history c
+unfolding changeOf after
+line-unread n line t history c =
+    rw (refusal-unseen n line t c) (changed-unseen (refusal n t c) line t (historyBy (refusal n t c) history c) c)
 
-  -- every call, accepted or refused, keeps upstream's well_formed
-  pub well-formed-kept : (c : Call) → WellFormed n (stateAfter n t history c)
-  unfolding after
-  well-formed-kept c = go (unforeseen (refusal n t c) t history c)
-    where
-      go :
-          Foreseen (refusal n t c) ⊎ (stateOf t history ≡ stateAfter n t history c) →
-          WellFormed n (stateAfter n t history c)
-      go (inl f) = foreseen-keeps c f
-      go (inr e) = subst (λ (x : State). WellFormed n x) e w
+-- on a table that passes the check
+good-kept :
+    (n : ℕ) (t : Table) (history : List ℕ) (c : Call) → Good n t → HistoryOf (stateOf t history) →
+    WellFormed n (stateAfter n t history c)
+good-kept n t history c g h =
+    record { table = later .table; history = history-step _ _ _ _ history h ids (reserve-step n t c) registered }
+  where
+    ids : List ℕ
+    ids = reservesBy (refusal n t c) c
+
+    now : Sound n t
+    now = from-good n t g
+
+    later : Sound n (after n t c)
+    later = from-good n (after n t c) (good-after n t c g)
+
+    had : (i x : ℕ) → Was t (slot i) (txid x) c (refusal n t c) → Contains (pushes history ids) x
+    had i x (before-it r f) =
+        let held : at (slotsOf t) i .txid ≡ x = txid-at n t (now .shape) i ∙ r .holds in
+        contains-pushes history ids x (rw held at (h .registered i (λ z. r .not-zero (sym held ∙ z))))
+    had i x (begun-by-it number p v s e) =
+        let only : ids ≡ number .0 ∷ [] = rw (v, p) in
+        rw (only, e) (contains-last history x)
+
+    registered : (i : ℕ) → at (slotsOf (after n t c)) i .txid ≢ 0 → Contains (pushes history ids) (at (slotsOf (after n t c)) i .txid)
+    registered i z =
+        let held = txid-at n (after n t c) (later .shape) i in
+        rw held
+        (had i (txidAt (after n t c) i) (was n t (slot i) (txid _) c (record { not-zero = λ q. z (held ∙ q); holds = refl })))
+
+pub well-formed-kept :
+    (n : ℕ) (t : Table) (history : List ℕ) → Shaped n t → (c : Call) → WellFormed n (stateOf t history) →
+    WellFormed n (stateAfter n t history c)
+well-formed-kept n t history s c w =
+    subst (λ (x : State). WellFormed n x) (line-unread n 1 t history c)
+    (good-kept n (atLine 1 t) history c (to-good n t (record { shape = s; table = w .table })) (w .history))

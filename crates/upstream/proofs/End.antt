@@ -1,6 +1,7 @@
--- L.end_transaction: our end meets upstream's contract where none of 4 to 8 is given.
+-- L.end_transaction: our end meets upstream's contract where none of 4 to 8 is given. An end that is foreseen has its slot
+-- outside, or in another's hands, or its own (Runs.antt); only the last moves anything, the one slot.
 use Prim.Native.Nat.{ℕ}
-use mathlib.Core.Path.{refl, _∙_}
+use mathlib.Core.Path.{refl, _∙_, sym}
 use mathlib.Core.List.{List}
 use native.Mathlib.Nat.{suc-ne-zero}
 use borrow.Author.Tests.{le-leb, lt-leb, eq-eqb, ne-eqb}
@@ -8,25 +9,27 @@ use Rattle.kinds.specs.declared.SlotNo.{SlotNo}
 use Rattle.kinds.specs.declared.Txid.{Txid}
 use Rattle.kinds.specs.Refusals.{told, consumed}
 use Rattle.kinds.specs.declared.refusal.Verdict.{Verdict}
+use Rattle.kinds.specs.declared.refusal.Verdict.the-variants.{Pass}
+use Rattle.kinds.proofs.Verdicts.{then-last}
 use Rattle.model.specs.declared.Table.{Table}
-use Rattle.model.specs.Calls.{end, refusal, afterAccepted, spent, afterRefused, afterBy, after, answerAccepted, answerBy, answer}
-use Rattle.upstream.specs.States.{stateOf, stateAfter, historyBy, Foreseen}
-use Rattle.upstream.specs.Relations.{Sound}
+use Rattle.model.specs.Answers.{tellsOf}
+use Rattle.model.specs.Calls.{end, refusal, changeAccepted, spent, changeOf, after, answerAccepted, answerBy, answer}
+use Rattle.upstream.specs.States.{stateOf, stateAfter, Shaped, Foreseen}
+use Rattle.upstream.specs.Relations.{WellFormed}
 use Rattle.upstream.specs.Clauses.{EndTransaction}
-use Rattle.upstream.proofs.Pairs.{pairs-set}
-use Rattle.upstream.proofs.Runs.{Owning, outside, other, owned, owning}
-use Rattle.upstream.proofs.Moves.{with-history, txid-at, well-cleared}
+use Rattle.upstream.proofs.Pairs.{pairs-set, txid-at}
+use Rattle.upstream.proofs.Always.{well-formed-kept}
+use Rattle.upstream.proofs.Runs.{stateBy, Owning, outside, other, owned, owning}
 
-module _
-    (n : ℕ) (t : Table) (history : List ℕ) (i : SlotNo) (id : Txid) (y : Sound n t) where
+module _ (n : ℕ) (t : Table) (history : List ℕ) (i : SlotNo) (id : Txid) (s : Shaped n t) where
   by-run :
-      (v : Verdict) → Owning n (t .txids) i id Unit v →
-      EndTransaction n (stateOf t history) (stateOf (afterBy v t (end i id)) (historyBy v history (end i id))) i id
-      (answerBy v t (end i id))
-  unfolding afterAccepted consumed spent afterRefused answerAccepted told
-  by-run v (outside h) =
+      (v : Verdict) → (WellFormed n (stateOf t history) → WellFormed n (stateBy v t history (end i id))) →
+      Owning n t i id (end i id) v →
+      EndTransaction n (stateOf t history) (stateBy v t history (end i id)) i id (tellsOf (answerBy v t (end i id)))
+  unfolding changeAccepted consumed spent answerAccepted tellsOf told
+  by-run v kept (outside h) =
       record {
-        l-end-e1 = with-history n t history y;
+        l-end-e1 = kept;
         l-end-e3 = refl;
         l-end-e4 = refl;
         l-end-e5 = refl;
@@ -34,34 +37,36 @@ module _
         l-end-e7 = λ e. refl;
         l-end-e8 = rw (le-leb n (i .0) h);
       }
-  by-run v (other h d) =
+  by-run v kept (other h d) =
       record {
-        l-end-e1 = with-history n t history y;
+        l-end-e1 = kept;
         l-end-e3 = refl;
         l-end-e4 = refl;
         l-end-e5 = refl;
         l-end-e6 = λ e. absurd (suc-ne-zero _ e);
         l-end-e7 = λ e. refl;
-        l-end-e8 = rw (txid-at n t (i .0) (y .shape), lt-leb n (i .0) h, ne-eqb _ _ d);
+        l-end-e8 = rw (txid-at n t s (i .0), lt-leb n (i .0) h, ne-eqb _ _ d);
       }
-  by-run v (owned h z o u) =
+  by-run v kept (owned o) =
       record {
-        l-end-e1 = λ p. well-cleared n t history (with-history n t history y p) (i .0);
+        l-end-e1 = kept;
         l-end-e3 = refl;
         l-end-e4 = refl;
         l-end-e5 = refl;
         l-end-e6 =
             λ e. record {
-              l-end-e6a = h;
-              l-end-e6b = txid-at n t (i .0) (y .shape) ∙ o;
+              l-end-e6a = o .inside;
+              l-end-e6b = txid-at n t s (i .0) ∙ o .registered .holds;
               l-end-e6c = pairs-set (t .txids) (t .«snapshot_xmins») (i .0) 0 0;
             };
         l-end-e7 = λ e. absurd (e refl);
-        l-end-e8 = rw (txid-at n t (i .0) (y .shape), lt-leb n (i .0) h, eq-eqb _ _ o);
+        l-end-e8 = rw (txid-at n t s (i .0), lt-leb n (i .0) (o .inside), eq-eqb _ _ (o .registered .holds));
       }
 
   pub end-meets :
       Foreseen (refusal n t (end i id)) →
-      EndTransaction n (stateOf t history) (stateAfter n t history (end i id)) i id (answer n t (end i id))
-  unfolding refusal after answer
-  end-meets f = by-run (refusal n t (end i id)) (owning n (t .txids) i id f)
+      EndTransaction n (stateOf t history) (stateAfter n t history (end i id)) i id (tellsOf (answer n t (end i id)))
+  unfolding refusal changeOf after answer
+  end-meets f =
+      by-run (refusal n t (end i id)) (well-formed-kept n t history s (end i id))
+      (owning n t i id (end i id) Pass (λ g. refl) (sym (then-last _)) f)

@@ -1,30 +1,27 @@
--- Upstream's state over a list of calls from fresh: the table reached, and the numbers reserved. Its well_formed holds of every one.
+-- Upstream's state over a list of calls from fresh: the table reached, and the numbers reserved. Each call is one step of it, and
+-- well_formed holds of every one: the table passes the check (model's `good-reached`), the numbers are in order (its
+-- `reserved-in-order`) and have every taken txid (its `taken-reserved`).
 use Prim.Native.Nat.{ℕ}
-use mathlib.Core.Path.{_≡_, refl, sym, ap, _∙_}
+use mathlib.Core.Path.{_≡_, sym, ap, _∙_}
 use mathlib.Core.Logic.{_≢_}
 use mathlib.Core.Bool.{true}
 use mathlib.Core.List.{List, [], _∷_, _++_, append-assoc, append-nil}
-use lib.ListN.{replicate}
 use Rattle.settled.specs.Settled.{listed}
 use Rattle.settled.proofs.Listed.{listed-place}
 use Rattle.model.specs.declared.Table.{Table}
-use Rattle.model.specs.Tables.{freshTable}
+use Rattle.model.specs.Tables.{freshTable, clockOf}
 use Rattle.model.specs.Calls.{Call, refusal, after}
 use Rattle.model.specs.History.{reached}
 use Rattle.model.specs.Reservations.{reservesBy, reservations}
-use Rattle.model.proofs.Places.{zeros-hold}
 use Rattle.model.proofs.History.{run-snoc}
 use Rattle.model.proofs.Facts.{good-reached}
+use Rattle.model.proofs.BelowTop.{below-reached}
 use Rattle.model.proofs.Reservations.{InOrder, reserved-in-order, order-place, order-places, reservations-snoc}
 use Rattle.model.proofs.Taken.{taken-reserved}
-use Rattle.upstream.specs.States.{State, slot, at, pairs, push, pushes, stateOf, stateAfter}
-use Rattle.upstream.specs.Relations.{Contains, WellFormed, Sound}
-use Rattle.upstream.proofs.Pairs.{pairs-at}
-use Rattle.upstream.proofs.Moves.{slotsOf, txid-at}
+use Rattle.upstream.specs.States.{State, at, push, pushes, stateOf, stateAfter}
+use Rattle.upstream.specs.Relations.{Contains, WellFormed, Sound, TxidsBelowTop}
+use Rattle.upstream.proofs.Pairs.{slotsOf, txid-at}
 use Rattle.upstream.proofs.Yes.{from-good}
-
-pub fresh-at : (n i : ℕ) → at (pairs (replicate n 0) (replicate n 0)) i ≡ slot 0 0
-fresh-at n i = pairs-at (replicate n 0) (replicate n 0) i refl ∙ rw (zeros-hold n i)
 
 -- a history, as upstream has it
 abbrev pub stateReached : ℕ → List Call → State
@@ -65,11 +62,14 @@ from-fresh n cs =
           };
     }
   where
-    order : InOrder (freshTable n .clock) (reservations n cs) (reached n cs .clock)
+    order : InOrder (clockOf (freshTable n)) (reservations n cs) (clockOf (reached n cs))
     order = reserved-in-order n (freshTable n) cs
 
     registered :
         (i : ℕ) → at (slotsOf (reached n cs)) i .txid ≢ 0 → Contains (reservations n cs) (at (slotsOf (reached n cs)) i .txid)
     registered i z =
-        let e = txid-at n (reached n cs) i (sound-from-fresh n cs .shape) in
+        let e = txid-at n (reached n cs) (sound-from-fresh n cs .shape) i in
         rw e (listed-contains _ (reservations n cs) (taken-reserved n cs i (λ q. z (e ∙ q))))
+
+pub below-from-fresh : (n : ℕ) (cs : List Call) → TxidsBelowTop (stateReached n cs)
+below-from-fresh n cs i = rw (txid-at n (reached n cs) (sound-from-fresh n cs .shape) i) (below-reached n cs i)

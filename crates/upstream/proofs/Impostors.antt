@@ -1,68 +1,100 @@
--- Wrong bodies that upstream's contracts accept: each of them meets every clause.
+-- Wrong bodies that upstream's contracts accept: each of them meets every clause. (`wrong-kind` in Checked.antt is one more.)
+-- Three do what our own calls do when they are given sample 1, or another clock: that upstream's clauses hold is then the
+-- theorem about our call. For the other tables well_formed is shown as in Always.antt, by the table check at line 1.
 use Prim.Native.Nat.{ℕ, _+_, _<_, _≤_}
-use mathlib.Core.Path.{_≡_, refl, sym, ap, _∙_}
+use mathlib.Core.Path.{_≡_, refl, sym, _∙_}
 use mathlib.Core.Logic.{_≢_}
-use mathlib.Core.Bool.{Bool, true, false, cond}
-use mathlib.Core.List.{List, []}
+use mathlib.Core.List.{List, [], _∷_}
 use native.Mathlib.Nat.{le-refl, suc-ne-zero}
 use native.Mathlib.Omega.{arith}
-use lib.Dec.{leb}
-use lib.ListN.{getD, replicate}
-use borrow.Author.Tests.{leb-true, leb-false}
-use Rattle.kinds.specs.declared.Stamp.{Stamp}
 use Rattle.kinds.specs.declared.SlotNo.{SlotNo}
 use Rattle.kinds.specs.declared.Txid.{Txid}
-use Rattle.kinds.specs.declared.refusal.Refusal.{Refusal}
 use Rattle.kinds.specs.declared.refusal.Refusal.the-variants.{NoFreeSlot}
-use Rattle.kinds.specs.Kinds.{txid}
+use Rattle.kinds.specs.declared.told.Told.{Told}
+use Rattle.kinds.specs.Kinds.{slot, txid}
 use Rattle.kinds.specs.Refusals.{told}
-use Rattle.kinds.specs.declared.refusal.Verdict.the-variants.{Pass, Refuse}
-use Rattle.kinds.proofs.Verdicts.{refuse-not-pass}
-use Rattle.model.specs.declared.Table.{Table}
-use Rattle.model.specs.Tally.{oldestOf, snapshotOf}
-use Rattle.model.specs.Tables.{freshTable, withSlot, withClock, withLine, observed}
-use Rattle.model.specs.Answers.{Answer, registered, oldestIs, stamped, answerTold}
-use Rattle.model.specs.Calls.{afterAccepted, answerAccepted, shownAccepted}
-use Rattle.model.specs.Accepted.{Reserves, Observes}
-use Rattle.model.specs.History.{run}
-use Rattle.model.specs.Reservations.{reservationsFrom}
-use Rattle.model.proofs.BelowTop.{BelowTop}
 use Rattle.settled.specs.declared.Snapshot.{Snapshot}
-use Rattle.upstream.specs.States.{Slot, at, pairs, push, stateOf}
-use Rattle.upstream.specs.Relations.{Sound}
-use Rattle.upstream.specs.Clauses.{CheckedSlot, BeginTransaction, SnapshotLocked, CreateTransactionSnapshot, OldestSnapshotXmin, DeregisterThenReserve}
-use Rattle.upstream.proofs.Pairs.{pairs-set}
-use Rattle.upstream.proofs.Runs.{seen}
-use Rattle.upstream.proofs.Kept.{length-push, history-push}
-use Rattle.upstream.proofs.Moves.{slotsOf, with-history, txid-at, well-observed, well-entered}
-use Rattle.upstream.proofs.Snapshots.{locked-run}
-use Rattle.upstream.proofs.Oldest.{oldest-run}
+use Rattle.model.specs.declared.Table.{Table}
+use Rattle.model.specs.declared.change.SlotChange.the-variants.{Stays, Enters}
+use Rattle.model.specs.Tables.{counted, freshTable, txidAt, clockOf, lineOf}
+use Rattle.model.specs.Changes.{change, applied}
+use Rattle.model.specs.Answers.{acceptedWith}
+use Rattle.model.specs.Calls.{snap, oldest, answer, shown}
+use Rattle.model.specs.Accepted.{Reserves, Observes}
+use Rattle.model.specs.Facts.{Good}
+use Rattle.model.proofs.Places.{Stored, new-here, as-before, stored, zeros-hold}
+use Rattle.model.proofs.Moves.{CountersFit, good-applied, good-fresh}
+use Rattle.upstream.specs.States.{at, push, stateOf, stateAfter, Shaped}
+use Rattle.upstream.specs.Relations.{Contains, WellFormed}
+use Rattle.upstream.specs.Clauses.{BeginTransaction, SnapshotLocked, CreateTransactionSnapshot}
+use Rattle.upstream.specs.Clauses.{OldestSnapshotXmin, DeregisterThenReserve}
+use Rattle.upstream.proofs.Pairs.{pairs-set, slotsOf, txid-at, shaped-applied}
+use Rattle.upstream.proofs.Yes.{from-good, atLine, to-good}
+use Rattle.upstream.proofs.Histories.{length-push, contains-pushes, contains-last, history-push}
+use Rattle.upstream.proofs.Foreseen.{snap-foreseen, oldest-foreseen}
+use Rattle.upstream.proofs.Snapshots.{snapshot-locked-meets}
+use Rattle.upstream.proofs.Oldest.{oldest-meets}
 use Rattle.upstream.proofs.Publish.{above}
-use Rattle.upstream.proofs.Fresh.{fresh-at, from-fresh}
 
-abbrev none-free : ℕ → Answer
-none-free id = answerTold (told (NoFreeSlot (txid id)))
+-- an error that says of a begin that no slot is free
+abbrev none-free : Told
+none-free = told (NoFreeSlot (txid 0))
 
--- checked_slot: a slot outside is answered by any error x
-pub wrong-kind : (n : ℕ) (slot : SlotNo) (x : Refusal) → CheckedSlot n slot (cond (leb n (slot .0)) (Refuse x) Pass)
-wrong-kind n slot x = go (leb n (slot .0)) refl
-  where
-    go : (b : Bool) → leb n (slot .0) ≡ b → CheckedSlot n slot (cond b (Refuse x) Pass)
-    go true e = record { l-checked-slot-e1 = λ p. absurd (refuse-not-pass _ p); l-checked-slot-e2 = λ r p. leb-true n (slot .0) e }
-    go false e = record { l-checked-slot-e1 = λ p. leb-false n (slot .0) e; l-checked-slot-e2 = λ r p. absurd (refuse-not-pass r (sym p)) }
+-- sample 1 and line 1 fit every clock from 1 on
+ones-fit : (t : Table) (c : ℕ) → clockOf t ≤ c → 1 ≤ c → CountersFit t (counted c 1 1)
+ones-fit t c h p =
+    record {
+      onward = h;
+      sample-from-1 = le-refl 1;
+      sample-to-clock = p;
+      line-from-1 = le-refl 1;
+      line-to-clock = p;
+      under = λ i z. omega arith;
+    }
 
-module _ (n : ℕ) (t : Table) (history : List ℕ) (y : Sound n t) where
+-- slot i becomes (k, k), and the sample 1
+abbrev pub entered : Table → ℕ → ℕ → Table
+entered t i k = applied t (change (Enters (slot i) (txid k)) (counted (k + 1) 1 (lineOf t)))
+
+-- all slots are emptied, and the sample is 1
+abbrev pub emptied : ℕ → ℕ → Table
+emptied n k = applied (freshTable n) (change Stays (counted (k + 1) 1 1))
+
+module _ (n : ℕ) (t : Table) (history : List ℕ) (s : Shaped n t) where
+  entered-well :
+      (i k : ℕ) → Reserves (clockOf t) k → WellFormed n (stateOf t history) →
+      WellFormed n (stateOf (entered t i k) (push history k))
+  entered-well i k f w =
+      record {
+        table = from-good n _ good .table;
+        history =
+            history-push (slotsOf t) (slotsOf (entered t i k)) (clockOf t) (k + 1) history (w .history) k (f .positive)
+            (f .from-clock) (λ j z. had j z (stored 0 (t .txids) i k j));
+      }
+    where
+      good : Good n (applied (atLine 1 t) (change (Enters (slot i) (txid k)) (counted (k + 1) 1 1)))
+      good =
+          good-applied n (atLine 1 t) (counted (k + 1) 1 1) (to-good n t (record { shape = s; table = w .table }))
+          (ones-fit (atLine 1 t) (k + 1) (omega (arith, f .from-clock)) (omega arith)) (Enters (slot i) (txid k))
+          (record { positive = f .positive; new = f .from-clock; past = omega arith; over = f .positive })
+
+      held : (j : ℕ) → at (slotsOf (entered t i k)) j .txid ≡ txidAt (entered t i k) j
+      held j = txid-at n (entered t i k) (shaped-applied n t s (Enters (slot i) (txid k)) (counted (k + 1) 1 (lineOf t))) j
+
+      had : (j : ℕ) → at (slotsOf (entered t i k)) j .txid ≢ 0 → Stored 0 (t .txids) i k j →
+          Contains (push history k) (at (slotsOf (entered t i k)) j .txid)
+      had j z (new-here p l q) = rw (held j, q) (contains-last history k)
+      had j z (as-before d q) =
+          let same : at (slotsOf (entered t i k)) j .txid ≡ at (slotsOf t) j .txid = held j ∙ q ∙ sym (txid-at n t s j) in
+          rw same (contains-pushes history (k ∷ []) _ (w .history .registered j (rw same at z)))
+
   -- begin: any empty slot i, the highest too, and the sample set to 1
   pub any-slot-sample-one :
-      (i k : ℕ) → Reserves (t .clock) k → i < n → getD (t .txids) i 0 ≡ 0 →
-      BeginTransaction n (stateOf t history)
-      (stateOf (observed (k + 1) 1 (withSlot i k k (withClock (k + 1) t))) (push history k)) (registered i k)
+      (i k : ℕ) → Reserves (clockOf t) k → i < n → txidAt t i ≡ 0 →
+      BeginTransaction n (stateOf t history) (stateOf (entered t i k) (push history k)) (acceptedWith i k)
   any-slot-sample-one i k f h e =
       record {
-        l-begin-e1 =
-            λ p. well-observed n (withSlot i k k (withClock (k + 1) t)) (push history k)
-            (well-entered n t history (with-history n t history y p) i k f) (k + 1) 1
-            (record { onward = le-refl _; positive = le-refl 1; within = omega (arith, f .positive) });
+        l-begin-e1 = entered-well i k f;
         l-begin-e3 = omega (arith, f .from-clock);
         l-begin-e4 = length-push history k;
         l-begin-e5 =
@@ -70,88 +102,79 @@ module _ (n : ℕ) (t : Table) (history : List ℕ) (y : Sound n t) where
               l-begin-e5a = h;
               l-begin-e5b = f .from-clock;
               l-begin-e5c = refl;
-              l-begin-e5d = txid-at n t i (y .shape) ∙ e;
+              l-begin-e5d = txid-at n t s i ∙ e;
               l-begin-e5e = pairs-set (t .txids) (t .«snapshot_xmins») i k k;
             };
         l-begin-e67 = λ z. absurd (z refl);
       }
 
   -- the snapshots and the oldest: sample 1 for ever, whatever was given, and any clock from the table's on
-  one : (c : ℕ) → t .clock ≤ c → Observes (t .clock) c 1
-  one c h =
-      let p = y .table .sample-positive in
-      let q = y .table .sample-within in
-      record { onward = h; positive = le-refl 1; within = omega arith }
+  one : (c : ℕ) → clockOf t ≤ c → 1 ≤ c → Observes (clockOf t) c 1
+  one c h p = record { onward = h; positive = le-refl 1; within = p }
 
   pub always-sample-one :
-      (c : ℕ) → BelowTop t → t .clock ≤ c →
-      SnapshotLocked n (stateOf t history) (stateOf (observed c 1 t) history) (snapshotOf n (t .txids) 1)
-  unfolding afterAccepted shownAccepted
-  always-sample-one c u h = locked-run n t history y u c 1 Pass (seen (one c h))
+      (c : ℕ) → clockOf t ≤ c → 1 ≤ c →
+      SnapshotLocked n (stateOf t history) (stateAfter n t history (snap c 1)) (shown n t (snap c 1))
+  always-sample-one c h p = snapshot-locked-meets n t history s c 1 (snap-foreseen n t c 1 (one c h p))
 
   pub always-oldest-one :
-      (c : ℕ) → t .clock ≤ c →
-      OldestSnapshotXmin n (stateOf t history) (stateOf (observed c 1 t) history)
-      (oldestIs (oldestOf (t .txids) (t .«snapshot_xmins») 1))
-  unfolding afterAccepted answerAccepted
-  always-oldest-one c h = oldest-run n t history c 1 y Pass (seen (one c h))
+      (c : ℕ) → clockOf t ≤ c → 1 ≤ c →
+      OldestSnapshotXmin n (stateOf t history) (stateAfter n t history (oldest c 1)) (answer n t (oldest c 1))
+  always-oldest-one c h p = oldest-meets n t history c 1 s (oldest-foreseen n t c 1 (one c h p))
 
-  -- the transaction snapshot: a refusal that moves clock and sample, and is called NoFreeSlot
+  -- the transaction snapshot: a refusal that moves clock and sample as a plain snapshot does, and is called NoFreeSlot
   pub refused-moves-clock :
-      (i : SlotNo) (id : Txid) (c m : ℕ) (s : Snapshot) → Observes (t .clock) c m → at (stateOf t history .slots) (i .0) .txid ≢ id .0 →
-      CreateTransactionSnapshot n (stateOf t history) (stateOf (observed c m t) history) i id (none-free 0) s
+      (i : SlotNo) (id : Txid) (c m : ℕ) (x : Snapshot) → Observes (clockOf t) c m → txidAt t (i .0) ≢ id .0 →
+      CreateTransactionSnapshot n (stateOf t history) (stateAfter n t history (snap c m)) i id none-free x
   unfolding told
-  refused-moves-clock i id c m s f d =
+  refused-moves-clock i id c m x f d =
+      let r = snapshot-locked-meets n t history s c m (snap-foreseen n t c m f) in
       record {
-        l-own-e1 = λ p. well-observed n t history (with-history n t history y p) c m f;
-        l-own-e3 = refl;
-        l-own-e4 = f .onward;
+        l-own-e1 = r .l-snapshot-locked-e1;
+        l-own-e3 = r .l-snapshot-locked-e2 .reservations;
+        l-own-e4 = r .l-snapshot-locked-e2 .clock;
         l-own-e5 = λ e. absurd (suc-ne-zero _ e);
-        l-own-e6 = λ e. refl;
-        l-own-e7 = λ h e. absurd (d e);
+        l-own-e6 = λ e. r .l-snapshot-locked-e2 .slots;
+        l-own-e7 = λ h e. absurd (d (sym (txid-at n t s (i .0)) ∙ e));
       }
 
   -- finish: refuses always
-  pub refuses-always :
-      (id : Txid) → DeregisterThenReserve n (stateOf t history) (stateOf t history) id (none-free 0)
+  pub refuses-always : (id : Txid) → DeregisterThenReserve n (stateOf t history) (stateOf t history) id none-free
   unfolding told
   refuses-always id =
-      record {
-        l-finish-e1 = with-history n t history y;
-        l-finish-e345 = λ e. absurd (suc-ne-zero _ e);
-        l-finish-e6 = λ e. refl;
-      }
+      record { l-finish-e1 = λ w. w; l-finish-e345 = λ e. absurd (suc-ne-zero _ e); l-finish-e6 = λ e. refl }
 
   -- finish: empties every slot, and sets the sample to 1
   pub empties-all :
-      (i : SlotNo) (id : Txid) (k : Stamp) → id .0 ≢ 0 → Reserves (t .clock) (k .0) →
-      DeregisterThenReserve n (stateOf t history) (stateOf (observed (k .0 + 1) 1 (freshTable n)) (push history (k .0))) id
-      (stamped (k .0))
-  unfolding freshTable run reservationsFrom
-  empties-all i id k z f =
+      (id : Txid) (k : ℕ) → id .0 ≢ 0 → Reserves (clockOf t) k →
+      DeregisterThenReserve n (stateOf t history) (stateOf (emptied n k) (push history k)) id (acceptedWith 0 k)
+  unfolding freshTable
+  empties-all id k z f =
       record {
         l-finish-e1 =
-            λ p. record {
-              table =
-                  well-observed n (freshTable n) [] (from-fresh n []) (k .0 + 1) 1
-                  (record { onward = omega arith; positive = le-refl 1; within = omega arith })
-                  .table;
+            λ w. record {
+              table = from-good n (emptied n k) good .table;
               history =
-                  history-push (slotsOf t) (pairs (replicate n 0) (replicate n 0)) (t .clock) (k .0) history p (f .positive)
+                  history-push (slotsOf t) (slotsOf (emptied n k)) (clockOf t) (k + 1) history (w .history) k (f .positive)
                   (f .from-clock) (λ j d. absurd (d (empty j)));
             };
         l-finish-e345 =
             λ e. record {
-              l-finish-e3 = above n t history y i id k f;
+              l-finish-e3 = λ p reader c. above t history k reader f p c;
               l-finish-e4 = refl;
-              l-finish-e5 = λ j b q. z (sym q ∙ empty j);
+              l-finish-e5 = λ y j b q. z (sym q ∙ empty j);
             };
         l-finish-e6 = λ e. absurd (e refl);
       }
     where
-      empty : (j : ℕ) → at (pairs (replicate n 0) (replicate n 0)) j .txid ≡ 0
-      empty j = ap (λ (s : Slot). s .txid) (fresh-at n j)
+      good : Good n (emptied n k)
+      good =
+          good-applied n (freshTable n) (counted (k + 1) 1 1) (good-fresh n)
+          (ones-fit (freshTable n) (k + 1) (omega arith) (omega arith)) Stays tt
 
-  -- no clause of upstream's sees the vacuum line
-  pub line-unseen : (line : ℕ) → stateOf (withLine line t) history ≡ stateOf t history
+      empty : (j : ℕ) → at (slotsOf (emptied n k)) j .txid ≡ 0
+      empty j = txid-at n (emptied n k) (from-good n (emptied n k) good .shape) j ∙ zeros-hold n j
+
+  -- any call: moves the vacuum line, which no clause of upstream's sees
+  pub line-unseen : (line : ℕ) → stateOf (atLine line t) history ≡ stateOf t history
   line-unseen line = refl

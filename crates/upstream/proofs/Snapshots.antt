@@ -1,14 +1,15 @@
--- L.snapshot_locked, L.create_snapshot, L.create_transaction_snapshot: our snapshots meet upstream's contracts where none of 4 to 8 is given.
+-- L.snapshot_locked, L.create_snapshot, L.create_transaction_snapshot: our snapshots meet upstream's contracts where none of 4
+-- to 8 is given. Our tallies are upstream's (Tallies.antt); our xmax, which is held at 2^64 − 1, is upstream's, which holds
+-- nothing, where no txid is from 2^64 − 1 on (`xmax-same`).
 use Prim.Native.Nat.{ℕ, suc, _+_, _-_, _<_, _≤_, min, max}
 use mathlib.Core.Path.{_≡_, refl, sym, ap, _∙_}
-use mathlib.Core.Logic.{_≢_}
 use mathlib.Core.Bool.{Bool, true, false, cond}
 use mathlib.Core.List.{List, [], _∷_}
 use native.Mathlib.Nat.{suc-ne-zero, le-refl}
 use native.Mathlib.Decide.{ℕ-discrete}
 use native.Mathlib.Omega.{arith}
 use lib.Dec.{ltb}
-use lib.ListN.{length, getD, set, take, length-set}
+use lib.ListN.{length, set, take}
 use borrow.Author.Tests.{ltb-true, ltb-false, ne-eqb}
 use Rattle.kinds.specs.Kinds.{top}
 use Rattle.kinds.specs.declared.SlotNo.{SlotNo}
@@ -16,24 +17,27 @@ use Rattle.kinds.specs.declared.Txid.{Txid}
 use Rattle.kinds.specs.Refusals.{told, consumed}
 use Rattle.kinds.specs.declared.refusal.Verdict.{Verdict}
 use Rattle.kinds.specs.declared.refusal.Verdict.the-variants.{Pass}
-use Rattle.model.specs.declared.Table.{Table}
-use Rattle.model.specs.Tally.{active as ours, minimum, maximum, xmaxOf, places, snapshotOf}
-use Rattle.model.specs.Tables.{txidAt, observed}
-use Rattle.model.specs.Tests.{observationTest}
-use Rattle.model.specs.Calls.{snap, own, refusal, afterAccepted, spent, afterRefused, afterBy, after, answerAccepted, answerBy, answer, shownAccepted, shownBy, shown}
 use Rattle.settled.specs.declared.Snapshot.{Snapshot}
+use Rattle.model.specs.declared.Table.{Table}
+use Rattle.model.specs.declared.change.SlotChange.the-variants.{Stays, Retains}
+use Rattle.model.specs.Tally.{active as ours, minimum, maximum, xmaxOf, places, snapshotOf}
+use Rattle.model.specs.Tables.{clockOf, sampleOf}
+use Rattle.model.specs.Changes.{observed}
+use Rattle.model.specs.Tests.{observationTest}
 use Rattle.model.specs.Accepted.{Observes}
-use Rattle.model.proofs.Tally.{minimum-member, minimum-bound, maximum-bound, taken-active, active-taken, used-places}
-use Rattle.model.proofs.BelowTop.{BelowTop}
-use Rattle.upstream.specs.States.{State, slot, at, pairs, stateOf, stateAfter, historyBy, Foreseen}
-use Rattle.upstream.specs.Relations.{HistoryOf, WellFormed, Sound, Coherent}
+use Rattle.model.specs.Answers.{tellsOf}
+use Rattle.model.specs.Calls.{snap, own, refusal, changeAccepted, spent, changeOf, after}
+use Rattle.model.specs.Calls.{answerAccepted, answerBy, answer, shownAccepted, shownBy, shown}
+use Rattle.model.proofs.Tally.{maximum-bound, active-taken, used-places}
+use Rattle.model.proofs.Tests.{observes}
+use Rattle.upstream.specs.States.{State, slot, at, stateOf, stateAfter, Shaped, Foreseen}
+use Rattle.upstream.specs.Relations.{TableOf, WellFormed, TxidsBelowTop, Coherent}
 use Rattle.upstream.specs.Clauses.{SnapshotLocked, CreateSnapshot, CreateTransactionSnapshot}
-use Rattle.upstream.proofs.Pairs.{pairs-length, pairs-set-xmin}
+use Rattle.upstream.proofs.Pairs.{pairs-length, pairs-set-xmin, slotsOf, even, txid-at, shaped-applied}
 use Rattle.upstream.proofs.Tallies.{active-same, minimum-same, maximum-same}
-use Rattle.upstream.proofs.Runs.{Observing, seen, observing, observes-pass, Owning, outside, other, owned, owning-then}
-use Rattle.upstream.proofs.Moves.{with-history, slotsOf, txid-at, well-observed, well-marked}
+use Rattle.upstream.proofs.Always.{well-formed-kept}
+use Rattle.upstream.proofs.Runs.{stateBy, observation-strict, Owning, outside, other, owned, owning}
 
--- our held xmax is upstream's, which holds nothing, where the largest txid is below 2^64 − 1
 larger : (a m : ℕ) → a ≤ top → max m (min a top) ≡ cond (ltb a m) m a
 larger a m h = go (ltb a m) refl
   where
@@ -56,25 +60,42 @@ xmax-same [] m h b = alone m h
 xmax-same (x ∷ l) m h b =
     rw (ne-eqb (suc (length l)) 0 (λ e. suc-ne-zero _ e)) (larger (maximum (max 0 x) l + 1) m b)
 
-module _ (n : ℕ) (xs ys : List ℕ) (p : length xs ≡ n) (q : length ys ≡ n) where
-  even : length xs ≡ length ys
-  even = p ∙ sym q
+-- a sound state whose clock is one of 64 bits has no txid from 2^64 − 1 on
+pub below-top : (n : ℕ) (s : State) → TableOf n s → s .clock ≤ top → TxidsBelowTop s
+below-top n s y u i = go (ℕ-discrete (at (s .slots) i .txid) 0)
+  where
+    go : Dec (at (s .slots) i .txid ≡ 0) → at (s .slots) i .txid < top
+    go (yes e) = rw e (omega arith)
+    go (no d) = let b = y .txid-below i d in omega arith
 
-  pub coherent :
-      (c m : ℕ) (history : List ℕ) → 0 < m → maximum 0 (ours xs) + 1 ≤ top →
-      Coherent (record { slots = pairs xs ys; clock = c; «sampled_clock» = m; reservations = history }) (snapshotOf n xs m)
-  unfolding snapshotOf
-  coherent c m history h b =
-      record {
-        in-flight = seam ∙ sym (rw (pairs-length xs ys even) (active-same xs ys even));
-        in-flight-len = ap length (sym seam);
-        xmax =
-            rw (pairs-length xs ys even, maximum-same xs ys even) (xmax-same (ours xs) m h b);
-        xmin = sym (rw (pairs-length xs ys even) (minimum-same xs ys m even));
-      }
-    where
-      seam : take (length (ours xs)) (places n (ours xs)) ≡ ours xs
-      seam = used-places n (ours xs)
+-- the snapshot of a table with a sample from 1 on, as upstream wants it
+pub coherent :
+    (n : ℕ) (t : Table) (history : List ℕ) → Shaped n t → 0 < sampleOf t →
+    Coherent (stateOf t history) (snapshotOf n (t .txids) (sampleOf t))
+unfolding snapshotOf
+coherent n t history s h =
+    record {
+      in-flight = seam ∙ sym (rw long (active-same (t .txids) (t .«snapshot_xmins») (even n t s)));
+      in-flight-len = ap length (sym seam);
+      xmax =
+          λ b. rw (long, maximum-same (t .txids) (t .«snapshot_xmins») (even n t s))
+          (xmax-same (ours (t .txids)) (sampleOf t) h (held b));
+      xmin = sym (rw long (minimum-same (t .txids) (t .«snapshot_xmins») (sampleOf t) (even n t s)));
+    }
+  where
+    long : length (slotsOf t) ≡ length (t .txids)
+    long = pairs-length (t .txids) (t .«snapshot_xmins») (even n t s)
+
+    seam : take (length (ours (t .txids))) (places n (ours (t .txids))) ≡ ours (t .txids)
+    seam = used-places n (ours (t .txids))
+
+    held : TxidsBelowTop (stateOf t history) → maximum 0 (ours (t .txids)) + 1 ≤ top
+    held b =
+        omega (
+          arith,
+          maximum-bound 0 (ours (t .txids)) (top - 1) (omega arith)
+              (λ x e. let (i, p, z) = active-taken (t .txids) x e in let l = rw (txid-at n t s i) at (b i) in omega arith),
+        )
 
 -- create_snapshot promises no more than snapshot_locked
 pub create-from-locked :
@@ -88,133 +109,73 @@ create-from-locked n old new snapshot r =
       l-create-snapshot-e6 = r .l-snapshot-locked-e3;
     }
 
--- a snapshot's xmin is not 0
-minimum-positive : (xs : List ℕ) (a : ℕ) → 0 < a → 0 < minimum a (ours xs)
-minimum-positive xs a h = minimum-bound a (ours xs) 1 h (λ x e. let (i, p, z) = active-taken xs x e in omega arith)
-
--- E1 of the transaction snapshot alone, which needs no bound on the clock
-module _ (n : ℕ) (t : Table) (history : List ℕ) (y : Sound n t) (i : SlotNo) (id : Txid) (c m : ℕ) where
-  own-well :
-      (v : Verdict) → Owning n (t .txids) i id (Observes (t .clock) c m) v → HistoryOf (stateOf t history) →
-      WellFormed n (stateOf (afterBy v t (own i id c m)) (historyBy v history (own i id c m)))
-  unfolding afterAccepted consumed spent afterRefused
-  own-well v (outside h) p = with-history n t history y p
-  own-well v (other h d) p = with-history n t history y p
-  own-well v (owned h z o f) p =
-      well-marked n (observed c m t) history (well-observed n t history (with-history n t history y p) c m f)
-      (i .0) (minimum m (ours (t .txids)))
-      (record { txids-size = y .shape .txids-size; xmins-size = y .shape .xmins-size }) taken
-      (minimum-positive (t .txids) m (f .positive)) (minimum-member m (ours (t .txids)) _ (taken-active (t .txids) (i .0) taken))
-    where
-      taken : getD (t .txids) (i .0) 0 ≢ 0
-      taken e = z (sym o ∙ e)
-
-  own-goes :
-      Foreseen (refusal n t (own i id c m)) →
-      Owning n (t .txids) i id (Observes (t .clock) c m) (refusal n t (own i id c m))
-  unfolding refusal
-  own-goes f =
-      owning-then n (t .txids) i id (observationTest (t .clock) c m) (Observes (t .clock) c m) (observes-pass (t .clock) c m) f
-
-  pub own-keeps :
-      Foreseen (refusal n t (own i id c m)) → HistoryOf (stateOf t history) →
-      WellFormed n (stateAfter n t history (own i id c m))
-  unfolding after
-  own-keeps f = own-well (refusal n t (own i id c m)) (own-goes f)
-
--- in 64 bits a sound table has no txid from 2^64 − 1 on
-pub below-top : (n : ℕ) (t : Table) → Sound n t → t .clock ≤ top → BelowTop t
-below-top n t y u i = go (ℕ-discrete (txidAt t i) 0)
-  where
-    same : at (slotsOf t) i .txid ≡ txidAt t i
-    same = txid-at n t i (y .shape)
-
-    go : Dec (txidAt t i ≡ 0) → txidAt t i < top
-    go (yes e) = rw e (omega arith)
-    go (no d) = let b = rw same at (y .table .txid-below i (λ q. d (sym same ∙ q))) in omega arith
-
-module _
-    (n : ℕ) (t : Table) (history : List ℕ) (y : Sound n t) (u : BelowTop t) where
-  held : maximum 0 (ours (t .txids)) + 1 ≤ top
-  held =
-      let b = maximum-bound 0 (ours (t .txids)) (top - 1) (omega arith)
-      (λ x e. let (i, p, z) = active-taken (t .txids) x e in let h = u i in omega arith)
-      in
-      omega arith
-
-  module _ (c m : ℕ) where
-    pub locked-run :
-        (v : Verdict) → Observing (t .clock) c m v →
-        SnapshotLocked n (stateOf t history) (stateOf (afterBy v t (snap c m)) (historyBy v history (snap c m)))
-        (shownBy v n t (snap c m))
-    unfolding afterAccepted shownAccepted
-    locked-run v (seen f) =
-        record {
-          l-snapshot-locked-e1 = λ h. well-observed n t history (with-history n t history y h) c m f;
+module _ (n : ℕ) (t : Table) (history : List ℕ) (s : Shaped n t) where
+  module _ (c m : ℕ) (f : Foreseen (refusal n t (snap c m))) where
+    pub snapshot-locked-meets :
+        SnapshotLocked n (stateOf t history) (stateAfter n t history (snap c m)) (shown n t (snap c m))
+    unfolding refusal changeAccepted changeOf after shownAccepted shown
+    snapshot-locked-meets =
+        let passes : refusal n t (snap c m) ≡ Pass = observation-strict (clockOf t) c m f in
+        let seen : Observes (clockOf t) c m = observes (clockOf t) c m passes in
+        let kept = well-formed-kept n t history s (snap c m) in
+        rw passes
+        (record {
+          l-snapshot-locked-e1 = rw passes at kept;
           l-snapshot-locked-e2 =
               record {
                 slots = refl;
                 reservations = refl;
-                clock = f .onward;
-                sample-positive = f .positive;
-                sample-within = f .within;
+                clock = seen .onward;
+                sample-positive = seen .positive;
+                sample-within = seen .within;
               };
           l-snapshot-locked-e3 =
-              coherent n (t .txids) (t .«snapshot_xmins») (y .shape .txids-size) (y .shape .xmins-size) c m history (f .positive) held;
-        }
-
-    pub snapshot-locked-meets :
-        Foreseen (refusal n t (snap c m)) →
-        SnapshotLocked n (stateOf t history) (stateAfter n t history (snap c m)) (shown n t (snap c m))
-    unfolding refusal after shown
-    snapshot-locked-meets f = locked-run (refusal n t (snap c m)) (observing (t .clock) c m f)
+              coherent n _ history (shaped-applied n t s Stays (observed c m (t .counters))) (seen .positive);
+        })
 
     pub create-snapshot-meets :
-        Foreseen (refusal n t (snap c m)) →
         CreateSnapshot n (stateOf t history) (stateAfter n t history (snap c m)) (shown n t (snap c m))
-    create-snapshot-meets f = create-from-locked n _ _ _ (snapshot-locked-meets f)
+    create-snapshot-meets = create-from-locked n _ _ _ snapshot-locked-meets
 
   module _ (i : SlotNo) (id : Txid) (c m : ℕ) where
     own-run :
-        (v : Verdict) → Owning n (t .txids) i id (Observes (t .clock) c m) v →
-        CreateTransactionSnapshot n (stateOf t history)
-        (stateOf (afterBy v t (own i id c m)) (historyBy v history (own i id c m))) i id (answerBy v t (own i id c m))
-        (shownBy v n t (own i id c m))
-    unfolding afterAccepted consumed spent afterRefused answerAccepted shownAccepted told snapshotOf
-    own-run v (outside h) =
+        (v : Verdict) → (WellFormed n (stateOf t history) → WellFormed n (stateBy v t history (own i id c m))) →
+        Owning n t i id (own i id c m) v →
+        CreateTransactionSnapshot n (stateOf t history) (stateBy v t history (own i id c m)) i id
+        (tellsOf (answerBy v t (own i id c m))) (shownBy v n t (own i id c m))
+    unfolding changeAccepted consumed spent answerAccepted shownAccepted tellsOf told snapshotOf
+    own-run v kept (outside h) =
         record {
-          l-own-e1 = with-history n t history y;
+          l-own-e1 = kept;
           l-own-e3 = refl;
           l-own-e4 = le-refl _;
           l-own-e5 = λ e. absurd (suc-ne-zero _ e);
           l-own-e6 = λ e. refl;
           l-own-e7 = λ g e. absurd (omega arith);
         }
-    own-run v (other h d) =
+    own-run v kept (other h d) =
         record {
-          l-own-e1 = with-history n t history y;
+          l-own-e1 = kept;
           l-own-e3 = refl;
           l-own-e4 = le-refl _;
           l-own-e5 = λ e. absurd (suc-ne-zero _ e);
           l-own-e6 = λ e. refl;
-          l-own-e7 = λ g e. absurd (d (sym (txid-at n t (i .0) (y .shape)) ∙ e));
+          l-own-e7 = λ g e. absurd (d (sym (txid-at n t s (i .0)) ∙ e));
         }
-    own-run v (owned h z o f) =
+    own-run v kept (owned (o, f)) =
+        let xmin = minimum m (ours (t .txids)) in
         record {
-          l-own-e1 = own-well n t history y i id c m Pass (owned h z o f);
+          l-own-e1 = kept;
           l-own-e3 = refl;
           l-own-e4 = f .onward;
           l-own-e5 =
               λ e. record {
-                l-own-e5a = h;
-                l-own-e5b = txid-at n t (i .0) (y .shape) ∙ o;
-                l-own-e5c =
-                    coherent n (t .txids) (set (t .«snapshot_xmins») (i .0) (minimum m (ours (t .txids)))) (y .shape .txids-size)
-                    (length-set (t .«snapshot_xmins») (i .0) _ ∙ y .shape .xmins-size) c m history (f .positive) held;
+                l-own-e5a = o .inside;
+                l-own-e5b = txid-at n t s (i .0) ∙ o .registered .holds;
+                l-own-e5c = coherent n _ history (shaped-applied n t s (Retains i xmin) (observed c m (t .counters))) (f .positive);
                 l-own-e5d =
-                    pairs-set-xmin (t .txids) (t .«snapshot_xmins») (i .0) (minimum m (ours (t .txids)))
-                    ∙ ap (λ (x : ℕ). set (slotsOf t) (i .0) (slot x (minimum m (ours (t .txids)))))
-                    (sym (txid-at n t (i .0) (y .shape)));
+                    pairs-set-xmin (t .txids) (t .«snapshot_xmins») (i .0) xmin
+                    ∙ ap (λ (x : ℕ). set (slotsOf t) (i .0) (slot x xmin)) (sym (txid-at n t s (i .0)));
               };
           l-own-e6 = λ e. absurd (e refl);
           l-own-e7 = λ g e. refl;
@@ -223,7 +184,8 @@ module _
     pub create-transaction-snapshot-meets :
         Foreseen (refusal n t (own i id c m)) →
         CreateTransactionSnapshot n (stateOf t history) (stateAfter n t history (own i id c m)) i id
-        (answer n t (own i id c m)) (shown n t (own i id c m))
-    unfolding after answer shown
+        (tellsOf (answer n t (own i id c m))) (shown n t (own i id c m))
+    unfolding refusal changeOf after answer shown
     create-transaction-snapshot-meets f =
-        own-run (refusal n t (own i id c m)) (own-goes n t history y i id c m f)
+        own-run (refusal n t (own i id c m)) (well-formed-kept n t history s (own i id c m))
+        (owning n t i id (own i id c m) (observationTest (clockOf t) c m) (observation-strict (clockOf t) c m) refl f)

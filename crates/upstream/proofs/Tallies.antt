@@ -9,7 +9,7 @@ use native.Mathlib.Omega.{arith}
 use lib.Dec.{eqb, ltb}
 use lib.ListN.{length}
 use borrow.Author.Tests.{ltb-true, ltb-false, eqb-true}
-use Rattle.model.specs.Tally.{unless, active as ours, retained, minimum, maximum}
+use Rattle.model.specs.Tally.{consUnless, active as ours, retained, minimum, maximum}
 use Rattle.upstream.specs.States.{Slot, slot, at, pairs}
 use Rattle.upstream.specs.Tallies.{pushed, lowered, raised, active, «minimum_active», «maximum_active», «minimum_retention»}
 
@@ -29,22 +29,22 @@ raise-max x m = go (ltb m x) refl
     go false e = let h = ltb-false m x e in omega arith
 
 -- upstream's tallies by the first slot
-push-unless : (a b : Bool) (x y : ℕ) (l : List ℕ) → pushed a x (unless b y l) ≡ unless b y (pushed a x l)
-push-unless true b x y l = refl
-push-unless false true x y l = refl
-push-unless false false x y l = refl
+push-consUnless : (a b : Bool) (x y : ℕ) (l : List ℕ) → pushed a x (consUnless b y l) ≡ consUnless b y (pushed a x l)
+push-consUnless true b x y l = refl
+push-consUnless false true x y l = refl
+push-consUnless false false x y l = refl
 
-pushed-none : (b : Bool) (x : ℕ) → pushed b x [] ≡ unless b x []
+pushed-none : (b : Bool) (x : ℕ) → pushed b x [] ≡ consUnless b x []
 pushed-none true x = refl
 pushed-none false x = refl
 
 active-first :
-    (s : Slot) (ss : List Slot) (n : ℕ) → active (s ∷ ss) (suc n) ≡ unless (eqb (s .txid) 0) (s .txid) (active ss n)
+    (s : Slot) (ss : List Slot) (n : ℕ) → active (s ∷ ss) (suc n) ≡ consUnless (eqb (s .txid) 0) (s .txid) (active ss n)
 unfolding active
 active-first s ss zero = pushed-none (eqb (s .txid) 0) (s .txid)
 active-first s ss (suc n) =
     ap (pushed (eqb (at ss n .txid) 0) (at ss n .txid)) (active-first s ss n)
-    ∙ push-unless (eqb (at ss n .txid) 0) (eqb (s .txid) 0) (at ss n .txid) (s .txid) (active ss n)
+    ∙ push-consUnless (eqb (at ss n .txid) 0) (eqb (s .txid) 0) (at ss n .txid) (s .txid) (active ss n)
 
 minimum-first :
     (s : Slot) (ss : List Slot) (n c : ℕ) → «minimum_active» (s ∷ ss) (suc n) c
@@ -77,10 +77,10 @@ unfolding active ours
 active-same [] ys e = refl
 active-same (x ∷ xs) [] e = absurd (suc-ne-zero _ e)
 active-same (x ∷ xs) (y ∷ ys) e =
-    active-first (slot x y) (pairs xs ys) (length xs) ∙ ap (unless (eqb x 0) x) (active-same xs ys (suc-inj e))
+    active-first (slot x y) (pairs xs ys) (length xs) ∙ ap (consUnless (eqb x 0) x) (active-same xs ys (suc-inj e))
 
 -- the ceiling lowered by one slot is the least of both
-lowered-same : (b : Bool) (x c : ℕ) (l : List ℕ) → minimum (lowered b x c) l ≡ minimum c (unless b x l)
+lowered-same : (b : Bool) (x c : ℕ) (l : List ℕ) → minimum (lowered b x c) l ≡ minimum c (consUnless b x l)
 unfolding minimum
 lowered-same true x c l = refl
 lowered-same false x c l = ap (λ (k : ℕ). minimum k l) (lower-min x c)
@@ -112,11 +112,11 @@ unfolding maximum
 maximum-from a [] = omega arith
 maximum-from a (x ∷ l) = let p = maximum-from (max a x) l in let q = maximum-from (max 0 x) l in omega arith
 
-raised-same : (x : ℕ) (l : List ℕ) → max x (maximum 0 l) ≡ maximum 0 (unless (eqb x 0) x l)
+raised-same : (x : ℕ) (l : List ℕ) → max x (maximum 0 l) ≡ maximum 0 (consUnless (eqb x 0) x l)
 unfolding maximum
 raised-same x l = go (eqb x 0) refl
   where
-    go : (b : Bool) → eqb x 0 ≡ b → max x (maximum 0 l) ≡ maximum 0 (unless b x l)
+    go : (b : Bool) → eqb x 0 ≡ b → max x (maximum 0 l) ≡ maximum 0 (consUnless b x l)
     go true e = let z = eqb-true x 0 e in omega arith
     go false e = let p = maximum-from (max 0 x) l in omega arith
 

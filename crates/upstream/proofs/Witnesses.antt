@@ -1,14 +1,16 @@
--- States that meet the hypotheses of the proofs beside this file, so that none of them speaks of nothing.
+-- States that meet the hypotheses of the proofs beside this file, so that none of them speaks of nothing; and tables of the
+-- right shape on which a clause fails, so that its condition is needed. All are computed.
 use mathlib.Core.Path.{_≡_, refl}
-use mathlib.Core.Bool.{true}
-use mathlib.Core.List.{List, [], _∷_}
-use Rattle.kinds.specs.Kinds.{number, slot, txid}
-use Rattle.kinds.specs.declared.refusal.Refusal.the-variants.{NoFreeSlot}
+use mathlib.Core.Bool.{true, false}
+use mathlib.Core.List.{List, [], _∷_, map}
+use Rattle.kinds.specs.Kinds.{top, number, slot, txid}
+use Rattle.kinds.specs.declared.refusal.Refusal.the-variants.{NoFreeSlot, InvalidSlot, SlotOwnershipMismatch}
 use Rattle.kinds.specs.declared.refusal.Verdict.the-variants.{Pass, Refuse}
 use Rattle.model.specs.declared.Table.{Table}
 use Rattle.model.specs.Tally.{active, lowestEmpty, minimum, maximum, snapshotOf}
-use Rattle.model.specs.Tables.{freshTable}
-use Rattle.model.specs.Calls.{Call, begin, end, snap, own, oldest, stamp, finish, refusal, afterAccepted, after, shownAccepted, shown}
+use Rattle.model.specs.Tables.{freshTable, counted, txidAt, lent}
+use Rattle.model.specs.Calls.{Call, begin, end, snap, own, oldest, stamp, finish}
+use Rattle.model.specs.Calls.{refusal, changeAccepted, changeOf, after, shownAccepted, shown}
 use Rattle.model.specs.History.{run, reached}
 use Rattle.model.specs.Reservations.{reservationsFrom, reservations}
 use Rattle.model.specs.Check.{slotsPass, differ, passes, tablePasses}
@@ -23,44 +25,65 @@ both-taken = reached 2 two-begins
 
 -- with the numbers 4, 7
 pub both-reserved : reservations 2 two-begins ≡ 4 ∷ 7 ∷ []
-unfolding reservationsFrom refusal after freshTable afterAccepted lowestEmpty
+unfolding reservationsFrom refusal changeAccepted changeOf after freshTable lowestEmpty
 both-reserved = refl
 
 -- the check says yes of it
 pub both-pass : tablePasses 2 both-taken ≡ true
-unfolding run refusal after freshTable afterAccepted lowestEmpty passes slotsPass differ listed
+unfolding run refusal changeAccepted changeOf after freshTable lowestEmpty passes slotsPass differ listed
 both-pass = refl
 
--- no call that upstream foresees is refused there by 4 to 8: a full table; an end, a finish and an own snapshot of who is
--- registered; a plain snapshot, the oldest and a stamp. The sample is below both ids
-pub full-begin : refusal 2 both-taken (begin (number 9)) ≡ Refuse (NoFreeSlot (txid 9))
-unfolding run refusal after freshTable afterAccepted lowestEmpty
-full-begin = refl
-
-pub owner-end : refusal 2 both-taken (end (slot 0) (txid 4)) ≡ Pass
-unfolding run refusal after freshTable afterAccepted lowestEmpty
-owner-end = refl
-
-pub owner-finish : refusal 2 both-taken (finish (slot 0) (txid 4) (number 9)) ≡ Pass
-unfolding run refusal after freshTable afterAccepted lowestEmpty
-owner-finish = refl
-
-pub stale-own : refusal 2 both-taken (own (slot 1) (txid 7) 9 3) ≡ Pass
-unfolding run refusal after freshTable afterAccepted lowestEmpty
-stale-own = refl
+-- every verdict that upstream foresees is given there: a begin on the full table, an end of a slot outside and of another's, and
+-- each call accepted. The sample is below both ids
+pub both-foreseen :
+    map (refusal 2 both-taken)
+    (begin (number 9)
+    ∷ end (slot 2) (txid 4)
+    ∷ end (slot 0) (txid 7)
+    ∷ end (slot 0) (txid 4)
+    ∷ snap 9 3
+    ∷ own (slot 1) (txid 7) 9 3
+    ∷ oldest 9 3
+    ∷ stamp (number 9)
+    ∷ finish (slot 0) (txid 4) (number 9)
+    ∷ [])
+    ≡ Refuse (NoFreeSlot (txid 9))
+    ∷ Refuse (InvalidSlot (slot 2))
+    ∷ Refuse (SlotOwnershipMismatch (slot 0) (txid 7) (txid 4))
+    ∷ Pass
+    ∷ Pass
+    ∷ Pass
+    ∷ Pass
+    ∷ Pass
+    ∷ Pass
+    ∷ []
+unfolding run refusal changeAccepted changeOf after freshTable lowestEmpty
+both-foreseen = refl
 
 pub stale-xmax : shown 2 both-taken (own (slot 1) (txid 7) 9 3) ≡ record { xmin = 3; xmax = 8; ids = 4 ∷ 7 ∷ []; count = 2 }
-unfolding run refusal after freshTable afterAccepted lowestEmpty shownAccepted shown snapshotOf active minimum maximum
+unfolding run refusal changeAccepted changeOf after freshTable lowestEmpty shownAccepted shown snapshotOf active minimum maximum
 stale-xmax = refl
 
-pub stale-snap : refusal 2 both-taken (snap 9 3) ≡ Pass
-unfolding run refusal after freshTable afterAccepted lowestEmpty
-stale-snap = refl
+-- two slots hold 5: the check says no, a finish of 5 in slot 0 is accepted, and slot 1 holds 5 after it
+abbrev twice : Table
+twice = lent (5 ∷ 5 ∷ []) (5 ∷ 5 ∷ []) (counted 6 1 1)
 
-pub stale-oldest : refusal 2 both-taken (oldest 9 3) ≡ Pass
-unfolding run refusal after freshTable afterAccepted lowestEmpty
-stale-oldest = refl
+pub twice-fails : tablePasses 2 twice ≡ false
+unfolding passes slotsPass differ listed
+twice-fails = refl
 
-pub next-stamp : refusal 2 both-taken (stamp (number 9)) ≡ Pass
-unfolding run refusal after freshTable afterAccepted lowestEmpty
-next-stamp = refl
+pub twice-finished : refusal 2 twice (finish (slot 0) (txid 5) (number 6)) ≡ Pass
+unfolding refusal
+twice-finished = refl
+
+pub twice-held : txidAt (after 2 twice (finish (slot 0) (txid 5) (number 6))) 1 ≡ 5
+unfolding refusal changeAccepted changeOf after
+twice-held = refl
+
+-- a slot holds 2^64 − 1: xmax is held there, and is not the largest txid plus 1
+abbrev at-top : Table
+at-top = lent (top ∷ []) (1 ∷ []) (counted top 1 1)
+
+pub top-held : shown 1 at-top (snap top 1) .xmax ≡ top
+unfolding refusal shownAccepted shown snapshotOf active maximum
+top-held = refl

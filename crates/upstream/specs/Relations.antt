@@ -2,14 +2,14 @@
 use Prim.Native.Nat.{ℕ, _+_, _<_, _≤_}
 use mathlib.Core.Path.{_≡_}
 use mathlib.Core.Logic.{_≢_}
-use mathlib.Core.List.{List}
+use mathlib.Core.List.{List, []}
 use mathlib.Core.Bool.{cond}
 use lib.Dec.{ltb}
 use lib.ListN.{length, getD, take}
 use Rattle.kinds.specs.Kinds.{top}
 use Rattle.settled.specs.declared.Snapshot.{Snapshot}
 use Rattle.model.specs.declared.Table.{Table}
-use Rattle.upstream.specs.States.{Slot, State, at, pairs, push, Shaped}
+use Rattle.upstream.specs.States.{Slot, State, at, push, stateOf, Shaped}
 use Rattle.upstream.specs.Tallies.{active, «minimum_active», «maximum_active»}
 
 -- `contains`: x stands at some place of the list
@@ -37,23 +37,32 @@ pub record HistoryPart (slots : List Slot) (clock : ℕ) (ids : List ℕ) : Type
   pub below : (i : ℕ) → i < length ids → getD ids i 0 < clock
   pub registered : (i : ℕ) → at slots i .txid ≢ 0 → Contains ids (at slots i .txid)
 
+abbrev pub TableOf : ℕ → State → Type 0
+TableOf n s = TablePart n (s .slots) (s .clock) (s .«sampled_clock»)
+
 abbrev pub HistoryOf : State → Type 0
 HistoryOf s = HistoryPart (s .slots) (s .clock) (s .reservations)
 
 pub record WellFormed (n : ℕ) (s : State) : Type 0 where
-  pub table : TablePart n (s .slots) (s .clock) (s .«sampled_clock»)
+  pub table : TableOf n s
   pub history : HistoryOf s
 
 -- what a yes of the table check gives: the shape, and well_formed but for the history
 pub record Sound (n : ℕ) (t : Table) : Type 0 where
   pub shape : Shaped n t
-  pub table : TablePart n (pairs (t .txids) (t .«snapshot_xmins»)) (t .clock) (t .«sampled_clock»)
+  pub table : TableOf n (stateOf t [])
 
--- `coherent_snapshot`: in_flight is the first count places of ours. Xmax adds 1 and holds nothing
+-- no txid from 2^64 − 1 on, so that the largest plus 1 is a number of 64 bits
+abbrev pub TxidsBelowTop : State → Type 0
+TxidsBelowTop s = (i : ℕ) → at (s .slots) i .txid < top
+
+-- `coherent_snapshot`: in_flight is the first count places of ours. Upstream's xmax adds 1 and holds nothing, ours is held at
+-- 2^64 − 1: that atom alone has a condition
 pub record Coherent (s : State) (snapshot : Snapshot) : Type 0 where
   pub in-flight : take (snapshot .count) (snapshot .ids) ≡ active (s .slots) (length (s .slots))
   pub in-flight-len : snapshot .count ≡ length (take (snapshot .count) (snapshot .ids))
   pub xmax :
+      TxidsBelowTop s →
       snapshot .xmax
       ≡ cond (ltb («maximum_active» (s .slots) (length (s .slots)) + 1) (s .«sampled_clock»)) (s .«sampled_clock»)
       («maximum_active» (s .slots) (length (s .slots)) + 1)

@@ -1,13 +1,13 @@
 -- Upstream's state, and how a table with the numbers reserved so far is one.
 -- Names are upstream's (L:18-40); the flag `lifecycle_held` is left out.
-use Prim.Native.Nat.{ℕ}
+use Prim.Native.Nat.{ℕ, _≤_}
 use mathlib.Core.List.{List, [], _∷_, _++_}
 use mathlib.Core.Path.{_≡_}
 use lib.ListN.{length, getD}
-use Rattle.kinds.specs.declared.refusal.Refusal.the-variants.{NoFreeSlot, InvalidSlot, SlotOwnershipMismatch, ZeroTxid, ClockExhausted, BadReservation, BadClock, BadSample, BadTrace, BadSnapshot}
 use Rattle.kinds.specs.declared.refusal.Verdict.{Verdict}
-use Rattle.kinds.specs.declared.refusal.Verdict.the-variants.{Pass, Refuse}
+use Rattle.kinds.specs.Verdicts.{tells}
 use Rattle.model.specs.declared.Table.{Table}
+use Rattle.model.specs.Tables.{clockOf, sampleOf}
 use Rattle.model.specs.Calls.{Call, refusal, after}
 use Rattle.model.specs.Reservations.{reservesBy}
 
@@ -42,8 +42,8 @@ abbrev pub stateOf : Table → List ℕ → State
 stateOf t history =
     record {
       slots = pairs (t .txids) (t .«snapshot_xmins»);
-      clock = t .clock;
-      «sampled_clock» = t .«sampled_clock»;
+      clock = clockOf t;
+      «sampled_clock» = sampleOf t;
       reservations = history;
     }
 
@@ -65,16 +65,6 @@ historyBy v history c = pushes history (reservesBy v c)
 abbrev pub stateAfter : ℕ → Table → List ℕ → Call → State
 stateAfter n t history c = stateOf (after n t c) (historyBy (refusal n t c) history c)
 
--- upstream's outcomes: accepted, or one of its three errors; none of refusals 4 to 8
+-- upstream's outcomes by their numbers: 0, accepted, or one of its errors 1 to 3. So none of refusals 4 to 8, nor a later one
 abbrev pub Foreseen : Verdict → Type 0
-Foreseen Pass = Unit
-Foreseen (Refuse (NoFreeSlot txid)) = Unit
-Foreseen (Refuse (InvalidSlot slot)) = Unit
-Foreseen (Refuse (SlotOwnershipMismatch slot expected observed)) = Unit
-Foreseen (Refuse ZeroTxid) = ⊥
-Foreseen (Refuse ClockExhausted) = ⊥
-Foreseen (Refuse BadReservation) = ⊥
-Foreseen (Refuse BadClock) = ⊥
-Foreseen (Refuse BadSample) = ⊥
-Foreseen (Refuse (BadTrace line)) = ⊥
-Foreseen (Refuse BadSnapshot) = ⊥
+Foreseen v = tells v .number ≤ 3

@@ -1,13 +1,13 @@
 //! The program's replay as a linked function, for the race inside one process.
 //!
-//! Off unless the feature `linked` is on. To turn it on, put `libsockhurdle.a` into DIR and
-//! build with `RUSTFLAGS="-L native=DIR" cargo build --release --offline --features linked`.
+//! Off unless the feature `linked` is on. To turn it on, put `libexports.a`, which `rt staticlib exports` makes, into DIR
+//! as `libsockhurdle.a` and build with `RUSTFLAGS="-L native=DIR" cargo build --release --offline --features linked`.
 
 #[cfg(feature = "linked")]
 mod library {
     #[link(name = "sockhurdle", kind = "static")]
     unsafe extern "C" {
-        /// Replays `input` into `out` and answers the length of the output.
+        /// Replays `input` into `out` and answers the length of the output, or 0 without room.
         pub fn sockhurdle_replay(
             input: *const u8,
             input_len: usize,

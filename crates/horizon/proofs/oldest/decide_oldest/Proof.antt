@@ -1,5 +1,7 @@
-use mathlib.Core.Path.{sym, _∙_}
-use Rattle.horizon.specs.Oldests.{oldestDecision}
+-- The two arms of the observation test are the two laws of `Decides`: refused, and accepted with what the scan found.
+use mathlib.Core.Path.{refl, sym, _∙_}
+use Rattle.model.specs.Calls.{refusal, changeAccepted, answerAccepted}
+use Rattle.model.proofs.Decides.{refused-decides, accepted-decides}
 use borrow.Author.Needs.{needs}
 use Rattle.horizon.proofs.oldest.decide_oldest.Statement.{statement}
 use Rattle.horizon.proofs.oldest.decide_oldest.Tie as tie
@@ -10,9 +12,6 @@ observation-test-requires c κs = search needs
 enum-known-verdict : tie.Need-enum-known-verdict
 enum-known-verdict c = search needs
 
-counters-only-requires : tie.Need-counters-only-requires
-counters-only-requires c κs = search needs
-
 enum-told : tie.Need-enum-told
 enum-told c = search needs
 
@@ -22,20 +21,19 @@ oldest-retained-requires c κs = search needs
 observed-requires : tie.Need-observed-requires
 observed-requires c κs = search needs
 
-counters-only-requires-2 : tie.Need-counters-only-requires-2
-counters-only-requires-2 c κs = search needs
-
 returns : tie.Need-returns
-unfolding oldestDecision
+unfolding refusal
 returns c =
-    let refused = sym (c .before .before .before .before .observation-test .ensures) ∙ c .before .before .verdict .given .1 in
-    rw (c .counters-only .ensures, refused)
+    let arm = c .before in
+    refused-decides _ _ _ refl (sym (arm .before .before .observation-test .ensures) ∙ arm .verdict .given .1)
 
 returns-2 : tie.Need-returns-2
-unfolding oldestDecision
+unfolding refusal changeAccepted answerAccepted
 returns-2 c =
-    let passed = sym (c .before .before .before .before .before .observation-test .ensures) ∙ c .before .before .before .enum-told .given .1 in
-    rw (c .counters-only2 .ensures, c .before .observed .ensures, c .before .before .oldest-retained .ensures, passed)
+    let scanned = c .before in
+    let arm = scanned .before in
+    let passed = sym (arm .before .before .observation-test .ensures) ∙ arm .enum-told .given .1 in
+    rw (c .observed .ensures, scanned .oldest-retained .ensures) (accepted-decides _ _ _ passed)
 
 pub decide-oldest-spec : {M : Type 1} → statement M
 decide-oldest-spec =
@@ -43,10 +41,8 @@ decide-oldest-spec =
     (tie.spec
     observation-test-requires
     enum-known-verdict
-    counters-only-requires
     enum-told
     oldest-retained-requires
     observed-requires
-    counters-only-requires-2
     returns
     returns-2)

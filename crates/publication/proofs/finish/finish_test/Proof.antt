@@ -1,3 +1,4 @@
+-- The owner test, and where it passes the reservation test: `then`.
 use mathlib.Core.Path.{sym, _∙_}
 use borrow.Author.Needs.{needs}
 use Rattle.publication.proofs.finish.finish_test.Statement.{statement}

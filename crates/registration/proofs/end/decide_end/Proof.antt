@@ -1,5 +1,7 @@
-use mathlib.Core.Path.{sym, _∙_}
-use Rattle.registration.specs.End.{endDecision}
+-- Each arm of the code is a line of the model, by the verdict that led there (model's proofs/Decides.antt).
+use mathlib.Core.Path.{refl, sym, _∙_}
+use Rattle.model.specs.Calls.{refusal, changeAccepted, answerAccepted}
+use Rattle.model.proofs.Decides.{refused-decides, accepted-decides}
 use borrow.Author.Needs.{needs}
 use Rattle.registration.proofs.end.decide_end.Statement.{statement}
 use Rattle.registration.proofs.end.decide_end.Tie as tie
@@ -10,39 +12,16 @@ owner-test-requires c κs = search needs
 enum-known-verdict : tie.Need-enum-known-verdict
 enum-known-verdict c = search needs
 
-counters-only-requires : tie.Need-counters-only-requires
-counters-only-requires c κs = search needs
-
 enum-told : tie.Need-enum-told
 enum-told c = search needs
 
-cast-slot-change : tie.Need-cast-slot-change
-cast-slot-change c = search needs
-
-slot-change-requires : tie.Need-slot-change-requires
-slot-change-requires c κs = search needs
-
 returns : tie.Need-returns
-unfolding endDecision
-returns c =
-    let refused = sym (c .before .before .before .before .owner-test .ensures) ∙ c .before .before .verdict .given .1 in
-    rw (c .counters-only .ensures, refused)
+unfolding refusal
+returns c = refused-decides _ _ _ refl (sym (c .before .before .before .owner-test .ensures) ∙ c .before .verdict .given .1)
 
 returns-2 : tie.Need-returns-2
-unfolding endDecision
-returns-2 c =
-    let passed = sym (c .before .before .before .before .owner-test .ensures) ∙ c .before .before .enum-told .given .1 in
-    rw (c .slot-change .ensures, passed)
+unfolding refusal changeAccepted answerAccepted
+returns-2 c = accepted-decides _ _ _ (sym (c .before .before .owner-test .ensures) ∙ c .enum-told .given .1)
 
 pub decide-end-spec : {M : Type 1} → statement M
-decide-end-spec =
-    tie.close
-    (tie.spec
-    owner-test-requires
-    enum-known-verdict
-    counters-only-requires
-    enum-told
-    cast-slot-change
-    slot-change-requires
-    returns
-    returns-2)
+decide-end-spec = tie.close (tie.spec owner-test-requires enum-known-verdict enum-told returns returns-2)

@@ -1,3 +1,5 @@
+-- The i slots before slot i are taken, so the lowest empty one is i places past that of the slots left; one slot at a time by the
+-- laws of `Slots`.
 use Prim.Native.Nat.{_≤_, _+_, _-_}
 use mathlib.Core.Path.{_≡_}
 use native.Mathlib.Omega.{arith}
@@ -25,9 +27,9 @@ shared-slice-read-if1 c = search needs
 
 returns : tie.Need-returns Inv-loop μ-loop
 returns c =
-    let l = c .before .before .before .loop in
+    let loop = c .before .before .before .loop in
     let t = c .before .before .before .before .args .txids .now in
-    omega (arith, empty-here t (l .i) (omega arith) (c .if1 .taken))
+    omega (arith, empty-here t (loop .i) (omega arith) (c .if1 .taken))
 
 add-i : tie.Need-add-i Inv-loop μ-loop
 add-i c = search needs
@@ -37,12 +39,14 @@ loop-less c = search needs
 
 loop-again : tie.Need-loop-again Inv-loop μ-loop
 loop-again c =
-    let l = c .before .before .before .loop in
+    let loop = c .before .before .before .loop in
     let t = c .before .before .before .before .args .txids .now in
-    omega (arith, taken-here t (l .i) (omega arith) (c .if1 .left))
+    omega (arith, taken-here t (loop .i) (omega arith) (c .if1 .left))
 
 returns-2 : tie.Need-returns-2 Inv-loop μ-loop
-returns-2 c = omega (arith, no-more-slots (c .before .before .args .txids .now) (c .before .loop .i) (omega arith))
+returns-2 c =
+    let loop = c .before .loop in
+    omega (arith, no-more-slots (c .before .before .args .txids .now) (loop .i) (omega arith))
 
 pub lowest-empty-spec : {M : Type 1} → statement M
 lowest-empty-spec =

@@ -1,3 +1,4 @@
+-- The oldest of all slots is that of the slots left, taken up from the lowest so far; one slot at a time by the laws of `Slots`.
 use Prim.Native.Nat.{_≤_, _-_}
 use mathlib.Core.Path.{_≡_, refl, sym, _∙_}
 use native.Mathlib.Omega.{arith}
@@ -20,9 +21,9 @@ loop-holds c = (search needs, refl)
 
 returns : tie.Need-returns Inv-loop μ-loop
 returns c =
-    let l = c .before .before .loop in
+    let loop = c .before .before .loop in
     let a = c .before .before .before .before .before .args in
-    sym (l .inv .1 ∙ oldest-short (a .txids .now) (l .i) (a .xmins .now) (l .low) (omega arith) (omega arith))
+    sym (loop .inv .1 ∙ oldest-short (a .txids .now) (loop .i) (a .xmins .now) (loop .low) (omega arith) (omega arith))
 
 add-i : tie.Need-add-i Inv-loop μ-loop
 add-i c = search needs
@@ -47,26 +48,29 @@ loop-less c = search needs
 
 loop-again : tie.Need-loop-again Inv-loop μ-loop
 loop-again c =
-    let l = c .before .before .before .before .before .before .loop in
-    let a = c .before .before .before .before .before .before .before .before .before .args in
-    let taken = c .before .before .if2 .taken in
-    let step = oldest-hit (a .txids .now) (l .i) (a .xmins .now) (l .low) (omega arith) (omega arith) taken in
-    (omega arith, rw (c .lesser .ensures) (l .inv .1 ∙ step))
+    let hit = c .before .before in
+    let turn = hit .before .before .before .before in
+    let loop = turn .loop in
+    let a = turn .before .before .before .args in
+    let step = oldest-hit (a .txids .now) (loop .i) (a .xmins .now) (loop .low) (omega arith) (omega arith) (hit .if2 .taken) in
+    (omega arith, rw (c .lesser .ensures) (loop .inv .1 ∙ step))
 
 loop-less-2 : tie.Need-loop-less-2 Inv-loop μ-loop
 loop-less-2 c = search needs
 
 loop-again-2 : tie.Need-loop-again-2 Inv-loop μ-loop
 loop-again-2 c =
-    let l = c .before .before .before .before .loop in
-    let a = c .before .before .before .before .before .before .before .args in
-    (omega arith, l .inv .1 ∙ oldest-miss (a .txids .now) (l .i) (a .xmins .now) (l .low) (omega arith) (omega arith) (c .if2 .left))
+    let turn = c .before .before .before .before in
+    let loop = turn .loop in
+    let a = turn .before .before .before .args in
+    let step = oldest-miss (a .txids .now) (loop .i) (a .xmins .now) (loop .low) (omega arith) (omega arith) (c .if2 .left) in
+    (omega arith, loop .inv .1 ∙ step)
 
 returns-2 : tie.Need-returns-2 Inv-loop μ-loop
 returns-2 c =
-    let l = c .before .loop in
+    let loop = c .before .loop in
     let a = c .before .before .before .before .args in
-    sym (l .inv .1 ∙ oldest-none (a .txids .now) (l .i) (a .xmins .now) (l .low) (omega arith))
+    sym (loop .inv .1 ∙ oldest-none (a .txids .now) (loop .i) (a .xmins .now) (loop .low) (omega arith))
 
 pub oldest-retained-spec : {M : Type 1} → statement M
 oldest-retained-spec =

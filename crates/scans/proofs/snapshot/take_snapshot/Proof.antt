@@ -1,3 +1,5 @@
+-- The invariant is `Scanned` (`Scan`), over the first slots, as many as the snapshot has places: the tallies of all of them are
+-- those of the slots left, taken up from the present numbers.
 use Prim.Native.Nat.{_-_, max}
 use Rattle.scans.proofs.Scan.{Scanned, scanned-none, scanned-miss, scanned-hit, here, read, room, over-nothing, over-some}
 use mathlib.Core.Path.{sym, ap, _∙_}
@@ -37,22 +39,23 @@ loop-less c = search needs
 
 loop-again : tie.Need-loop-again Inv-loop μ-loop
 loop-again c =
-    let l = c .before .before .before .loop in
-    let z = c .before .before .before .before .zeros .ensures in
-    let e = c .before .before .before .before .before .shorter .ensures in
-    let t = c .before .before .before .before .before .before .before .args .txids .now in
-    scanned-miss (l .inv) (here _ t (l .inv) z e (omega arith)) (read _ t (l .inv) z e (omega arith) ∙ c .if1 .taken)
+    let loop = c .before .before .before .loop in
+    let zeroed = c .before .before .before .before in
+    let t = zeroed .before .before .before .args .txids .now in
+    let z = zeroed .zeros .ensures in
+    let e = zeroed .before .shorter .ensures in
+    let empty = read _ t (loop .inv) z e (omega arith) ∙ c .if1 .taken in
+    scanned-miss (loop .inv) (here _ t (loop .inv) z e (omega arith)) empty
 
 mul-ids : tie.Need-mul-ids Inv-loop μ-loop
 mul-ids c = search needs
 
 array-write-ids : tie.Need-array-write-ids Inv-loop μ-loop
 array-write-ids c =
-    let l = c .before .before .before .loop in
-    let z = c .before .before .before .before .zeros .ensures in
-    let e = c .before .before .before .before .before .shorter .ensures in
-    let t = c .before .before .before .before .before .before .before .args .txids .now in
-    room _ t (l .inv) z e (omega arith)
+    let loop = c .before .before .before .loop in
+    let zeroed = c .before .before .before .before in
+    let t = zeroed .before .before .before .args .txids .now in
+    room _ t (loop .inv) (zeroed .zeros .ensures) (zeroed .before .shorter .ensures) (omega arith)
 
 add-count : tie.Need-add-count Inv-loop μ-loop
 add-count c = search needs
@@ -68,21 +71,23 @@ loop-less-2 c = search needs
 
 loop-again-2 : tie.Need-loop-again-2 Inv-loop μ-loop
 loop-again-2 c =
-    let l = c .before .before .before .before .before .loop in
-    let z = c .before .before .before .before .before .before .zeros .ensures in
-    let e = c .before .before .before .before .before .before .before .shorter .ensures in
-    let t = c .before .before .before .before .before .before .before .before .before .args .txids .now in
-    let inside = here _ t (l .inv) z e (omega arith) in
-    let id = sym (read _ t (l .inv) z e (omega arith)) in
-    scanned-hit (l .inv) inside id (c .before .before .if1 .left) (c .before .lesser .ensures) (c .greater .ensures)
+    let hit = c .before .before in
+    let loop = hit .before .before .before .loop in
+    let zeroed = hit .before .before .before .before in
+    let t = zeroed .before .before .before .args .txids .now in
+    let z = zeroed .zeros .ensures in
+    let e = zeroed .before .shorter .ensures in
+    let inside = here _ t (loop .inv) z e (omega arith) in
+    let id = sym (read _ t (loop .inv) z e (omega arith)) in
+    scanned-hit (loop .inv) inside id (hit .if1 .left) (c .before .lesser .ensures) (c .greater .ensures)
 
 returns : tie.Need-returns Inv-loop μ-loop
 returns c =
-    let l = c .before .before .loop in
-    let z = c .before .before .before .zeros .ensures in
-    let e = c .before .before .before .before .shorter .ensures in
-    let t = c .before .before .before .before .before .before .args .txids .now in
-    over-nothing _ t (l .inv) z e (omega arith) (c .if2 .taken)
+    let loop = c .before .before .loop in
+    let zeroed = c .before .before .before in
+    let t = zeroed .before .before .before .args .txids .now in
+    let e = zeroed .before .shorter .ensures in
+    over-nothing _ t (loop .inv) (zeroed .zeros .ensures) e (omega arith) (c .if2 .taken)
 
 saturating-next-requires : tie.Need-saturating-next-requires Inv-loop μ-loop
 saturating-next-requires c κs = search needs
@@ -92,12 +97,13 @@ greater-requires-2 c κs = search needs
 
 returns-2 : tie.Need-returns-2 Inv-loop μ-loop
 returns-2 c =
-    let l = c .before .before .before .before .loop in
-    let z = c .before .before .before .before .before .zeros .ensures in
-    let e = c .before .before .before .before .before .before .shorter .ensures in
-    let a = c .before .before .before .before .before .before .before .before .args in
+    let some = c .before .before in
+    let loop = some .before .before .loop in
+    let zeroed = some .before .before .before in
+    let a = zeroed .before .before .before .args in
+    let e = zeroed .before .shorter .ensures in
     let xmax = c .greater2 .ensures ∙ ap (max (a .sample)) (c .before .saturating-next .ensures) in
-    over-some _ (a .txids .now) (l .inv) z e (omega arith) (c .before .before .if2 .left) xmax
+    over-some _ (a .txids .now) (loop .inv) (zeroed .zeros .ensures) e (omega arith) (some .if2 .left) xmax
 
 pub take-snapshot-spec : {M : Type 1} → statement M
 take-snapshot-spec =

@@ -1,5 +1,8 @@
-use mathlib.Core.Path.{sym, _∙_}
-use Rattle.snapshots.specs.Decisions.{ownDecision}
+-- The two arms of the tests are the two laws of `Decides`: refused, and accepted with what the scan found.
+use mathlib.Core.Path.{refl, sym, _∙_}
+use Rattle.model.specs.Tally.{snapshotOf}
+use Rattle.model.specs.Calls.{changeAccepted, answerAccepted, shownAccepted}
+use Rattle.model.proofs.Decides.{refused-shows, accepted-shows}
 use borrow.Author.Needs.{needs}
 use Rattle.snapshots.proofs.own.decide_own.Statement.{statement}
 use Rattle.snapshots.proofs.own.decide_own.Tie as tie
@@ -10,8 +13,8 @@ own-test-requires c κs = search needs
 enum-known-verdict : tie.Need-enum-known-verdict
 enum-known-verdict c = search needs
 
-snapshot-refused-requires : tie.Need-snapshot-refused-requires
-snapshot-refused-requires c κs = search needs
+refused-snapshot-requires : tie.Need-refused-snapshot-requires
+refused-snapshot-requires c κs = search needs
 
 enum-told : tie.Need-enum-told
 enum-told c = search needs
@@ -22,23 +25,19 @@ take-snapshot-requires c κs = search needs
 observed-requires : tie.Need-observed-requires
 observed-requires c κs = search needs
 
-cast-slot-change : tie.Need-cast-slot-change
-cast-slot-change c = search needs
-
-slot-change-requires : tie.Need-slot-change-requires
-slot-change-requires c κs = search needs
-
 returns : tie.Need-returns
-unfolding ownDecision
 returns c =
-    let refused = sym (c .before .before .before .before .own-test .ensures) ∙ c .before .before .verdict .given .1 in
-    rw (c .snapshot-refused .ensures, refused)
+    let arm = c .before .before in
+    let refused = sym (arm .before .before .own-test .ensures) ∙ arm .verdict .given .1 in
+    rw (c .refused-snapshot .ensures) (refused-shows _ _ _ refl refused)
 
 returns-2 : tie.Need-returns-2
-unfolding ownDecision
+unfolding changeAccepted answerAccepted shownAccepted snapshotOf
 returns-2 c =
-    let passed = sym (c .before .before .before .before .before .before .own-test .ensures) ∙ c .before .before .before .before .enum-told .given .1 in
-    rw (c .slot-change .ensures, c .before .before .observed .ensures, c .before .before .before .take-snapshot .ensures, passed)
+    let scanned = c .before in
+    let arm = scanned .before in
+    let passed = sym (arm .before .before .own-test .ensures) ∙ arm .enum-told .given .1 in
+    rw (c .observed .ensures, scanned .take-snapshot .ensures) (accepted-shows _ _ _ passed)
 
 pub decide-own-spec : {M : Type 1} → statement M
 decide-own-spec =
@@ -46,11 +45,9 @@ decide-own-spec =
     (tie.spec
     own-test-requires
     enum-known-verdict
-    snapshot-refused-requires
+    refused-snapshot-requires
     enum-told
     take-snapshot-requires
     observed-requires
-    cast-slot-change
-    slot-change-requires
     returns
     returns-2)

@@ -1,4 +1,8 @@
+-- The second test is made where the first passes, as `then` has it. The owner is looked up among all lent slots, which is the
+-- same as among the first ones (`Cut`).
 use mathlib.Core.Path.{sym, _∙_}
+use Rattle.model.specs.Calls.{refusal}
+use Rattle.snapshots.proofs.Cut.{owner-cut}
 use borrow.Author.Needs.{needs}
 use Rattle.snapshots.proofs.own.own_test.Statement.{statement}
 use Rattle.snapshots.proofs.own.own_test.Tie as tie
@@ -16,10 +20,22 @@ observation-test-requires : tie.Need-observation-test-requires
 observation-test-requires c κs = search needs
 
 returns : tie.Need-returns
-returns c = rw (sym (c .before .before .before .owner-test .ensures) ∙ c .before .owner .given .1)
+unfolding refusal
+returns c =
+    let arm = c .before in
+    let tested = arm .before .before in
+    let a = tested .before .before .args in
+    let owner = owner-cut _ (a .txids .now) (a .slot) (a .id) ∙ sym (tested .owner-test .ensures) in
+    rw (owner ∙ arm .owner .given .1)
 
 returns-2 : tie.Need-returns-2
-returns-2 c = rw (sym (c .before .before .before .owner-test .ensures) ∙ c .before .enum-told .given .1) (c .observation-test .ensures)
+unfolding refusal
+returns-2 c =
+    let arm = c .before in
+    let tested = arm .before .before in
+    let a = tested .before .before .args in
+    let owner = owner-cut _ (a .txids .now) (a .slot) (a .id) ∙ sym (tested .owner-test .ensures) in
+    rw (owner ∙ arm .enum-told .given .1) (c .observation-test .ensures)
 
 pub own-test-spec : {M : Type 1} → statement M
 own-test-spec =

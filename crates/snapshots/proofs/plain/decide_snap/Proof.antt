@@ -1,5 +1,7 @@
-use mathlib.Core.Path.{sym, _∙_}
-use Rattle.snapshots.specs.Decisions.{snapDecision}
+-- The two arms of the observation test are the two laws of `Decides`: refused, and accepted with what the scan found.
+use mathlib.Core.Path.{refl, sym, _∙_}
+use Rattle.model.specs.Calls.{refusal, changeAccepted, answerAccepted, shownAccepted}
+use Rattle.model.proofs.Decides.{refused-shows, accepted-shows}
 use borrow.Author.Needs.{needs}
 use Rattle.snapshots.proofs.plain.decide_snap.Statement.{statement}
 use Rattle.snapshots.proofs.plain.decide_snap.Tie as tie
@@ -10,8 +12,8 @@ observation-test-requires c κs = search needs
 enum-known-verdict : tie.Need-enum-known-verdict
 enum-known-verdict c = search needs
 
-snapshot-refused-requires : tie.Need-snapshot-refused-requires
-snapshot-refused-requires c κs = search needs
+refused-snapshot-requires : tie.Need-refused-snapshot-requires
+refused-snapshot-requires c κs = search needs
 
 enum-told : tie.Need-enum-told
 enum-told c = search needs
@@ -22,20 +24,20 @@ take-snapshot-requires c κs = search needs
 observed-requires : tie.Need-observed-requires
 observed-requires c κs = search needs
 
-counters-only-requires : tie.Need-counters-only-requires
-counters-only-requires c κs = search needs
-
 returns : tie.Need-returns
-unfolding snapDecision
+unfolding refusal
 returns c =
-    let refused = sym (c .before .before .before .before .observation-test .ensures) ∙ c .before .before .verdict .given .1 in
-    rw (c .snapshot-refused .ensures, refused)
+    let arm = c .before .before in
+    let refused = sym (arm .before .before .observation-test .ensures) ∙ arm .verdict .given .1 in
+    rw (c .refused-snapshot .ensures) (refused-shows _ _ _ refl refused)
 
 returns-2 : tie.Need-returns-2
-unfolding snapDecision
+unfolding refusal changeAccepted answerAccepted shownAccepted
 returns-2 c =
-    let passed = sym (c .before .before .before .before .before .observation-test .ensures) ∙ c .before .before .before .enum-told .given .1 in
-    rw (c .counters-only .ensures, c .before .observed .ensures, c .before .before .take-snapshot .ensures, passed)
+    let scanned = c .before in
+    let arm = scanned .before in
+    let passed = sym (arm .before .before .observation-test .ensures) ∙ arm .enum-told .given .1 in
+    rw (c .observed .ensures, scanned .take-snapshot .ensures) (accepted-shows _ _ _ passed)
 
 pub decide-snap-spec : {M : Type 1} → statement M
 decide-snap-spec =
@@ -43,10 +45,9 @@ decide-snap-spec =
     (tie.spec
     observation-test-requires
     enum-known-verdict
-    snapshot-refused-requires
+    refused-snapshot-requires
     enum-told
     take-snapshot-requires
     observed-requires
-    counters-only-requires
     returns
     returns-2)

@@ -1,0 +1,48 @@
+-- The two arms of the observation test are the two laws of `Decides`: refused, and accepted with what the scan found.
+use mathlib.Core.Path.{refl, sym, _∙_}
+use Rattle.model.specs.Calls.{refusal, changeAccepted, answerAccepted}
+use Rattle.model.proofs.Decides.{refused-decides, accepted-decides}
+use borrow.Author.Needs.{needs}
+use Rattle.horizon.proofs.vacuum_line.decide_vacuum.Statement.{statement}
+use Rattle.horizon.proofs.vacuum_line.decide_vacuum.Tie as tie
+
+observation-test-requires : tie.Need-observation-test-requires
+observation-test-requires c κs = search needs
+
+enum-known-verdict : tie.Need-enum-known-verdict
+enum-known-verdict c = search needs
+
+enum-told : tie.Need-enum-told
+enum-told c = search needs
+
+oldest-retained-requires : tie.Need-oldest-retained-requires
+oldest-retained-requires c κs = search needs
+
+greater-requires : tie.Need-greater-requires
+greater-requires c κs = search needs
+
+returns : tie.Need-returns
+unfolding refusal
+returns c =
+    let arm = c .before in
+    refused-decides _ _ _ refl (sym (arm .before .before .observation-test .ensures) ∙ arm .verdict .given .1)
+
+returns-2 : tie.Need-returns-2
+unfolding refusal changeAccepted answerAccepted
+returns-2 c =
+    let scanned = c .before in
+    let arm = scanned .before in
+    let passed = sym (arm .before .before .observation-test .ensures) ∙ arm .enum-told .given .1 in
+    rw (c .greater .ensures, scanned .oldest-retained .ensures) (accepted-decides _ _ _ passed)
+
+pub decide-vacuum-spec : {M : Type 1} → statement M
+decide-vacuum-spec =
+    tie.close
+    (tie.spec
+    observation-test-requires
+    enum-known-verdict
+    enum-told
+    oldest-retained-requires
+    greater-requires
+    returns
+    returns-2)

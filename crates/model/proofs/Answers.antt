@@ -1,0 +1,57 @@
+-- Answers are told apart by their case and by what they carry.
+use Prim.Native.Nat.{ℕ}
+use mathlib.Core.Path.{_≡_, sym, ap}
+use native.Mathlib.Omega.{arith}
+use Rattle.kinds.specs.declared.Stamp.{Stamp}
+use Rattle.kinds.specs.declared.SlotNo.{SlotNo}
+use Rattle.kinds.specs.declared.Txid.{Txid}
+use Rattle.kinds.specs.declared.refusal.Refusal.{Refusal}
+use Rattle.kinds.specs.Kinds.{slot, txid, txidOf}
+use Rattle.kinds.proofs.Unique.{same-slot, same-txid}
+use Rattle.model.specs.declared.answer.Answer.{Answer}
+use Rattle.model.specs.declared.answer.Answer.the-variants.{Begun, Done, Oldest, Line, Stamped, Refused}
+
+-- what stands in a case, 0 in every other
+abbrev pub begun-slot : Answer → ℕ
+begun-slot (Begun slot id) = slot .0
+begun-slot Done = 0
+begun-slot (Oldest xmin) = 0
+begun-slot (Line line) = 0
+begun-slot (Stamped stamp) = 0
+begun-slot (Refused r) = 0
+
+abbrev pub begun-id : Answer → ℕ
+begun-id (Begun slot id) = id .0
+begun-id Done = 0
+begun-id (Oldest xmin) = 0
+begun-id (Line line) = 0
+begun-id (Stamped stamp) = 0
+begun-id (Refused r) = 0
+
+abbrev pub line-given : Answer → ℕ
+line-given (Begun slot id) = 0
+line-given Done = 0
+line-given (Oldest xmin) = 0
+line-given (Line line) = line
+line-given (Stamped stamp) = 0
+line-given (Refused r) = 0
+
+-- 1 for a refusal
+abbrev refuses : Answer → ℕ
+refuses (Begun slot id) = 0
+refuses Done = 0
+refuses (Oldest xmin) = 0
+refuses (Line line) = 0
+refuses (Stamped stamp) = 0
+refuses (Refused r) = 1
+
+pub refused-not-begun : (r : Refusal) (slot : SlotNo) (id : Txid) → Refused r ≡ Begun slot id → ⊥
+refused-not-begun r slot id e = let z = ap refuses e in omega (arith, z)
+
+pub refused-not-line : (r : Refusal) (line : ℕ) → Refused r ≡ Line line → ⊥
+refused-not-line r line e = let z = ap refuses e in omega (arith, z)
+
+pub begun-as :
+    {i : ℕ} {number : Stamp} {slot′ : SlotNo} {id : Txid} → i ≡ slot′ .0 → number .0 ≡ id .0 →
+    Begun (slot i) (txidOf number) ≡ Begun slot′ id
+begun-as {i} {number} {slot′} {id} p q = rw (same-slot (slot i) slot′ p, same-txid (txidOf number) id q)

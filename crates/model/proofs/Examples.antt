@@ -1,0 +1,194 @@
+-- Histories worked out by computing: what the promise does not cover, and that no theorem here supposes the impossible.
+use Prim.Native.Nat.{ℕ}
+use mathlib.Core.Path.{_≡_, refl, sym}
+use mathlib.Core.Bool.{true, true≢false}
+use mathlib.Core.List.{List, [], _∷_, _++_}
+use mathlib.Core.Option.{some}
+use native.Mathlib.Omega.{arith}
+use Rattle.kinds.specs.Kinds.{number, slot, txid}
+use Rattle.kinds.specs.declared.Stamp.{Stamp}
+use Rattle.kinds.specs.declared.told.Told.{Told}
+use Rattle.kinds.specs.declared.refusal.Refusal.the-variants.{NoFreeSlot, SlotOwnershipMismatch, BadReservation}
+use Rattle.kinds.specs.declared.refusal.Verdict.the-variants.{Refuse}
+use Rattle.settled.specs.declared.Snapshot.{Snapshot}
+use Rattle.settled.specs.Settled.{listed, settledIn}
+use Rattle.kinds.specs.Refusals.{told, consumed}
+use Rattle.model.specs.Tally.{active, retained, lowestEmpty, minimum, maximum, snapshotOf}
+use Rattle.model.specs.declared.answer.Answer.the-variants.{Begun, Done, Oldest, Line, Stamped, Refused}
+use Rattle.model.specs.Answers.{tellsOf, xminTold, numbersOf, numbersBeside}
+use Rattle.model.specs.Tables.{freshTable}
+use Rattle.model.specs.Calls.{Call, begin, end, snap, own, vacuum, stamp, finish, refusal, changeAccepted, changeOf, spent, after, answerAccepted, answer, shownAccepted, shown}
+use Rattle.model.specs.Check.{slotsPass, differ, passes, tablePasses}
+use Rattle.model.specs.Accepted.{Registered}
+use Rattle.model.specs.History.{run, reached, Accepts, lastFrom, lastOwn}
+use Rattle.model.specs.Reservations.{reservationsFrom, reservations}
+use Rattle.model.specs.Counts.{acceptedFrom, begins, endsAndFinishes, takenSlots}
+use Rattle.model.specs.Rows.{seenFrom, seenIn, said, RowsHold, rows, orders, AllRowsHold}
+use Rattle.model.specs.Promise.{SettledBelow, lineAfter, Covered, of-transaction, Gives}
+use Rattle.model.proofs.Promise.{covered-settled, own-covered}
+
+-- a snapshot at two slots
+abbrev snapshot : ℕ → ℕ → List ℕ → ℕ → Snapshot
+snapshot xmin xmax ids count = record { xmin = xmin; xmax = xmax; ids = ids; count = count }
+
+-- Not covered: a plain snapshot. The table is empty and the line 100; plain snap 100/50 is accepted, and 60 is not settled in it
+
+abbrev emptyAt100 : List Call
+emptyAt100 = vacuum 100 100 ∷ []
+
+abbrev plainSnapshot : Snapshot
+plainSnapshot = snapshot 50 50 (0 ∷ 0 ∷ []) 0
+
+pub plain-snapshot :
+    (lineAfter 2 emptyAt100 ≡ 100)
+    × Accepts 2 (reached 2 emptyAt100) (snap 100 50)
+    × (shown 2 (reached 2 emptyAt100) (snap 100 50) ≡ plainSnapshot)
+unfolding freshTable run active retained minimum maximum refusal changeAccepted changeOf after snapshotOf shownAccepted shown
+plain-snapshot = (refl, refl, refl)
+
+pub plain-not-covered : SettledBelow (lineAfter 2 emptyAt100) plainSnapshot → ⊥
+unfolding listed
+plain-not-covered h = true≢false (sym (h 60 (omega arith) (rw (plain-snapshot .0) (omega arith))))
+
+-- Not covered: a replaced snapshot. Transaction 2 takes a snapshot that lists 1; 1 ends; 2 takes another, and the line rises to 2
+
+abbrev untilFirst : List Call
+untilFirst = begin (number 1) ∷ begin (number 2) ∷ own (slot 1) (txid 2) 3 3 ∷ []
+
+abbrev untilSecond : List Call
+untilSecond = untilFirst ++ end (slot 0) (txid 1) ∷ own (slot 1) (txid 2) 3 3 ∷ vacuum 3 3 ∷ []
+
+abbrev firstSnapshot : Snapshot
+firstSnapshot = snapshot 1 3 (1 ∷ 2 ∷ []) 2
+
+abbrev secondSnapshot : Snapshot
+secondSnapshot = snapshot 2 3 (2 ∷ 0 ∷ []) 1
+
+pub replaced-snapshot :
+    (lastOwn 2 (slot 1) (txid 2) untilFirst ≡ some firstSnapshot)
+    × (lastOwn 2 (slot 1) (txid 2) untilSecond ≡ some secondSnapshot)
+    × (lineAfter 2 untilSecond ≡ 2)
+unfolding freshTable run active retained lowestEmpty minimum maximum refusal changeAccepted changeOf after snapshotOf shownAccepted shown lastFrom
+replaced-snapshot = (refl, refl, refl)
+
+pub replaced-not-covered : SettledBelow (lineAfter 2 untilSecond) firstSnapshot → ⊥
+unfolding listed
+replaced-not-covered h = true≢false (sym (h 1 (omega arith) (rw (replaced-snapshot .2) (omega arith))))
+
+-- Covered, with a line above 1: the one that took its place
+
+pub second-registered : Registered (reached 2 untilSecond) (slot 1) (txid 2)
+unfolding freshTable run active retained lowestEmpty minimum maximum refusal changeAccepted changeOf after
+second-registered = record { not-zero = λ e. omega arith; holds = refl }
+
+pub second-covered : Covered 2 untilSecond secondSnapshot
+second-covered = of-transaction (slot 1) (txid 2) second-registered (replaced-snapshot .1)
+
+pub second-settled : settledIn (secondSnapshot .xmax) (secondSnapshot .ids) (secondSnapshot .count) 1 ≡ true
+second-settled = covered-settled 2 untilSecond secondSnapshot second-covered 1 (omega arith) (rw (replaced-snapshot .2) (omega arith))
+
+-- Covered, with a stale sample: the line is 100, the transaction samples 50, so that its xmin 50 is below the line
+
+abbrev untilStale : List Call
+untilStale = vacuum 100 100 ∷ begin (number 100) ∷ []
+
+pub stale-snapshot :
+    (lineAfter 2 untilStale ≡ 100)
+    × Accepts 2 (reached 2 untilStale) (own (slot 0) (txid 100) 101 50)
+    × (shown 2 (reached 2 untilStale) (own (slot 0) (txid 100) 101 50) ≡ snapshot 50 101 (100 ∷ 0 ∷ []) 1)
+    × (lineAfter 2 (untilStale ++ own (slot 0) (txid 100) 101 50 ∷ vacuum 101 50 ∷ []) ≡ 100)
+unfolding freshTable run active retained lowestEmpty minimum maximum refusal changeAccepted changeOf after snapshotOf shownAccepted shown
+stale-snapshot = (refl, refl, refl, refl)
+
+pub stale-covered :
+    Covered 2 (untilStale ++ own (slot 0) (txid 100) 101 50 ∷ [])
+    (shown 2 (reached 2 untilStale) (own (slot 0) (txid 100) 101 50))
+stale-covered = own-covered 2 untilStale (slot 0) (txid 100) 101 50 (stale-snapshot .1)
+
+-- A full table: refusal 1 consumes its number, and later numbers are above it
+
+abbrev full : List Call
+full = begin (number 1) ∷ begin (number 2) ∷ []
+
+abbrev fullRefused : List Call
+fullRefused = full ++ begin (number 3) ∷ []
+
+pub full-table :
+    (tablePasses 2 (reached 2 full) ≡ true)
+    × (takenSlots (reached 2 full) ≡ 2)
+    × (refusal 2 (reached 2 full) (begin (number 3)) ≡ Refuse (NoFreeSlot (txid 3)))
+    × (reached 2 fullRefused .counters .clock ≡ 4)
+    × (reservations 2 fullRefused ≡ 1 ∷ 2 ∷ 3 ∷ [])
+unfolding freshTable run active lowestEmpty refusal consumed changeAccepted changeOf spent after slotsPass differ listed passes reservationsFrom
+full-table = (refl, refl, refl, refl, refl)
+
+pub full-next :
+    (refusal 2 (reached 2 fullRefused) (finish (slot 1) (txid 2) (number 3)) ≡ Refuse BadReservation)
+    × Accepts 2 (reached 2 fullRefused) (finish (slot 1) (txid 2) (number 4))
+    × Accepts 2 (reached 2 fullRefused) (stamp (number 4))
+    × Accepts 2 (reached 2 (fullRefused ++ end (slot 0) (txid 1) ∷ [])) (begin (number 4))
+    × (listed 3 (reservations 2 fullRefused) ≡ true)
+unfolding freshTable run active lowestEmpty refusal consumed changeAccepted changeOf spent after listed reservationsFrom
+full-next = (refl, refl, refl, refl, refl)
+
+-- Ends and finishes on a table that passes the check, and what the counts say of them
+
+abbrev untilGone : List Call
+untilGone = full ++ end (slot 0) (txid 1) ∷ finish (slot 1) (txid 2) (number 3) ∷ begin (number 4) ∷ []
+
+pub gone :
+    Accepts 2 (reached 2 full) (end (slot 0) (txid 1))
+    × Accepts 2 (reached 2 full) (finish (slot 0) (txid 1) (number 3))
+    × (begins 2 untilGone ≡ 3)
+    × (endsAndFinishes 2 untilGone ≡ 2)
+    × (takenSlots (reached 2 untilGone) ≡ 1)
+unfolding freshTable run active lowestEmpty refusal changeAccepted changeOf after acceptedFrom
+gone = (refl, refl, refl, refl, refl)
+
+-- A vacuum that answers a line above 1, and one that a stale sample cannot lower
+
+pub vacuums :
+    Accepts 2 (reached 2 untilSecond) (vacuum 3 1)
+    × Gives 2 (untilFirst ++ end (slot 0) (txid 1) ∷ own (slot 1) (txid 2) 3 3 ∷ []) 3 3 2
+    × Gives 2 untilSecond 3 1 2
+unfolding freshTable run active retained lowestEmpty minimum maximum refusal changeAccepted changeOf after answerAccepted answer
+vacuums = (refl, refl, refl)
+
+-- The twelve rows, and the orders, at four slots, so that a wrong row is refused here
+
+edges-at-four : (any : Stamp) → RowsHold 4 (rows 4 any)
+unfolding consumed active retained lowestEmpty minimum maximum snapshotOf freshTable refusal changeAccepted changeOf spent after
+    answerAccepted answer shownAccepted shown seenFrom seenIn said rows
+edges-at-four any = refl
+
+orders-at-four : RowsHold 4 (orders 4)
+unfolding consumed active retained lowestEmpty minimum maximum snapshotOf freshTable refusal changeAccepted changeOf spent after
+    answerAccepted answer shownAccepted shown seenFrom seenIn said orders
+orders-at-four = refl
+
+pub rows-at-four : AllRowsHold 4
+rows-at-four = record { edges = edges-at-four; in-order = orders-at-four }
+
+-- What each case of an answer tells, in numbers; a snapshot's xmin and xmax stand in their places
+
+abbrev told-numbers : ℕ → ℕ → ℕ → ℕ → Told
+told-numbers k slot id seen = record { number = k; slot = slot; id = id; seen = seen; at = 0 }
+
+abbrev beside : ℕ → ℕ → Snapshot
+beside xmin xmax = snapshot xmin xmax (9 ∷ 0 ∷ []) 1
+
+pub answers-in-numbers :
+    (numbersBeside (Begun (slot 3) (txid 5)) (snapshot 0 0 [] 0) 7
+    ≡ record { told = told-numbers 0 3 5 0; xmin = 0; xmax = 0; «vacuum_line» = 7; count = 0 })
+    × (numbersBeside Done (beside 4 6) 7
+    ≡ record { told = told-numbers 0 0 0 0; xmin = 4; xmax = 6; «vacuum_line» = 7; count = 1 })
+    × (numbersBeside (Oldest 8) (snapshot 0 0 [] 0) 7
+    ≡ record { told = told-numbers 0 0 0 0; xmin = 8; xmax = 0; «vacuum_line» = 7; count = 0 })
+    × (numbersBeside (Line 9) (snapshot 0 0 [] 0) 9
+    ≡ record { told = told-numbers 0 0 0 0; xmin = 0; xmax = 0; «vacuum_line» = 9; count = 0 })
+    × (numbersBeside (Stamped (number 6)) (snapshot 0 0 [] 0) 7
+    ≡ record { told = told-numbers 0 0 6 0; xmin = 0; xmax = 0; «vacuum_line» = 7; count = 0 })
+    × (numbersBeside (Refused (SlotOwnershipMismatch (slot 3) (txid 5) (txid 2))) (snapshot 0 0 [] 0) 7
+    ≡ record { told = told-numbers 3 3 5 2; xmin = 0; xmax = 0; «vacuum_line» = 7; count = 0 })
+unfolding told tellsOf xminTold numbersOf
+answers-in-numbers = (refl, refl, refl, refl, refl, refl)

@@ -1,0 +1,119 @@
+-- What a call decides on lent columns is what it decides on the table that lends them; and a call on a table by value gives back
+-- what its decision leaves.
+use Prim.Native.Nat.{ℕ, _≤_}
+use mathlib.Core.Path.{_≡_, refl, sym, ap, _∙_}
+use mathlib.Core.Bool.{Bool, true, false, false≢true}
+use mathlib.Core.List.{List, []}
+use lib.ListN.{length, take}
+use lib.Seq.{take-all}
+use Rattle.kinds.specs.declared.Stamp.{Stamp}
+use Rattle.kinds.specs.declared.refusal.Verdict.{Verdict}
+use Rattle.kinds.specs.declared.refusal.Verdict.the-variants.{Pass, Refuse}
+use Rattle.model.specs.declared.Table.{Table}
+use Rattle.model.specs.declared.answer.Decision.{Decision}
+use Rattle.model.specs.declared.answer.SnapshotDecision.{SnapshotDecision}
+use Rattle.model.specs.declared.answer.Outcome.{Outcome}
+use Rattle.model.specs.declared.answer.SnapshotOutcome.{SnapshotOutcome}
+use Rattle.model.specs.Tables.{clockOf, lent, lentTxids}
+use Rattle.model.specs.Changes.{applied}
+use Rattle.model.specs.Tests.{reservationTest}
+use Rattle.model.specs.Calls.{Call, begin, end, snap, own, oldest, vacuum, stamp, finish, refusal}
+use Rattle.model.specs.Calls.{changeAccepted, changeBy, changeOf, after, answerAccepted, answerBy, answer}
+use Rattle.model.specs.Calls.{shownAccepted, shownBy, shown, decision, snapshotDecision, outcome, snapshotOutcome}
+
+-- who reads the snapshot_xmins
+abbrev pub readsXmins : Call → Bool
+readsXmins (begin number) = false
+readsXmins (end slot id) = false
+readsXmins (snap clock sample) = false
+readsXmins (own slot id clock sample) = false
+readsXmins (oldest clock sample) = true
+readsXmins (vacuum clock sample) = true
+readsXmins (stamp number) = false
+readsXmins (finish slot id number) = false
+
+-- no call is refused by them
+same-refusal : (n : ℕ) (t : Table) (xmins : List ℕ) (c : Call) → refusal n (lent (t .txids) xmins (t .counters)) c ≡ refusal n t c
+unfolding refusal
+same-refusal n t xmins (begin number) = refl
+same-refusal n t xmins (end slot id) = refl
+same-refusal n t xmins (snap clock sample) = refl
+same-refusal n t xmins (own slot id clock sample) = refl
+same-refusal n t xmins (oldest clock sample) = refl
+same-refusal n t xmins (vacuum clock sample) = refl
+same-refusal n t xmins (stamp number) = refl
+same-refusal n t xmins (finish slot id number) = refl
+
+-- whoever doesn't read them does the same whatever they are
+abbrev by : Verdict → ℕ → Table → Call → SnapshotDecision
+by v n t c = record { change = changeBy v t c; answer = answerBy v t c; snapshot = shownBy v n t c }
+
+same-by :
+    (v : Verdict) (n : ℕ) (t : Table) (xmins : List ℕ) (c : Call) → readsXmins c ≡ false →
+    by v n (lent (t .txids) xmins (t .counters)) c ≡ by v n t c
+unfolding changeAccepted answerAccepted shownAccepted
+same-by (Refuse r) n t xmins c e = refl
+same-by Pass n t xmins (begin number) e = refl
+same-by Pass n t xmins (end slot id) e = refl
+same-by Pass n t xmins (snap clock sample) e = refl
+same-by Pass n t xmins (own slot id clock sample) e = refl
+same-by Pass n t xmins (oldest clock sample) e = absurd (false≢true (sym e))
+same-by Pass n t xmins (vacuum clock sample) e = absurd (false≢true (sym e))
+same-by Pass n t xmins (stamp number) e = refl
+same-by Pass n t xmins (finish slot id number) e = refl
+
+module _ (n : ℕ) (t : Table) (c : Call) where
+  pub lent-shows :
+      readsXmins c ≡ false → snapshotDecision n (lentTxids (t .txids) (t .counters)) c ≡ snapshotDecision n t c
+  unfolding changeOf answer shown snapshotDecision
+  lent-shows e = rw (same-refusal n t [] c) (same-by (refusal n t c) n t [] c e)
+
+  pub lent-decides : readsXmins c ≡ false → decision n (lentTxids (t .txids) (t .counters)) c ≡ decision n t c
+  unfolding decision snapshotDecision
+  lent-decides e = ap (λ (d : SnapshotDecision). record { change = d .change; answer = d .answer }) (lent-shows e)
+
+  -- .. where the table has no more slots than a snapshot has places
+  pub slots-show :
+      length (t .txids) ≤ n → readsXmins c ≡ false →
+      snapshotDecision n (lentTxids (take n (t .txids)) (t .counters)) c ≡ snapshotDecision n t c
+  slots-show few e = rw (take-all n (t .txids) few) (lent-shows e)
+
+  -- a call by value makes the change that was decided
+  pub outcome-of :
+      {d : Decision} → d ≡ decision n t c →
+      _≡_ {A = Outcome} (record { table = applied t (d .change); answer = d .answer }) (outcome n t c)
+  unfolding after decision outcome
+  outcome-of e = rw e
+
+  pub snapshot-outcome-of :
+      {d : SnapshotDecision} → d ≡ snapshotDecision n t c →
+      _≡_ {A = SnapshotOutcome} (record { table = applied t (d .change); answer = d .answer; snapshot = d .snapshot })
+      (snapshotOutcome n t c)
+  unfolding after snapshotDecision snapshotOutcome
+  snapshot-outcome-of e = rw e
+
+abbrev decidesBy : Verdict → Table → Call → Decision
+decidesBy v t c = record { change = changeBy v t c; answer = answerBy v t c }
+
+-- a stamp reads the counters alone, so it is lent no column
+pub lent-stamps :
+    (n : ℕ) (t : Table) (number : Stamp) →
+    decision n (lentTxids [] (t .counters)) (stamp number) ≡ decision n t (stamp number)
+unfolding refusal changeAccepted changeOf answerAccepted answer decision
+lent-stamps n t number = go (reservationTest (clockOf t) number)
+  where
+    go : (v : Verdict) → decidesBy v (lentTxids [] (t .counters)) (stamp number) ≡ decidesBy v t (stamp number)
+    go Pass = refl
+    go (Refuse r) = refl
+
+-- the outcome by value, from what was decided on the lent column; a stamp's, from what was decided on the counters
+pub lent-outcome :
+    (n : ℕ) (t : Table) (c : Call) → readsXmins c ≡ false → {d : Decision} →
+    d ≡ decision n (lentTxids (t .txids) (t .counters)) c →
+    _≡_ {A = Outcome} (record { table = applied t (d .change); answer = d .answer }) (outcome n t c)
+lent-outcome n t c b e = outcome-of n t c (e ∙ lent-decides n t c b)
+
+pub stamp-outcome :
+    (n : ℕ) (t : Table) (number : Stamp) {d : Decision} → d ≡ decision n (lentTxids [] (t .counters)) (stamp number) →
+    _≡_ {A = Outcome} (record { table = applied t (d .change); answer = d .answer }) (outcome n t (stamp number))
+stamp-outcome n t number e = outcome-of n t (stamp number) (e ∙ lent-stamps n t number)

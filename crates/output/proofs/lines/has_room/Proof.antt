@@ -1,0 +1,26 @@
+use Prim.Native.Nat.{_+_, _*_, _-_}
+use borrow.Author.Tests.{lt-leb, le-leb}
+use native.Mathlib.Omega.{arith}
+use borrow.Author.Needs.{needs}
+use Rattle.output.proofs.lines.has_room.Statement.{statement}
+use Rattle.output.proofs.lines.has_room.Tie as tie
+
+returns : tie.Need-returns
+returns c = rw (lt-leb _ _ (c .if1 .taken))
+
+returns-2 : tie.Need-returns-2
+returns-2 c =
+    let none = lt-leb (224 + 24 * c .before .before .args .count) (c .before .before .args .size - c .before .before .args .at) (omega arith) in
+    rw (le-leb _ _ (c .before .if1 .left), none)
+
+mul-result : tie.Need-mul-result
+mul-result c = search needs
+
+add-result : tie.Need-add-result
+add-result c = search needs
+
+returns-3 : tie.Need-returns-3
+returns-3 c = rw (le-leb _ _ (c .before .if1 .left))
+
+pub has-room-spec : {M : Type 1} → statement M
+has-room-spec = tie.close (tie.spec returns returns-2 mul-result add-result returns-3)

@@ -1,0 +1,18 @@
+-- Two of the numbers are asked for; the others are handed on.
+use Rattle.model.specs.Answers.{numbersOf}
+use borrow.Author.Needs.{needs}
+use Rattle.output.proofs.numbers.numbers_of.Statement.{statement}
+use Rattle.output.proofs.numbers.numbers_of.Tie as tie
+
+tells-of-requires : tie.Need-tells-of-requires
+tells-of-requires c κs = search needs
+
+xmin-told-requires : tie.Need-xmin-told-requires
+xmin-told-requires c κs = search needs
+
+returns : tie.Need-returns
+unfolding numbersOf
+returns c = rw (c .before .tells-of .ensures, c .xmin-told .ensures)
+
+pub numbers-of-spec : {M : Type 1} → statement M
+numbers-of-spec = tie.close (tie.spec tells-of-requires xmin-told-requires returns)

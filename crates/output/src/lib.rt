@@ -1,0 +1,6 @@
+// What an answer prints: its numbers, and their text in eight lines, then a line for each listed id.
+mod lines;
+mod numbers;
+
+pub use lines::put_answer;
+pub use numbers::numbers_of;

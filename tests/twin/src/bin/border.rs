@@ -1,0 +1,550 @@
+//! Runs the replay program and the operator's command at their border: inputs and outputs that are slow, short, cut or
+//! not there.
+//!
+//! border PROGRAM COMMAND SHIM CASES, with the folder of the stored cases; the last line is 'N passed, M failed'.
+
+use std::fs::{self, File};
+use std::io::{Read, Write};
+use std::net::Shutdown;
+use std::os::fd::OwnedFd;
+use std::os::unix::net::UnixStream;
+use std::os::unix::process::ExitStatusExt;
+use std::path::Path;
+use std::process::{Child, Command, Stdio};
+use std::thread;
+use std::time::Duration;
+
+use twin::race_traces;
+
+/// The same program twice: as Rattle has it, with words alone, and under a main with a status.
+#[derive(Clone, Copy, PartialEq)]
+enum Who {
+    Program,
+    Command,
+}
+
+/// How a run has to end.
+#[derive(Clone, Copy, PartialEq, Debug)]
+enum End {
+    Done = 0,
+    Unwritten = 1,
+    Unread = 2,
+    NoTrace = 3,
+}
+
+impl End {
+    /// A word that standard error has to have; nothing is said of a success.
+    fn word(self) -> &'static str {
+        match self {
+            End::Done => "",
+            End::Unwritten => "could not be written",
+            End::Unread => "could not be read",
+            End::NoTrace => "is no trace",
+        }
+    }
+}
+
+/// What a run left.
+struct Ran {
+    status: Option<i32>,
+    signal: Option<i32>,
+    out: Vec<u8>,
+    err: String,
+}
+
+struct Border {
+    program: String,
+    command: String,
+    shim: String,
+    passed: usize,
+    failed: usize,
+}
+
+const BOTH: [Who; 2] = [Who::Program, Who::Command];
+const SIGPIPE: i32 = 13;
+const EINTR: i32 = 4;
+const EIO: i32 = 5;
+const EAGAIN: i32 = 11;
+
+fn main() {
+    let arguments: Vec<String> = std::env::args().skip(1).collect();
+    let [program, command, shim, cases] = arguments.as_slice() else {
+        eprintln!("usage: border PROGRAM COMMAND SHIM CASES");
+        std::process::exit(2);
+    };
+    let (program, command, shim) = (program.clone(), command.clone(), shim.clone());
+    let mut border = Border {
+        program,
+        command,
+        shim,
+        passed: 0,
+        failed: 0,
+    };
+    let small = fs::read(Path::new(cases).join("whole-case.trace")).unwrap_or_default();
+    border.is(
+        "the small trace",
+        small.len() > 100,
+        "no whole-case.trace among the cases",
+    );
+    let large = race_traces::all()
+        .into_iter()
+        .find(|trace| trace.name == "snapshots of all");
+    let large = large.expect("the race has such a trace").text;
+    let mut broken = small.clone();
+    broken.truncate(small.len() - 3);
+
+    border.plain(&small, &large, &broken);
+    border.slow(&[&small, &broken]);
+    border.short(&[(&small, 1), (&broken, 1), (&small, 7), (&large, 1000)]);
+    border.reads_fail(&small);
+    border.writes_fail(&small, &large);
+    border.no_input(&small);
+    border.no_output(&large);
+    border.words(Path::new(cases));
+    println!("{} passed, {} failed", border.passed, border.failed);
+    if border.failed > 0 || border.passed == 0 {
+        std::process::exit(1);
+    }
+}
+
+/// What the twin prints.
+fn right(text: &[u8]) -> Vec<u8> {
+    let mut out = Vec::new();
+    twin::replay::replay(text, &mut out).expect("a vector takes every byte");
+    out
+}
+
+/// Whether an output says of itself that it is all: its last line is whole, and is the count or refusal 9's line.
+fn is_all(out: &[u8]) -> bool {
+    let Some(lines) = out.strip_suffix(b"\n") else {
+        return false;
+    };
+    let last = lines.rsplit(|&byte| byte == b'\n').next().unwrap_or(b"");
+    last.starts_with(b"records=") || last.starts_with(b"at=")
+}
+
+impl Border {
+    fn is(&mut self, what: &str, good: bool, otherwise: &str) {
+        if good {
+            self.passed += 1;
+        } else {
+            self.failed += 1;
+            println!("FAILED {what}: {otherwise}");
+        }
+    }
+
+    fn call(&self, who: Who) -> Command {
+        Command::new(match who {
+            Who::Program => &self.program,
+            Who::Command => &self.command,
+        })
+    }
+
+    /// The same with a C library that moves few bytes, or fails.
+    fn shimmed(&self, who: Who, settings: &[(&str, usize)]) -> Command {
+        let mut call = self.call(who);
+        call.env("LD_PRELOAD", &self.shim);
+        for (name, value) in settings {
+            call.env(name, value.to_string());
+        }
+        call
+    }
+
+    /// Holds a run to the output that it has to leave, and to how it has to end.
+    fn held(&mut self, what: &str, who: Who, ran: &Ran, out: &[u8], end: End) {
+        let status = match who {
+            Who::Program => 0,
+            Who::Command => end as i32,
+        };
+        let name = format!(
+            "{what}, {}",
+            if who == Who::Program {
+                "program"
+            } else {
+                "command"
+            }
+        );
+        let otherwise = format!(
+            "status {:?}, signal {:?}, {} bytes, said {:?}",
+            ran.status,
+            ran.signal,
+            ran.out.len(),
+            ran.err
+        );
+        let said = if end == End::Done {
+            ran.err.is_empty()
+        } else {
+            ran.err.contains(end.word())
+        };
+        self.is(
+            &name,
+            ran.status == Some(status) && ran.out == out && said,
+            &otherwise,
+        );
+        let all = matches!(end, End::Done | End::NoTrace);
+        self.is(
+            &format!("{name}, last line"),
+            is_all(&ran.out) == all,
+            "it says something else of itself",
+        );
+    }
+
+    fn plain(&mut self, small: &[u8], large: &[u8], broken: &[u8]) {
+        for who in BOTH {
+            for (text, end) in [
+                (small, End::Done),
+                (large, End::Done),
+                (broken, End::NoTrace),
+                (b"", End::NoTrace),
+            ] {
+                let ran = fed(self.call(who), text.to_vec(), None);
+                self.held("plain", who, &ran, &right(text), end);
+            }
+        }
+    }
+
+    /// Byte by byte, each some time after the last.
+    fn slow(&mut self, texts: &[&[u8]]) {
+        for who in BOTH {
+            for text in texts {
+                let ran = fed(
+                    self.call(who),
+                    text.to_vec(),
+                    Some(Duration::from_micros(300)),
+                );
+                self.held("slow pipe", who, &ran, &right(text), ended(text));
+            }
+        }
+    }
+
+    /// Reads and writes that move few bytes each.
+    fn short(&mut self, texts: &[(&[u8], usize)]) {
+        for who in BOTH {
+            for (text, most) in texts {
+                let ran = fed(self.shimmed(who, &[("SHORT", *most)]), text.to_vec(), None);
+                self.held("short counts", who, &ran, &right(text), ended(text));
+            }
+        }
+    }
+
+    /// A read that fails, after any number of bytes: record boundaries are among them.
+    fn reads_fail(&mut self, text: &[u8]) {
+        for who in BOTH {
+            for turn in 1..=text.len() + 1 {
+                let error = [EIO, EAGAIN, EINTR][turn % 3] as usize;
+                let settings = [("SHORT", 1), ("FAIL_READ", turn), ("ERROR", error)];
+                let ran = fed(self.shimmed(who, &settings), text.to_vec(), None);
+                self.held("failed read", who, &ran, b"", End::Unread);
+            }
+        }
+    }
+
+    /// A write that fails, after any number of bytes, and after each piece of a long output.
+    fn writes_fail(&mut self, text: &[u8], large: &[u8]) {
+        let out = right(text);
+        for who in BOTH {
+            for turn in 1..=out.len() {
+                let settings = [("SHORT", 1), ("FAIL_WRITE", turn)];
+                let ran = fed(self.shimmed(who, &settings), text.to_vec(), None);
+                self.held("failed write", who, &ran, &out[..turn - 1], End::Unwritten);
+            }
+            let mut before = 0;
+            for turn in 1..=4 {
+                let ran = fed(
+                    self.shimmed(who, &[("FAIL_WRITE", turn)]),
+                    large.to_vec(),
+                    None,
+                );
+                let cut = &right(large)[..ran.out.len()];
+                self.held("failed piece", who, &ran, cut, End::Unwritten);
+                let lines = ran.out.is_empty() || ran.out.ends_with(b"\n");
+                self.is(
+                    "a piece ends with a line",
+                    lines && (turn == 1 || ran.out.len() > before),
+                    "it doesn't",
+                );
+                before = ran.out.len();
+            }
+        }
+    }
+
+    /// Inputs that can't be read: closed, a directory, one that has nothing yet, one that is waited for in vain.
+    fn no_input(&mut self, text: &[u8]) {
+        // a whole trace of one record, whose second has not come yet
+        let one = &text[..first_record(text)];
+        for who in BOTH {
+            let ran = in_shell(self.call(who), "<&-", Stdio::null());
+            self.held("closed input", who, &ran, b"", End::Unread);
+            let mut call = self.call(who);
+            call.stdin(File::open("/").expect("there is a root"));
+            let ran = taken(spawned(&mut call));
+            self.held("directory", who, &ran, b"", End::Unread);
+            for patience in [None, Some(Duration::from_millis(30))] {
+                let (mut ours, theirs) = UnixStream::pair().expect("a pair of sockets");
+                match patience {
+                    None => theirs.set_nonblocking(true),
+                    some => theirs.set_read_timeout(some),
+                }
+                .expect("a socket that doesn't wait for ever");
+                ours.write_all(one).expect("room for a record");
+                let mut call = self.call(who);
+                call.stdin(OwnedFd::from(theirs));
+                let ran = taken(spawned(&mut call));
+                self.held("nothing more yet", who, &ran, b"", End::Unread);
+                drop(ours);
+            }
+            // a writer that closes its end has ended the input: this is a trace
+            let (mut ours, theirs) = UnixStream::pair().expect("a pair of sockets");
+            ours.write_all(one).expect("room for a record");
+            ours.shutdown(Shutdown::Write).expect("an end");
+            let mut call = self.call(who);
+            call.stdin(OwnedFd::from(theirs));
+            let ran = taken(spawned(&mut call));
+            self.held("ended after a record", who, &ran, &right(one), End::Done);
+        }
+    }
+
+    /// Outputs that can't be written: closed, full, not taken, a pipe whose reader leaves.
+    fn no_output(&mut self, text: &[u8]) {
+        let all = right(text);
+        for who in BOTH {
+            for to in [">&-", ">/dev/full"] {
+                let ran = in_shell(self.call(who), to, Stdio::piped());
+                self.held(to, who, &ran, b"", End::Unwritten);
+            }
+            // a socket that takes what has room and then nothing more
+            let (mut ours, theirs) = UnixStream::pair().expect("a pair of sockets");
+            theirs
+                .set_nonblocking(true)
+                .expect("a socket that doesn't wait");
+            let mut call = self.call(who);
+            call.stdin(Stdio::piped())
+                .stdout(OwnedFd::from(theirs))
+                .stderr(Stdio::piped());
+            let mut child = call.spawn().expect("a program that runs");
+            drop(call);
+            feed(&mut child, text.to_vec(), None);
+            let mut ran = taken(child);
+            ours.read_to_end(&mut ran.out).expect("what had room");
+            let cut = &all[..ran.out.len().min(all.len() - 1)];
+            self.held("nobody reads", who, &ran, cut, End::Unwritten);
+            for some in [0, 1000] {
+                self.reader_leaves(who, text, &all, some);
+            }
+        }
+    }
+
+    /// A reader that leaves after some bytes. The program is ended by the signal; the command sees a write that fails.
+    fn reader_leaves(&mut self, who: Who, text: &[u8], all: &[u8], some: usize) {
+        let mut child = spawned(self.call(who).stdin(Stdio::piped()));
+        let mut pipe = child.stdout.take().expect("stdout is piped");
+        if some == 0 {
+            drop(pipe);
+            feed(&mut child, text.to_vec(), None);
+        } else {
+            feed(&mut child, text.to_vec(), None);
+            let mut first = vec![0; some];
+            let came = pipe.read_exact(&mut first).is_ok() && all.starts_with(&first);
+            self.is(
+                "what came before the reader left",
+                came,
+                "it is no beginning of the output",
+            );
+            drop(pipe);
+        }
+        let ran = taken(child);
+        let good = match who {
+            Who::Program => ran.signal == Some(SIGPIPE),
+            Who::Command => ran.status == Some(1) && ran.err.contains(End::Unwritten.word()),
+        };
+        let otherwise = format!(
+            "status {:?}, signal {:?}, said {:?}",
+            ran.status, ran.signal, ran.err
+        );
+        self.is("the reader leaves", good, &otherwise);
+    }
+
+    /// Every stored text that is no trace gets a reason, and some the very one.
+    fn words(&mut self, cases: &Path) {
+        let mut seen = 0;
+        let mut files: Vec<_> = fs::read_dir(cases)
+            .expect("the folder of cases")
+            .flatten()
+            .map(|file| file.path())
+            .collect();
+        files.sort();
+        for file in files
+            .iter()
+            .filter(|file| file.extension().is_some_and(|end| end == "trace"))
+        {
+            let text = fs::read(file).expect("a stored case");
+            let name = file
+                .file_stem()
+                .unwrap_or_default()
+                .to_string_lossy()
+                .into_owned();
+            let out = right(&text);
+            let ran = fed(self.call(Who::Command), text.clone(), None);
+            self.held(&name, Who::Command, &ran, &out, ended(&text));
+            if ended(&text) == End::Done {
+                continue;
+            }
+            seen += 1;
+            let vague = ran.err.contains("breaks a rule of docs");
+            self.is(
+                &format!("{name}, why"),
+                !vague,
+                &format!("no reason is given: {}", ran.err.trim()),
+            );
+            if let Some((_, words)) = REASONS.iter().find(|(case, _)| *case == name) {
+                self.is(
+                    &format!("{name}, words"),
+                    ran.err.contains(words),
+                    &format!("not '{words}': {}", ran.err.trim()),
+                );
+            }
+        }
+        self.is(
+            "stored texts that are no traces",
+            seen > 50,
+            "there are few",
+        );
+        let known = |case: &str| cases.join(format!("{case}.trace")).is_file();
+        for (case, _) in REASONS {
+            self.is(case, known(case), "no such case is stored");
+        }
+        let long = vec![b'x'; 70_000];
+        let ran = fed(self.call(Who::Command), long, None);
+        self.held(
+            "long",
+            Who::Command,
+            &ran,
+            b"answer=9\nat=0\n",
+            End::NoTrace,
+        );
+        self.is(
+            "long, words",
+            ran.err.contains("longer than 65,536 bytes"),
+            &ran.err,
+        );
+    }
+}
+
+/// Stored texts, and what has to be said of each.
+const REASONS: [(&str, &str); 22] = [
+    (
+        "all-lines-crlf",
+        "Line 1, where `trace=proc-1` has to stand, is `trace=proc-1\\r`: it ends in a carriage return",
+    ),
+    (
+        "number-crlf",
+        "Line 5, where `stamp=` of record 1 has to stand, is `stamp=5\\r`: it ends in a carriage return",
+    ),
+    ("number-plus", "is `stamp=+5`: a number has no sign"),
+    ("number-minus", "is `stamp=-5`: a number has no sign"),
+    (
+        "number-leading-zero",
+        "is `stamp=05`: a number has no leading zero",
+    ),
+    (
+        "number-one-above",
+        "a number is at most 18446744073709551615",
+    ),
+    ("number-empty", "it has no number"),
+    ("number-letter", "is no digit"),
+    ("number-space-before", "it has a space"),
+    ("slot-65536", "is `slot=65536`: a slot is at most 65535"),
+    (
+        "unread-begin-slot",
+        "begin reads no slot, so it has to be 0",
+    ),
+    (
+        "unread-vacuum-stamp",
+        "vacuum reads no stamp, so it has to be 0",
+    ),
+    (
+        "unread-finish-sample",
+        "finish reads no sample, so it has to be 0",
+    ),
+    ("op-unknown", "is `op=commit`: no op has this name"),
+    ("op-empty", "it names no op"),
+    ("key-other", "its key is not"),
+    ("key-upper-case", "a key is in lower case"),
+    ("blank-line-between", "it is empty"),
+    ("text-empty", "It is empty: line 1 has to be `trace=proc-1`"),
+    (
+        "incomplete-after-id",
+        "It is cut short: line 5 is missing, where `stamp=` of record 1 has to stand",
+    ),
+    (
+        "unterminated-stamp",
+        "it is cut short, or its newline is missing",
+    ),
+    ("header-other", "no such version is known"),
+];
+
+/// How a run on a text ends where nothing fails.
+fn ended(text: &[u8]) -> End {
+    if right(text).starts_with(b"answer=9\n") {
+        End::NoTrace
+    } else {
+        End::Done
+    }
+}
+
+/// The length of the header and the first record.
+fn first_record(text: &[u8]) -> usize {
+    let ends = text.iter().enumerate().filter(|(_, byte)| **byte == b'\n');
+    ends.map(|(place, _)| place + 1)
+        .nth(6)
+        .expect("a trace of a record")
+}
+
+fn spawned(call: &mut Command) -> Child {
+    call.stdout(Stdio::piped())
+        .stderr(Stdio::piped())
+        .spawn()
+        .expect("a program that runs")
+}
+
+/// Feeds a text in another thread, so that a program may write before it has read; it may also leave early.
+fn feed(child: &mut Child, text: Vec<u8>, pause: Option<Duration>) {
+    let mut stdin = child.stdin.take().expect("stdin is piped");
+    thread::spawn(move || match pause {
+        None => stdin.write_all(&text),
+        Some(pause) => text.chunks(1).try_for_each(|byte| {
+            thread::sleep(pause);
+            stdin.write_all(byte)
+        }),
+    });
+}
+
+fn fed(mut call: Command, text: Vec<u8>, pause: Option<Duration>) -> Ran {
+    let mut child = spawned(call.stdin(Stdio::piped()));
+    feed(&mut child, text, pause);
+    taken(child)
+}
+
+/// Through a shell, which can close a descriptor. Its input is a trace where it has one.
+fn in_shell(call: Command, redirected: &str, input: Stdio) -> Ran {
+    let mut shell = Command::new("sh");
+    shell
+        .args(["-c", &format!("exec \"$0\" {redirected}")])
+        .arg(call.get_program())
+        .stdin(input);
+    let mut child = spawned(&mut shell);
+    if child.stdin.is_some() {
+        feed(&mut child, b"trace=proc-1\n".to_vec(), None);
+    }
+    taken(child)
+}
+
+fn taken(child: Child) -> Ran {
+    let output = child.wait_with_output().expect("a program that ends");
+    Ran {
+        status: output.status.code(),
+        signal: output.status.signal(),
+        out: output.stdout,
+        err: String::from_utf8_lossy(&output.stderr).into_owned(),
+    }
+}
