@@ -23,6 +23,7 @@ use Rattle.model.specs.Accepted.{Owns, Registered}
 use Rattle.model.specs.History.{reached, Accepts}
 use Rattle.model.proofs.Tally.{taken-active, active-length, used-places}
 use Rattle.model.proofs.Accepted.{accepted-acceptable}
+use Rattle.model.proofs.Facts.{good-reached}
 
 module _ (n : ℕ) (t : Table) (slot : SlotNo) (id : Txid) (clock sample : ℕ) where
   -- the snapshot that the transaction takes
@@ -68,13 +69,24 @@ module _ (n : ℕ) (t : Table) (slot : SlotNo) (id : Txid) (clock sample : ℕ) 
           own-is-usable n (taken .xmax) (taken .ids) (taken .count) id id (count-fits l) z refl,
         )
 
--- from fresh: the own id is listed in every snapshot that a registered transaction takes, whatever was called before
-pub own-listed-from-fresh :
+-- from fresh, whatever was called before: a transaction that takes a snapshot is registered, its own id is listed there, and
+-- the two tests answer no and yes
+pub record OwnInFlight (n : ℕ) (cs : List Call) (slot : SlotNo) (id : Txid) (s : Snapshot) : Type 0 where
+  pub registered : Registered (reached n cs) slot id
+  pub is-listed : listed (id .0) (take (s .count) (s .ids)) ≡ true
+  pub not-settled : settledTest n (s .xmax) (s .ids) (s .count) id ≡ paperSettled No
+  pub usable : usableTest n (s .xmax) (s .ids) (s .count) id id ≡ paperUsable Yes
+
+pub own-in-flight :
     (n : ℕ) (cs : List Call) (slot : SlotNo) (id : Txid) (clock sample : ℕ) →
     Accepts n (reached n cs) (own slot id clock sample) →
-    let s = shown n (reached n cs) (own slot id clock sample) in
-    (Registered (reached n cs) slot id) × (listed (id .0) (take (s .count) (s .ids)) ≡ true)
-own-listed-from-fresh n cs slot id clock sample a = (
-  owner n (reached n cs) slot id clock sample a .registered,
-  own-listed n (reached n cs) slot id clock sample a,
-)
+    OwnInFlight n cs slot id (shown n (reached n cs) (own slot id clock sample))
+own-in-flight n cs slot id clock sample a =
+    let t = reached n cs in
+    let answers = own-answers n t slot id clock sample a (good-reached n cs .txid-column) in
+    record {
+      registered = owner n t slot id clock sample a .registered;
+      is-listed = own-listed n t slot id clock sample a;
+      not-settled = answers .0;
+      usable = answers .1;
+    }
