@@ -76,7 +76,8 @@ shared-slice-read-d-2 c = search needs
 
 returns : tie.Need-returns
 returns c =
-    let a = c .before .before .before .before .before .before .before .before .args in
+    let b = c .before .before .before .before in
+    let a = b .before .before .before .before .args in
     listed-near (a .x) (a .ids .now) (a .i) (omega arith)
 
 pub is-near-spec : {M : Type 1} → statement M
