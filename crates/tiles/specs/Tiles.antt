@@ -75,6 +75,10 @@ tileOf n shown own maker older olderUsed newer newerUsed =
     newer
     newerUsed
 
+-- what `used_refusal` answers
+abbrev pub refusalOf : ℕ → Snapshot → Txid → Txid → Bytes → ℕ → Bytes → ℕ → ℕ
+refusalOf n shown own maker older olderUsed newer newerUsed = tileOf n shown own maker older olderUsed newer newerUsed .refusal
+
 -- what `used_part` promises of the part that it hands out
 abbrev pub PartFits : ℕ → Snapshot → Txid → Txid → Bytes → ℕ → Bytes → ℕ → Bytes → Type 0
 PartFits n shown own maker older olderUsed newer newerUsed r =

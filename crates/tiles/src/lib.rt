@@ -4,7 +4,7 @@ use kinds::Txid;
 use settled::Snapshot;
 use settled::Usable;
 ghost use mathlib.Core.Path.{_≡_};
-ghost use Rattle.tiles.specs.Tiles.{choice, fitted, lengthTest, PartFits, tileOf};
+ghost use Rattle.tiles.specs.Tiles.{choice, fitted, lengthTest, PartFits, refusalOf};
 
 // Which coding is handed out, or why none.
 pub enum Choice {
@@ -98,7 +98,7 @@ pub fn used_refusal(
     newer: &[u8],
     newer_used: usize,
 ) -> u64
-    ensures { λ r. do ⌜ r ≡ tileOf (← ⟦kinds::SLOTS⟧ .entry) shown own maker (older .entry) «older_used» (newer .entry) «newer_used» .refusal ⌝ }
+    ensures { λ r. do ⌜ r ≡ refusalOf (← ⟦kinds::SLOTS⟧ .entry) shown own maker (older .entry) «older_used» (newer .entry) «newer_used» ⌝ }
 {
     let choice = choose(
         shown,
