@@ -75,11 +75,12 @@ tileOf n shown own maker older olderUsed newer newerUsed =
     newer
     newerUsed
 
--- what `used_refusal` answers
-abbrev pub refusalOf : ℕ → Snapshot → Txid → Txid → Bytes → ℕ → Bytes → ℕ → ℕ
-refusalOf n shown own maker older olderUsed newer newerUsed = tileOf n shown own maker older olderUsed newer newerUsed .refusal
-
 -- what `used_part` promises of the part that it hands out
 abbrev pub PartFits : ℕ → Snapshot → Txid → Txid → Bytes → ℕ → Bytes → ℕ → Bytes → Type 0
 PartFits n shown own maker older olderUsed newer newerUsed r =
     whole r ≡ tileOf n shown own maker older olderUsed newer newerUsed .part
+
+-- what `used_refusal` promises of its number
+abbrev pub NumberFits : ℕ → Snapshot → Txid → Txid → Bytes → ℕ → Bytes → ℕ → ℕ → Type 0
+NumberFits n shown own maker older olderUsed newer newerUsed r =
+    r ≡ tileOf n shown own maker older olderUsed newer newerUsed .refusal

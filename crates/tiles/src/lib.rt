@@ -4,7 +4,7 @@ use kinds::Txid;
 use settled::Snapshot;
 use settled::Usable;
 ghost use mathlib.Core.Path.{_≡_};
-ghost use Rattle.tiles.specs.Tiles.{choice, fitted, lengthTest, PartFits, refusalOf};
+ghost use Rattle.tiles.specs.Tiles.{choice, fitted, lengthTest, NumberFits, PartFits};
 
 // Which coding is handed out, or why none.
 pub enum Choice {
@@ -98,7 +98,7 @@ pub fn used_refusal(
     newer: &[u8],
     newer_used: usize,
 ) -> u64
-    ensures { λ r. do ⌜ r ≡ refusalOf (← ⟦kinds::SLOTS⟧ .entry) shown own maker (older .entry) «older_used» (newer .entry) «newer_used» ⌝ }
+    ensures { λ r. do ⌜ NumberFits (← ⟦kinds::SLOTS⟧ .entry) shown own maker (older .entry) «older_used» (newer .entry) «newer_used» r ⌝ }
 {
     let choice = choose(
         shown,
