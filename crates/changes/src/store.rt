@@ -5,7 +5,7 @@ use model::SlotChange;
 use model::Table;
 ghost use mathlib.Core.Path.{_≡_};
 ghost use Rattle.model.specs.Changes.{applied};
-ghost use Rattle.changes.specs.Stored.{storedAt, storedTxid, storedXmin};
+ghost use Rattle.model.specs.Stored.{storedAt, storedTxid, storedXmin};
 
 // Place i of a column, where the column has it.
 fn store_at(column: &mut [u64; SLOTS], i: usize, x: u64)

@@ -15,8 +15,8 @@ use Rattle.text.specs.Decimal.{decimalIn, decimal, numberText}
 use Rattle.text.specs.Keys.{answerKey, recordsKey, atKey}
 use Rattle.text.specs.Line.{lineText}
 use Rattle.text.specs.Write.{putAt, written}
-use Rattle.render.specs.Output.{Wrote}
-use Rattle.render.proofs.Wrote.{line-wrote, line-put-there, wrote-then}
+use Rattle.output.specs.Wrote.{Wrote}
+use Rattle.output.proofs.Wrote.{line-wrote, line-put-there, wrote-then}
 use Rattle.replay.specs.Replay.{brokenText}
 use Rattle.replay.specs.Into.{BrokenFits, EndFits}
 use Rattle.replay.specs.declared.into.Replayed.the-variants.{Written}

@@ -8,7 +8,8 @@ use lib.Dec.{leb}
 use lib.ListN.{length, length-append}
 use borrow.Author.Tests.{le-leb}
 use Rattle.model.specs.declared.Table.{Table}
-use Rattle.model.specs.Calls.{after, answer}
+use Rattle.model.specs.Calls.{after, shown}
+use Rattle.model.specs.History.{run}
 use Rattle.model.specs.Tables.{freshTable}
 use Rattle.model.specs.Facts.{Good}
 use Rattle.model.proofs.Moves.{good-fresh}
@@ -16,10 +17,12 @@ use Rattle.model.proofs.Facts.{good-after}
 use Rattle.text.specs.Keys.{recordsKey}
 use Rattle.text.specs.Line.{lineText}
 use Rattle.trace.specs.declared.Record.{Record}
-use Rattle.trace.specs.Trace.{Found, Records, Breaks, traceOf}
-use Rattle.render.specs.Output.{need, fits}
-use Rattle.step.specs.Named.{callOf, outputOf}
-use Rattle.replay.specs.Replay.{tableAfter, textOf, brokenText, replayBy, replayOf}
+use Rattle.grammar.specs.Texts.{Read, Whole, Broken}
+use Rattle.trace.specs.declared.Version.{Version}
+use Rattle.trace.specs.Trace.{traceOf}
+use Rattle.output.specs.Output.{printed, need, fits}
+use Rattle.step.specs.Named.{callOf}
+use Rattle.replay.specs.Replay.{callsOf, textOf, brokenText, replayBy, replayOf}
 use Rattle.replay.specs.Part.{Part, withText, partOf}
 use Rattle.replay.proofs.Room.{room-fits}
 use Rattle.replay.specs.Into.{whole, cut, textIn, intoEnd, intoBy, intoOf}
@@ -27,19 +30,19 @@ use Rattle.replay.specs.Into.{whole, cut, textIn, intoEnd, intoBy, intoO
 -- what a part printed, and then what its table prints for the records it left, is what all the records print
 pub record Joins (n : ℕ) (t : Table) (rs : List Record) (p : Part) : Type 0 where
   pub text : textOf n t rs ≡ p .text ++ textOf n (p .table) (p .left)
-  pub table : tableAfter n t rs ≡ tableAfter n (p .table) (p .left)
+  pub table : run n t (callsOf rs) ≡ run n (p .table) (callsOf (p .left))
 
 pub parts-join : (n size at : ℕ) (t : Table) (rs : List Record) → Joins n t rs (partOf n size at t rs)
-unfolding partOf textOf tableAfter
+unfolding partOf textOf run
 parts-join n size at t [] = record { text = refl; table = refl }
 parts-join n size at t (r ∷ rs) =
-    go (fits n size at (length (answer n t (callOf r) .ids))) (parts-join n size (at + length (outputOf n t (callOf r))) (after n t (callOf r)) rs)
+    go (fits n size at (shown n t (callOf r) .count)) (parts-join n size (at + length (printed n t (callOf r))) (after n t (callOf r)) rs)
   where
     go :
-        (b : Bool) → Joins n (after n t (callOf r)) rs (partOf n size (at + length (outputOf n t (callOf r))) (after n t (callOf r)) rs) →
+        (b : Bool) → Joins n (after n t (callOf r)) rs (partOf n size (at + length (printed n t (callOf r))) (after n t (callOf r)) rs) →
         Joins n t (r ∷ rs)
         (cond b
-        (withText (outputOf n t (callOf r)) (partOf n size (at + length (outputOf n t (callOf r))) (after n t (callOf r)) rs))
+        (withText (printed n t (callOf r)) (partOf n size (at + length (printed n t (callOf r))) (after n t (callOf r)) rs))
         (record { text = []; table = t; left = r ∷ rs }))
     go true j = record { text = rw (j .text, append-assoc); table = j .table }
     go false j = record { text = refl; table = refl }
@@ -72,9 +75,9 @@ pub whole-is-replay : (n size : ℕ) (s : List ℕ) {text : List ℕ} → intoOf
 unfolding intoOf replayOf
 whole-is-replay n size s {text} e = go (traceOf s) e
   where
-    go : (f : Found) → intoBy n size f ≡ whole text → text ≡ replayBy n f
-    go (Breaks line) h = broken-whole (leb 33 size) line h
-    go (Records rs) h =
+    go : (f : Read Version Record) → intoBy n size f ≡ whole text → text ≡ replayBy n f
+    go (Broken line) h = broken-whole (leb 33 size) line h
+    go (Whole v rs) h =
         let w = end-whole size (length rs) (partOf n size 0 (freshTable n) rs .left) (partOf n size 0 (freshTable n) rs .text) h in
         w .1 ∙ ap (λ (t : List ℕ). t ++ lineText recordsKey (length rs)) (part-whole n size (freshTable n) rs (w .0))
 
@@ -113,9 +116,9 @@ into-begins n size s = go (traceOf s)
     broken true line = record { rest = []; joined = rw append-nil }
     broken false line = record { rest = brokenText line; joined = refl }
 
-    go : (f : Found) → Beginning (textIn (intoBy n size f)) (replayBy n f)
-    go (Breaks line) = broken (leb 33 size) line
-    go (Records rs) =
+    go : (f : Read Version Record) → Beginning (textIn (intoBy n size f)) (replayBy n f)
+    go (Broken line) = broken (leb 33 size) line
+    go (Whole v rs) =
         end-begins n size (length rs) rs (partOf n size 0 (freshTable n) rs) (parts-join n size 0 (freshTable n) rs)
 
 -- with room for the whole text and for one record of the most ids, every record goes in
@@ -125,7 +128,7 @@ all-fit :
 unfolding partOf textOf
 all-fit n size at t [] g h = refl
 all-fit n size at t (r ∷ rs) g h =
-    let out = outputOf n t (callOf r) in
+    let out = printed n t (callOf r) in
     let next = after n t (callOf r) in
     let long = length-append out (textOf n next rs) in
     rw (room-fits n size at t (callOf r) g (omega arith))
@@ -135,9 +138,9 @@ pub room-is-whole : (n size : ℕ) (s : List ℕ) → length (replayOf n s) + ne
 unfolding intoOf replayOf
 room-is-whole n size s = go (traceOf s)
   where
-    go : (f : Found) → length (replayBy n f) + need n ≤ size → intoBy n size f ≡ whole (replayBy n f)
-    go (Breaks line) h = rw (le-leb 33 size (omega arith))
-    go (Records rs) h =
+    go : (f : Read Version Record) → length (replayBy n f) + need n ≤ size → intoBy n size f ≡ whole (replayBy n f)
+    go (Broken line) h = rw (le-leb 33 size (omega arith))
+    go (Whole v rs) h =
         let text = textOf n (freshTable n) rs in
         let line = lineText recordsKey (length rs) in
         let long = length-append text line in

@@ -16,9 +16,12 @@ use Rattle.text.specs.Write.{spliced}
 use Rattle.text.proofs.Lines.{joined-append}
 use Rattle.trace.specs.declared.Record.{Record}
 use Rattle.trace.specs.declared.Reading.the-variants.{Broken}
-use Rattle.trace.specs.Trace.{Found, Records, Breaks, traceOf, reading}
+use Rattle.grammar.specs.Texts as texts
+use Rattle.grammar.specs.Texts.{Read}
+use Rattle.trace.specs.declared.Version.{Version}
+use Rattle.trace.specs.Trace.{traceOf, reading}
 use Rattle.trace.proofs.Refusal.{trace-breaks}
-use Rattle.render.specs.Output.{need}
+use Rattle.output.specs.Output.{need}
 use Rattle.replay.specs.Replay.{textOf, brokenText, replayBy, replayOf}
 use Rattle.replay.specs.Part.{partOf}
 use Rattle.replay.specs.Sent.{partsOf, piecesBy, piecesOf, handed, stopped, PieceNext, WentFits, isTrace, AllWent, SomeWent, SentFits}
@@ -49,9 +52,9 @@ pub pieces-joined : (n : ℕ) (s : List ℕ) → need n ≤ 65536 → joined (pi
 unfolding piecesOf replayOf joined
 pieces-joined n s room = go (traceOf s)
   where
-    go : (f : Found) → joined (piecesBy n f) ≡ replayBy n f
-    go (Breaks line) = append-nil (brokenText line)
-    go (Records rs) =
+    go : (f : Read Version Record) → joined (piecesBy n f) ≡ replayBy n f
+    go (texts.Broken line) = append-nil (brokenText line)
+    go (texts.Whole v rs) =
         let last = lineText recordsKey (length rs) in
         let run = parts-joined (length rs) n (freshTable n) rs (good-fresh n) room (omega arith) in
         joined-append (partsOf (length rs) n 65536 (freshTable n) rs) (last ∷ []) ∙ rw (run, append-nil last)
@@ -64,9 +67,10 @@ parts-few (suc k) n t (r ∷ rs) =
     let p = partOf n 65536 0 t (r ∷ rs) in
     omega (arith, parts-few k n (p .table) (p .left))
 
-pub pieces-few : (n : ℕ) (s : List ℕ) (rs : List Record) → traceOf s ≡ Records rs → length (piecesOf n s) ≤ length rs + 1
+pub pieces-few :
+    (n : ℕ) (s : List ℕ) (v : Version) (rs : List Record) → traceOf s ≡ texts.Whole v rs → length (piecesOf n s) ≤ length rs + 1
 unfolding piecesOf
-pieces-few n s rs e =
+pieces-few n s v rs e =
     let parts = partsOf (length rs) n 65536 (freshTable n) rs in
     let size = length-append parts (lineText recordsKey (length rs) ∷ []) in
     rw e (omega (arith, size, parts-few (length rs) n (freshTable n) rs))

@@ -9,40 +9,42 @@ use borrow.Author.Tests.{le-leb}
 use Rattle.kinds.specs.declared.refusal.Verdict.{Verdict}
 use Rattle.kinds.specs.declared.refusal.Verdict.the-variants.{Pass, Refuse}
 use Rattle.model.specs.declared.Table.{Table}
-use Rattle.model.specs.Calls.{Call, begin, end, snap, own, oldest, vacuum, stamp, finish, refusal, after, answerAccepted, answerBy, answer}
+use Rattle.model.specs.Calls.{Call, begin, end, snap, own, oldest, vacuum, stamp, finish, refusal, after, shownAccepted, shownBy, shown}
 use Rattle.model.specs.Facts.{Good}
 use Rattle.model.proofs.Tally.{active-length}
 use Rattle.model.proofs.Facts.{good-after}
 use Rattle.trace.specs.declared.Record.{Record}
-use Rattle.render.specs.Output.{need, fits}
-use Rattle.step.specs.Named.{callOf, outputOf}
+use Rattle.settled.specs.Snapshots.{noSnapshot}
+use Rattle.model.specs.Tally.{snapshotOf}
+use Rattle.output.specs.Output.{printed, need, fits}
+use Rattle.step.specs.Named.{callOf}
 use Rattle.replay.specs.Part.{Part, withText, partOf}
 
--- an answer lists no more ids than the table has slots
-accepted-few : (t : Table) (c : Call) → length (answerAccepted t c .ids) ≤ length (t .txids)
-unfolding answerAccepted
-accepted-few t (begin number) = omega arith
-accepted-few t (end slot id) = omega arith
-accepted-few t (snap clock sample) = active-length (t .txids)
-accepted-few t (own slot id clock sample) = active-length (t .txids)
-accepted-few t (oldest clock sample) = omega arith
-accepted-few t (vacuum clock sample) = omega arith
-accepted-few t (stamp number) = omega arith
-accepted-few t (finish slot id number) = omega arith
+-- a snapshot lists no more ids than the table has slots
+accepted-few : (n : ℕ) (t : Table) (c : Call) → shownAccepted n t c .count ≤ length (t .txids)
+unfolding shownAccepted noSnapshot snapshotOf
+accepted-few n t (begin number) = omega arith
+accepted-few n t (end slot id) = omega arith
+accepted-few n t (snap clock sample) = active-length (t .txids)
+accepted-few n t (own slot id clock sample) = active-length (t .txids)
+accepted-few n t (oldest clock sample) = omega arith
+accepted-few n t (vacuum clock sample) = omega arith
+accepted-few n t (stamp number) = omega arith
+accepted-few n t (finish slot id number) = omega arith
 
-answer-few : (n : ℕ) (t : Table) (c : Call) → length (answer n t c .ids) ≤ length (t .txids)
-unfolding answer
-answer-few n t c = go (refusal n t c)
+shown-few : (n : ℕ) (t : Table) (c : Call) → shown n t c .count ≤ length (t .txids)
+unfolding shown noSnapshot
+shown-few n t c = go (refusal n t c)
   where
-    go : (v : Verdict) → length (answerBy v t c .ids) ≤ length (t .txids)
-    go Pass = accepted-few t c
+    go : (v : Verdict) → shownBy v n t c .count ≤ length (t .txids)
+    go Pass = accepted-few n t c
     go (Refuse r) = omega arith
 
 pub room-fits :
-    (n size at : ℕ) (t : Table) (c : Call) → Good n t → at + need n ≤ size → fits n size at (length (answer n t c .ids)) ≡ true
+    (n size at : ℕ) (t : Table) (c : Call) → Good n t → at + need n ≤ size → fits n size at (shown n t c .count) ≡ true
 room-fits n size at t c g h =
-    let many = length (answer n t c .ids) in
-    let few : many ≤ n = omega (arith, answer-few n t c, g .txid-column) in
+    let many = shown n t c .count in
+    let few : many ≤ n = omega (arith, shown-few n t c, g .txid-column) in
     let room : need many ≤ size - at = omega arith in
     rw (le-leb many n few, le-leb (need many) (size - at) room)
 
@@ -56,14 +58,14 @@ module _ (n size : ℕ) where
   unfolding partOf
   part-left at t [] g = record { few = omega arith; good = g }
   part-left at t (r ∷ rs) g =
-      go (fits n size at (length (answer n t (callOf r) .ids)))
-      (part-left (at + length (outputOf n t (callOf r))) (after n t (callOf r)) rs (good-after n t (callOf r) g))
+      go (fits n size at (shown n t (callOf r) .count))
+      (part-left (at + length (printed n t (callOf r))) (after n t (callOf r)) rs (good-after n t (callOf r) g))
     where
       go :
-          (b : Bool) → Left rs (partOf n size (at + length (outputOf n t (callOf r))) (after n t (callOf r)) rs) →
+          (b : Bool) → Left rs (partOf n size (at + length (printed n t (callOf r))) (after n t (callOf r)) rs) →
           Left (r ∷ rs)
           (cond b
-          (withText (outputOf n t (callOf r)) (partOf n size (at + length (outputOf n t (callOf r))) (after n t (callOf r)) rs))
+          (withText (printed n t (callOf r)) (partOf n size (at + length (printed n t (callOf r))) (after n t (callOf r)) rs))
           (record { text = []; table = t; left = r ∷ rs }))
       go true l = record { few = omega (arith, l .few); good = l .good }
       go false l = record { few = omega arith; good = g }
@@ -77,4 +79,4 @@ module _ (n size : ℕ) where
   unfolding partOf
   part-goes-on t r rs g h =
       rw (room-fits n size 0 t (callOf r) g (omega arith))
-      (part-left (0 + length (outputOf n t (callOf r))) (after n t (callOf r)) rs (good-after n t (callOf r) g) .few)
+      (part-left (0 + length (printed n t (callOf r))) (after n t (callOf r)) rs (good-after n t (callOf r) g) .few)

@@ -6,9 +6,10 @@ use mathlib.Core.List.{List, [], _++_, append-assoc, append-nil}
 use native.Mathlib.Nat.{zero-add}
 use native.Mathlib.Omega.{arith}
 use lib.ListN.{length, length-append, length-take, length-drop}
+use borrow.Author.Tests.{le-leb}
 use Rattle.model.specs.declared.Table.{Table}
-use Rattle.model.specs.Calls.{after, answer}
-use Rattle.changes.specs.Changes.{applied}
+use Rattle.model.specs.Changes.{applied}
+use Rattle.model.specs.Calls.{Call, after, shown}
 use Rattle.text.specs.declared.Put.the-variants.{Past, NoRoom}
 use Rattle.text.specs.Write.{spliced}
 use Rattle.text.proofs.Splice.{splice-none, splice-append}
@@ -17,11 +18,11 @@ use Rattle.trace.specs.declared.RecordAt.the-variants.{Is}
 use Rattle.trace.specs.Record.{recordAt}
 use Rattle.trace.specs.Trace.{recordsFrom, Boundary}
 use Rattle.trace.proofs.Loop.{next-record, none-left}
-use Rattle.render.specs.Output.{fits, putText, leftText}
-use Rattle.step.specs.Named.{callOf, outputOf}
-use Rattle.step.specs.Step.{Ran}
+use Rattle.output.specs.Output.{printed, fits, putText, leftText}
+use Rattle.step.specs.Named.{callOf}
+use Rattle.step.specs.Step.{ranOf, leftOf, ran, ranLeft}
 use Rattle.replay.specs.Part.{withText, partOf, PartFits}
-use Rattle.step.specs.declared.Outcome.{Outcome}
+use Rattle.step.specs.declared.Ran.{Ran}
 
 -- a text that leaves the length as it was ends inside
 pub inside-of : (xs : List ℕ) (at : ℕ) (t : List ℕ) → at ≤ length xs → length (spliced xs at t) ≡ length xs → at + length t ≤ length xs
@@ -58,6 +59,22 @@ module _ (n : ℕ) (xs : List ℕ) (at count : ℕ) (t : List ℕ) where
   unfolding leftText
   not-put-left e q = rw (not-put-fits e) at q
 
+-- what running one call leaves, on a table of n slots
+pub record RanThere (n : ℕ) (t : Table) (c : Call) (xs : List ℕ) (at : ℕ) (ys : List ℕ) (o : Ran) : Type 0 where
+  pub put : o .put ≡ putText n xs at (shown n t c .count) (printed n t c)
+  pub left : ys ≡ leftText n xs at (shown n t c .count) (printed n t c)
+  pub table : applied t (o .change) ≡ after n t c
+
+pub ran-there :
+    {n : ℕ} {t : Table} {c : Call} {xs : List ℕ} {at : ℕ} {ys : List ℕ} {o : Ran} → length (t .txids) ≡ n →
+    o ≡ ran n t c xs at → ys ≡ ranLeft n t c xs at → RanThere n t c xs at ys o
+unfolding ran ranLeft after
+ran-there {n} {t} {c} {xs} {at} {ys} {o} few e l =
+    let ok = le-leb (length (t .txids)) n (omega arith) in
+    let is : o ≡ ranOf n t c xs at = e ∙ rw ok in
+    let there : ys ≡ leftOf n t c xs at = l ∙ rw ok in
+    record { put = rw is; left = there; table = rw is }
+
 pub record Running (n : ℕ) (s : List ℕ) (from : ℕ) (t₀ : Table) (xs ys : List ℕ) (t : Table) (at filled : ℕ) : Type 0 where
   pub done : List ℕ
   pub text : ys ≡ spliced xs 0 done
@@ -76,14 +93,14 @@ module _ (n : ℕ) (s : List ℕ) (from : ℕ) (t₀ : Table) (xs : List ℕ) wh
   module _ {ys : List ℕ} {t : Table} {at filled : ℕ} (w : Running n s from t₀ xs ys t at filled) where
     -- one record more
     pub running-more :
-        (r : Record) (e : ℕ) {o : Outcome} {zs : List ℕ} {past : ℕ} {u : Table} → recordAt s at ≡ Is r e →
-        Ran n t (callOf r) ys filled zs o → o .put ≡ Past past → length zs ≡ length ys → u ≡ applied n t (o .change) →
+        (r : Record) (e : ℕ) {o : Ran} {zs : List ℕ} {past : ℕ} {u : Table} → recordAt s at ≡ Is r e →
+        RanThere n t (callOf r) ys filled zs o → o .put ≡ Past past → length zs ≡ length ys → u ≡ applied t (o .change) →
         length (u .txids) ≡ n → Running n s from t₀ xs zs u e past
     unfolding partOf
     running-more r e {o} {zs} {past} {u} q a p k v few′ =
         let m = next-record s at r e (w .boundary) q in
-        let out = outputOf n t (callOf r) in
-        let many = length (answer n t (callOf r) .ids) in
+        let out = printed n t (callOf r) in
+        let many = shown n t (callOf r) .count in
         let put = sym p ∙ a .put in
         let ok : fits n (length xs) filled many ≡ true = rw (← w .size) (put-fits n ys filled many out put) in
         let end = put-past n ys filled many out put in
@@ -104,13 +121,13 @@ module _ (n : ℕ) (s : List ℕ) (from : ℕ) (t₀ : Table) (xs : List ℕ) wh
 
     -- the next record has no room
     pub running-full :
-        (r : Record) (e : ℕ) {o : Outcome} {zs : List ℕ} → recordAt s at ≡ Is r e → Ran n t (callOf r) ys filled zs o →
+        (r : Record) (e : ℕ) {o : Ran} {zs : List ℕ} → recordAt s at ≡ Is r e → RanThere n t (callOf r) ys filled zs o →
         o .put ≡ NoRoom → PartFits n s from t₀ xs zs (record { table = t; at = at; filled = filled })
     unfolding partOf
     running-full r e {o} {zs} q a p =
         let m = next-record s at r e (w .boundary) q in
-        let out = outputOf n t (callOf r) in
-        let many = length (answer n t (callOf r) .ids) in
+        let out = printed n t (callOf r) in
+        let many = shown n t (callOf r) .count in
         let put = sym p ∙ a .put in
         let no : fits n (length xs) filled many ≡ false = rw (← w .size) (not-put-fits n ys filled many out put) in
         let same = not-put-left n ys filled many out put (a .left) in

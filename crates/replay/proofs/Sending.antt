@@ -17,12 +17,14 @@ use Rattle.text.specs.Line.{lineText}
 use Rattle.text.specs.Write.{spliced}
 use Rattle.trace.specs.declared.Record.{Record}
 use Rattle.trace.specs.declared.Reading.the-variants.{Whole, Broken}
-use Rattle.trace.specs.Trace.{Records, Breaks, traceOf, reading, recordsFrom, firstRecord, Boundary}
+use Rattle.grammar.specs.Texts as texts
+use Rattle.grammar.specs.Texts.{Read}
+use Rattle.trace.specs.declared.Version.{Version}
+use Rattle.trace.specs.Trace.{traceOf, reading, recordsFrom, firstRecord, Boundary}
 use Rattle.trace.proofs.Grammar.{accepted, opened}
 use Rattle.trace.proofs.Refusal.{trace-breaks}
-use Rattle.trace.proofs.Walk.{At, ended, broke, went, look, no-records}
-use Rattle.trace.proofs.Loop.{next-record, none-left, end-only}
-use Rattle.render.specs.Output.{need}
+use Rattle.trace.proofs.Loop.{none-left, records-inside, end-only}
+use Rattle.output.specs.Output.{need}
 use Rattle.replay.specs.Replay.{brokenText}
 use Rattle.replay.specs.Part.{partOf, PartFits}
 use Rattle.replay.specs.declared.border.Handed.{Handed}
@@ -33,9 +35,9 @@ use Rattle.replay.proofs.Pieces.{pieces-few, no-parts, piece-next, all-
 
 -- refusal 9 is the one piece of a text that is no trace
 module _ (n : ℕ) (s : List ℕ) (line : ℕ) (e : reading s ≡ Broken line) where
-  breaks : traceOf s ≡ Breaks line
+  breaks : traceOf s ≡ texts.Broken line
   unfolding reading
-  breaks = trace-breaks (traceOf s) line e
+  breaks = trace-breaks s line e
 
   one-piece : piecesOf n s ≡ brokenText line ∷ []
   unfolding piecesOf
@@ -48,23 +50,6 @@ module _ (n : ℕ) (s : List ℕ) (line : ℕ) (e : reading s ≡ Broken line) w
 
   pub broken-all : {to : ℤ} {r : Handed} → r ≡ handed to (0 + 1) → AllWent n s to false r
   broken-all {to} g = all-went (handed to 0) (ap isTrace breaks) (one-piece) refl g
-
--- no more records are left than bytes
-records-inside : (s : List ℕ) (rs : List Record) (at : ℕ) → Boundary s at → recordsFrom s at ≡ rs → at + length rs ≤ length s
-records-inside s [] at h e = omega (arith, end-only s at h e)
-records-inside s (r ∷ rs) at h e = go (look s at 0) (records-inside s rs)
-  where
-    go : At s at 0 → ((i : ℕ) → Boundary s i → recordsFrom s i ≡ rs → i + length rs ≤ length s) → at + length (r ∷ rs) ≤ length s
-    go (ended p f) ih =
-        let none = none-left s at p in
-        let z : _≡_ {A = ℕ} 0 1 = cc in
-        absurd (omega arith)
-    go (broke k q f) ih = absurd (no-records (0 + k) (recordsFrom s at) (sym f ∙ h))
-    go (went q i x f) ih =
-        let m = next-record s at q i h x in
-        let first = m .first in
-        let same : recordsFrom s i ≡ rs = cc in
-        omega (arith, ih i (m .again) same, m .further)
 
 -- the parts to come and the last line; `most` is at least how many records are left
 abbrev toCome : ℕ → ℕ → List ℕ → ℕ → Table → ℕ → List (List ℕ)
@@ -95,20 +80,22 @@ to-fresh {n} {t₀} e w =
     rw size w
 
 module _ (n : ℕ) (s : List ℕ) (count : ℕ) where
-  pub is-whole : reading s ≡ Whole count → isTrace (traceOf s) ≡ true
-  is-whole e = ap isTrace (opened s count e .records)
+  pub is-whole : (version : Version) → reading s ≡ Whole version count → isTrace (traceOf s) ≡ true
+  is-whole version e = ap isTrace (opened s version count e .records)
 
-  pub sending-start : {to : ℤ} → reading s ≡ Whole count → Sending n s count to (freshTable n) firstRecord (handed to 0)
+  pub sending-start :
+      {to : ℤ} (version : Version) → reading s ≡ Whole version count →
+      Sending n s count to (freshTable n) firstRecord (handed to 0)
   unfolding piecesOf
-  sending-start e =
-      let b = opened s count e in
+  sending-start version e =
+      let b = opened s version count e in
       let rs = recordsFrom s firstRecord in
-      let short = accepted s rs (b .records) .short in
-      let inside = records-inside s rs firstRecord (b .boundary) refl in
+      let short = accepted s version rs (b .records) .short in
+      let inside = records-inside s firstRecord (b .boundary) in
       record {
         boundary = b .boundary;
         good = good-fresh n;
-        few = omega (arith, short, inside, pieces-few n s rs (b .records));
+        few = omega (arith, short, inside, pieces-few n s version rs (b .records));
         same = refl;
         most = length rs;
         enough = omega arith;
@@ -175,5 +162,6 @@ module _ (n : ℕ) (s : List ℕ) (count : ℕ) where
       last-next xs k put = piece-next h xs (w .few) last-piece k put
 
       pub last-all :
-          {fd : ℤ} {r : Handed} → reading s ≡ Whole count → h .to ≡ fd → r ≡ handed (h .to) (h .pieces + 1) → AllWent n s fd true r
-      last-all e same g = all-went h (is-whole e) last-piece same g
+          {fd : ℤ} {r : Handed} {version : Version} → reading s ≡ Whole version count → h .to ≡ fd →
+          r ≡ handed (h .to) (h .pieces + 1) → AllWent n s fd true r
+      last-all {version = version} e same g = all-went h (is-whole version e) last-piece same g

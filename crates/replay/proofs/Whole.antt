@@ -15,7 +15,9 @@ use Rattle.text.specs.Write.{spliced, written}
 use Rattle.text.proofs.Splice.{splice-none, splice-append}
 use Rattle.trace.specs.declared.Record.{Record}
 use Rattle.trace.specs.declared.Reading.the-variants as reads
-use Rattle.trace.specs.Trace.{Breaks, traceOf, reading, recordsFrom, firstRecord}
+use Rattle.grammar.specs.Texts.{Broken}
+use Rattle.trace.specs.declared.Version.{Version}
+use Rattle.trace.specs.Trace.{traceOf, reading, recordsFrom, firstRecord}
 use Rattle.trace.proofs.Grammar.{opened}
 use Rattle.trace.proofs.Refusal.{trace-breaks}
 use Rattle.trace.proofs.Loop.{none-left, end-only}
@@ -34,15 +36,15 @@ module _ (n : ℕ) (s xs : List ℕ) where
   unfolding reading intoOf
   into-broken line {ys} {r} e f = go (leb 33 (length xs)) refl
     where
-      found : traceOf s ≡ Breaks line
-      found = trace-breaks (traceOf s) line e
+      found : traceOf s ≡ Broken line
+      found = trace-breaks s line e
 
       go : (b : Bool) → leb 33 (length xs) ≡ b → IntoFits n s xs ys r
       go true q = fits-by (whole (brokenText line)) (rw (found, q)) (rw q at (f .says)) (rw q at (f .text))
       go false q = fits-by (cut []) (rw (found, q)) (rw q at (f .says)) ((rw q at (f .text)) ∙ splice-none xs 0)
 
   module _
-      (count : ℕ) (e : reading s ≡ reads.Whole count) {ys : List ℕ} {at filled : ℕ} {t : Table}
+      (version : Version) (count : ℕ) (e : reading s ≡ reads.Whole version count) {ys : List ℕ} {at filled : ℕ} {t : Table}
       (p : PartFits n s firstRecord (freshTable n) xs ys (record { table = t; at = at; filled = filled }))
     where
       part : Part
@@ -50,7 +52,7 @@ module _ (n : ℕ) (s xs : List ℕ) where
 
       into-is : intoOf n (length xs) s ≡ intoEnd (length xs) count (part .left) (part .text)
       unfolding intoOf part
-      into-is = let b = opened s count e in rw (b .records) (rw (b .many))
+      into-is = let b = opened s version count e in rw (b .records) (rw (b .many))
 
       pub into-whole : {zs : List ℕ} {r : Replayed} → at ≡ length s → length ys ≡ length xs → EndFits count filled ys zs r → IntoFits n s xs zs r
       unfolding written part

@@ -10,7 +10,9 @@ use Rattle.text.specs.Keys.{recordsKey}
 use Rattle.text.specs.Line.{lineText}
 use Rattle.text.specs.Write.{spliced, written}
 use Rattle.trace.specs.declared.Record.{Record}
-use Rattle.trace.specs.Trace.{Found, Records, Breaks, traceOf}
+use Rattle.grammar.specs.Texts.{Read, Whole, Broken}
+use Rattle.trace.specs.declared.Version.{Version}
+use Rattle.trace.specs.Trace.{traceOf}
 use Rattle.replay.specs.declared.into.Replayed.{Replayed}
 use Rattle.replay.specs.declared.into.Replayed.the-variants.{Written, NoRoom}
 use Rattle.replay.specs.Replay.{brokenText}
@@ -32,10 +34,10 @@ intoEnd size count [] t =
 intoEnd size count (r ∷ rs) t = cut t
 
 -- 33 bytes hold the two lines of refusal 9, whatever the line
-abbrev pub intoBy : ℕ → ℕ → Found → Into
-intoBy n size (Records rs) =
+abbrev pub intoBy : ℕ → ℕ → Read Version Record → Into
+intoBy n size (Whole v rs) =
     intoEnd size (length rs) (partOf n size 0 (freshTable n) rs .left) (partOf n size 0 (freshTable n) rs .text)
-intoBy n size (Breaks line) = cond (leb 33 size) (whole (brokenText line)) (cut [])
+intoBy n size (Broken line) = cond (leb 33 size) (whole (brokenText line)) (cut [])
 
 unfoldable pub intoOf : ℕ → ℕ → List ℕ → Into
 intoOf n size s = intoBy n size (traceOf s)

@@ -5,12 +5,12 @@ use mathlib.Core.Bool.{cond}
 use mathlib.Core.List.{List, [], _∷_, _++_}
 use lib.ListN.{length}
 use Rattle.model.specs.declared.Table.{Table}
-use Rattle.model.specs.Calls.{after, answer}
+use Rattle.model.specs.Calls.{after, shown}
 use Rattle.text.specs.Write.{spliced}
 use Rattle.trace.specs.declared.Record.{Record}
 use Rattle.trace.specs.Trace.{recordsFrom, Boundary}
-use Rattle.render.specs.Output.{fits}
-use Rattle.step.specs.Named.{callOf, outputOf}
+use Rattle.output.specs.Output.{printed, fits}
+use Rattle.step.specs.Named.{callOf}
 use Rattle.replay.specs.declared.part.Progress.{Progress}
 
 -- what the records print that have room in size bytes from `at` on, the table after them, and the records left
@@ -25,9 +25,9 @@ withText t p = record { text = t ++ p .text; table = p .table; left = p .left }
 unfoldable pub partOf : ℕ → ℕ → ℕ → Table → List Record → Part
 partOf n size at t [] = record { text = []; table = t; left = [] }
 partOf n size at t (r ∷ rs) =
-    cond (fits n size at (length (answer n t (callOf r) .ids)))
-    (withText (outputOf n t (callOf r))
-    (partOf n size (at + length (outputOf n t (callOf r))) (after n t (callOf r)) rs))
+    cond (fits n size at (shown n t (callOf r) .count))
+    (withText (printed n t (callOf r))
+    (partOf n size (at + length (printed n t (callOf r))) (after n t (callOf r)) rs))
     (record { text = []; table = t; left = r ∷ rs })
 
 -- what a part of a run leaves: its text at the buffer's start, its table, and the place of the records left

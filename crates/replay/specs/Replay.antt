@@ -1,35 +1,39 @@
 -- A replay: the records of a trace run one after the other from fresh, and the text that they print.
 use Prim.Native.Nat.{ℕ}
 use mathlib.Core.List.{List, [], _∷_, _++_}
+use mathlib.Core.List.{map}
 use lib.ListN.{length}
 use Rattle.kinds.specs.declared.refusal.Refusal.the-variants.{BadTrace}
 use Rattle.kinds.specs.Refusals.{told}
 use Rattle.model.specs.declared.Table.{Table}
-use Rattle.model.specs.Calls.{after}
+use Rattle.model.specs.Calls.{Call, after}
 use Rattle.model.specs.Tables.{freshTable}
 use Rattle.text.specs.Keys.{answerKey, recordsKey, atKey}
 use Rattle.text.specs.Line.{lineText}
 use Rattle.trace.specs.declared.Record.{Record}
-use Rattle.trace.specs.Trace.{Found, Records, Breaks, traceOf}
-use Rattle.step.specs.Named.{callOf, outputOf}
+use Rattle.grammar.specs.Texts.{Read, Whole, Broken}
+use Rattle.trace.specs.declared.Version.{Version}
+use Rattle.trace.specs.Trace.{traceOf}
+use Rattle.output.specs.Output.{printed}
+use Rattle.step.specs.Named.{callOf}
 
--- the table after records, and what they print
-unfoldable pub tableAfter : ℕ → Table → List Record → Table
-tableAfter n t [] = t
-tableAfter n t (r ∷ rs) = tableAfter n (after n t (callOf r)) rs
+-- the calls that records name, in their order: a history
+abbrev pub callsOf : List Record → List Call
+callsOf rs = map callOf rs
 
+-- what records print, one after the other
 unfoldable pub textOf : ℕ → Table → List Record → List ℕ
 textOf n t [] = []
-textOf n t (r ∷ rs) = outputOf n t (callOf r) ++ textOf n (after n t (callOf r)) rs
+textOf n t (r ∷ rs) = printed n t (callOf r) ++ textOf n (after n t (callOf r)) rs
 
 -- refusal 9 prints its number and its line, and nothing else
 unfoldable pub brokenText : ℕ → List ℕ
 brokenText line = lineText answerKey (told (BadTrace line) .number) ++ lineText atKey (told (BadTrace line) .at)
 
 -- a whole trace prints its records and their number; refusal 9 prints two lines, and no record is run
-abbrev pub replayBy : ℕ → Found → List ℕ
-replayBy n (Records rs) = textOf n (freshTable n) rs ++ lineText recordsKey (length rs)
-replayBy n (Breaks line) = brokenText line
+abbrev pub replayBy : ℕ → Read Version Record → List ℕ
+replayBy n (Whole v rs) = textOf n (freshTable n) rs ++ lineText recordsKey (length rs)
+replayBy n (Broken line) = brokenText line
 
 unfoldable pub replayOf : ℕ → List ℕ → List ℕ
 replayOf n s = replayBy n (traceOf s)

@@ -10,7 +10,10 @@ use Rattle.model.specs.Tables.{freshTable}
 use Rattle.text.specs.Keys.{recordsKey}
 use Rattle.text.specs.Line.{lineText, joined}
 use Rattle.trace.specs.declared.Record.{Record}
-use Rattle.trace.specs.Trace.{Found, Records, Breaks, traceOf}
+use Rattle.grammar.specs.Texts as texts
+use Rattle.grammar.specs.Texts.{Read}
+use Rattle.trace.specs.declared.Version.{Version}
+use Rattle.trace.specs.Trace.{traceOf}
 use Rattle.replay.specs.declared.border.Handed.{Handed}
 use Rattle.replay.specs.declared.border.Stopped.{Stopped}
 use Rattle.replay.specs.declared.border.Went.{Went}
@@ -28,9 +31,9 @@ partsOf (suc k) n size t (r ∷ rs) =
     partOf n size 0 t (r ∷ rs) .text ∷ partsOf k n size (partOf n size 0 t (r ∷ rs) .table) (partOf n size 0 t (r ∷ rs) .left)
 
 -- the pieces of what a trace prints: the parts of its run and the last line; refusal 9 is one piece
-abbrev pub piecesBy : ℕ → Found → List (List ℕ)
-piecesBy n (Records rs) = partsOf (length rs) n 65536 (freshTable n) rs ++ (lineText recordsKey (length rs) ∷ [])
-piecesBy n (Breaks line) = brokenText line ∷ []
+abbrev pub piecesBy : ℕ → Read Version Record → List (List ℕ)
+piecesBy n (texts.Whole v rs) = partsOf (length rs) n 65536 (freshTable n) rs ++ (lineText recordsKey (length rs) ∷ [])
+piecesBy n (texts.Broken line) = brokenText line ∷ []
 
 unfoldable pub piecesOf : ℕ → List ℕ → List (List ℕ)
 piecesOf n s = piecesBy n (traceOf s)
@@ -53,9 +56,9 @@ abbrev pub WentFits : Handed → Went → Type 0
 WentFits h (went.On r) = r ≡ handed (h .to) (h .pieces + 1)
 WentFits h (went.Failed r) = r ≡ stopped (h .to) (h .pieces)
 
-abbrev pub isTrace : Found → Bool
-isTrace (Records rs) = true
-isTrace (Breaks line) = false
+abbrev pub isTrace : Read Version Record → Bool
+isTrace (texts.Whole v rs) = true
+isTrace (texts.Broken line) = false
 
 -- every piece went to the descriptor
 pub record AllWent (n : ℕ) (s : List ℕ) (to : ℤ) (trace : Bool) (h : Handed) : Type 0 where

@@ -46,7 +46,7 @@ pub fn replay_into(s: &[u8], out: &mut [u8]) -> Replayed
     let reading = trace::read_trace(s);
     match reading {
         Reading::Broken(line) => put_broken(out, line),
-        Reading::Whole(count) => {
+        Reading::Whole(_, count) => {
             let table = table::fresh();
             let first = trace::first_record();
             let part = run_part(s, first, table, out);

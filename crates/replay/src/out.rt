@@ -9,6 +9,7 @@ use crate::into::put_broken;
 use crate::into::put_records;
 use crate::part::run_part;
 use trace::Reading;
+use trace::Version;
 ghost use Prim.Native.Nat.{_≤_};
 ghost use mathlib.Core.Path.{_≡_};
 ghost use lib.ListN.{length};
@@ -71,8 +72,8 @@ fn broken_to(s: &[u8], line: usize, to: i32) -> Sent
 
 // Runs the records of a trace that was read, a buffer's worth at a time, and says how many there are.
 // It stops at the first write that fails: the output is then a beginning of the right one, without the last line.
-fn run_to(s: &[u8], count: usize, to: i32) -> Sent
-    requires { ⌜ reading (now s) ≡ Whole count ⌝ }
+fn run_to(s: &[u8], version: Version, count: usize, to: i32) -> Sent
+    requires { ⌜ reading (now s) ≡ Whole version count ⌝ }
     ensures { λ r. do ⌜ SentFits (← ⟦kinds::SLOTS⟧ .entry) (now (s .entry)) to r ⌝ }
 {
     let mut buf = io::large_buffer();
@@ -104,6 +105,6 @@ pub fn replay_to(s: &[u8], to: i32) -> Sent
     let reading = trace::read_trace(s);
     match reading {
         Reading::Broken(line) => broken_to(s, line, to),
-        Reading::Whole(count) => run_to(s, count, to),
+        Reading::Whole(version, count) => run_to(s, version, count, to),
     }
 }

@@ -1,6 +1,5 @@
 // As many records as have room in a lent buffer, run one after the other on a table that the loop owns.
-use changes::Counters;
-use model::Table;
+use table::Table;
 use text::Put;
 use trace::RecordAt;
 ghost use Rattle.trace.specs.Trace.{Boundary};
@@ -29,11 +28,7 @@ pub fn run_part(s: &[u8], from: usize, table: Table, buf: &mut [u8]) -> Progress
                 filled,
             };
         };
-        let was = Counters {
-            clock: t.clock,
-            sampled_clock: t.sampled_clock,
-            line: t.line,
-        };
+        let was = t.counters;
         let ran = step::run_record(&t.txids, &t.snapshot_xmins, was, r, buf, filled);
         let put = ran.put;
         let change = ran.change;
@@ -44,12 +39,13 @@ pub fn run_part(s: &[u8], from: usize, table: Table, buf: &mut [u8]) -> Progress
                 filled,
             };
         };
-        changes::store_at(&mut t.txids, change.at, change.txid);
-        changes::store_at(&mut t.snapshot_xmins, change.at, change.snapshot_xmin);
+        let slot = change.slot;
+        table::store_txid(&mut t.txids, slot);
+        table::store_xmin(&mut t.snapshot_xmins, slot);
         let counters = change.counters;
-        t.clock = counters.clock;
-        t.sampled_clock = counters.sampled_clock;
-        t.line = counters.line;
+        t.counters.clock = counters.clock;
+        t.counters.sampled_clock = counters.sampled_clock;
+        t.counters.vacuum_line = counters.vacuum_line;
         filled = past;
         at = next;
     }

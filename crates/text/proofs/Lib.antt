@@ -5,3 +5,4 @@ pub mod Places
 pub mod Lines
 pub mod Splice
 mod Examples
+pub mod FiveLines

@@ -3,3 +3,4 @@ pub mod Bytes
 pub mod Keys
 pub mod Line
 pub mod Write
+pub mod FiveLines

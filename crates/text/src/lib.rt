@@ -1,7 +1,9 @@
 // Numbers and fixed byte strings of a text: read at a place, and written at a place.
+mod five_lines;
 mod read;
 mod write;
 
+pub use five_lines::fields_at;
 pub use read::bytes_at;
 pub use read::field_at;
 pub use write::put_line;
@@ -16,4 +18,28 @@ pub enum Number {
 pub enum Put {
     Past(usize),
     NoRoom,
+}
+
+// Which of an item's five numbers may be other than 0. `clock` and `sample` are read together.
+pub struct Reads {
+    pub slot: bool,
+    pub id: bool,
+    pub fourth: bool,
+    pub clock: bool,
+}
+
+// The five numbers.
+pub struct Values {
+    pub slot: u16,
+    pub id: u64,
+    pub fourth: u64,
+    pub clock: u64,
+    pub sample: u64,
+}
+
+// What five lines at a place are: their numbers, with the place past them, or the first line that
+// breaks a rule, from 2 to 6.
+pub enum Fields {
+    Are(Values, usize),
+    Broken(usize),
 }

@@ -1,8 +1,6 @@
-pub mod OpLines
-pub mod Records
-pub mod Walk
+pub mod Answers
+pub mod Shape
 pub mod Loop
 pub mod Grammar
 pub mod Refusal
-pub mod Shape
 mod Examples

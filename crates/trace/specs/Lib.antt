@@ -1,3 +1,4 @@
 pub mod Op
+pub mod Version
 pub mod Record
 pub mod Trace

@@ -1,26 +1,27 @@
 -- The ops of a trace: their names, and which fields they read.
 use Prim.Native.Nat.{ℕ, _+_}
 use mathlib.Core.Bool.{true, false, cond}
-use mathlib.Core.List.{List, [], _∷_, _++_}
+use mathlib.Core.List.{List, [], _∷_}
 use lib.ListN.{length, drop}
 use Rattle.text.specs.Bytes.{bytes, starts}
 use Rattle.text.specs.Keys.{opKey}
+use Rattle.text.specs.declared.Reads.{Reads}
+use Rattle.grammar.specs.Names.{Names, NameAt, Named, Unknown, firstNamed, nameAt}
 use Rattle.trace.specs.declared.Op.{Op}
 use Rattle.trace.specs.declared.Op.the-variants.{Begin, End, Snap, Own, Oldest, Vacuum, Stamp, Finish}
-use Rattle.trace.specs.declared.ops.Reads.{Reads}
 use Rattle.trace.specs.declared.ops.OpAt.{OpAt}
-use Rattle.trace.specs.declared.ops.OpAt.the-variants.{Is, Unknown}
+use Rattle.trace.specs.declared.ops.OpAt.the-variants as op
 
--- the fields that an op reads: owner is `slot` and `id`, clock is `clock` and `sample`
+-- the fields that an op reads; the fourth is `stamp`, and clock is `clock` and `sample`
 abbrev pub readsOf : Op → Reads
-readsOf Begin = record { owner = false; stamp = true; clock = false }
-readsOf End = record { owner = true; stamp = false; clock = false }
-readsOf Snap = record { owner = false; stamp = false; clock = true }
-readsOf Own = record { owner = true; stamp = false; clock = true }
-readsOf Oldest = record { owner = false; stamp = false; clock = true }
-readsOf Vacuum = record { owner = false; stamp = false; clock = true }
-readsOf Stamp = record { owner = false; stamp = true; clock = false }
-readsOf Finish = record { owner = true; stamp = true; clock = false }
+readsOf Begin = record { slot = false; id = false; fourth = true; clock = false }
+readsOf End = record { slot = true; id = true; fourth = false; clock = false }
+readsOf Snap = record { slot = false; id = false; fourth = false; clock = true }
+readsOf Own = record { slot = true; id = true; fourth = false; clock = true }
+readsOf Oldest = record { slot = false; id = false; fourth = false; clock = true }
+readsOf Vacuum = record { slot = false; id = false; fourth = false; clock = true }
+readsOf Stamp = record { slot = false; id = false; fourth = true; clock = false }
+readsOf Finish = record { slot = true; id = true; fourth = true; clock = false }
 
 -- the name of an op, with the newline that ends its line
 abbrev pub opName : Op → List ℕ
@@ -36,22 +37,20 @@ opName Finish = bytes "finish\n"
 abbrev pub ops : List Op
 ops = Begin ∷ End ∷ Snap ∷ Own ∷ Oldest ∷ Vacuum ∷ Stamp ∷ Finish ∷ []
 
--- the line of an op
-unfoldable pub opLine : Op → List ℕ
-opLine o = opKey ++ opName o
+abbrev pub opNames : Names Op
+opNames = record { key = opKey; kinds = ops; name = opName }
+
+abbrev pub asOp : NameAt Op → OpAt
+asOp (Named o e) = op.Is o e
+asOp Unknown = op.Unknown
 
 -- o and the place past its name, where the name stands at `at`
 unfoldable pub tryName : List ℕ → ℕ → List ℕ → Op → OpAt → OpAt
-tryName s at name o other = cond (starts name (drop at s)) (Is o (at + length name)) other
+tryName s at name o other = cond (starts name (drop at s)) (op.Is o (at + length name)) other
 
--- the first of some ops whose name stands at `at`
-abbrev pub firstNamed : List Op → List ℕ → ℕ → OpAt
-firstNamed [] s at = Unknown
-firstNamed (o ∷ os) s at = tryName s at (opName o) o (firstNamed os s at)
+-- the op whose name stands at `at`, and the op whose line does
+abbrev pub opNameAt : List ℕ → ℕ → OpAt
+opNameAt s at = asOp (firstNamed opName ops s at)
 
-abbrev pub nameAt : List ℕ → ℕ → OpAt
-nameAt s at = firstNamed ops s at
-
--- the op whose line stands at `at`, and the place past that line
 unfoldable pub opAt : List ℕ → ℕ → OpAt
-opAt s at = cond (starts opKey (drop at s)) (nameAt s (at + length opKey)) Unknown
+opAt s at = asOp (nameAt opNames s at)

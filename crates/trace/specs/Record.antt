@@ -1,65 +1,64 @@
 -- A record of six lines: its text, and what is read of a text.
-use Prim.Native.Nat.{ℕ, _-_, _^_}
-use mathlib.Core.Bool.{Bool, cond}
-use mathlib.Core.List.{List, [], _∷_}
-use lib.ListN.{getD}
-use Rattle.text.specs.Keys.{slotKey, idKey, stampKey, clockKey, sampleKey}
-use Rattle.text.specs.Line.{Rule, Within, Lines, Read, Breaks, lineTexts, linesAt, joined}
-use Rattle.trace.specs.Op.{readsOf, opLine, opAt}
+use Prim.Native.Nat.{ℕ}
+use mathlib.Core.Bool.{Bool, true}
+use mathlib.Core.List.{List}
+use Rattle.text.specs.Keys.{stampKey}
+use Rattle.text.specs.FiveLines.{Fits, fieldsAt}
+use Rattle.text.specs.declared.Values.{Values}
+use Rattle.grammar.specs.Items.{ItemAt, Form, itemText}
+use Rattle.grammar.specs.Items as item
+use Rattle.grammar.specs.Named.{Shape, onFields, itemAt, sixLines, formOf}
+use Rattle.trace.specs.Op.{readsOf, opNames}
+use Rattle.trace.specs.Version.{allowed}
 use Rattle.trace.specs.declared.Op.{Op}
-use Rattle.trace.specs.declared.ops.OpAt.{OpAt}
-use Rattle.trace.specs.declared.ops.OpAt.the-variants as op
+use Rattle.trace.specs.declared.Version.{Version}
 use Rattle.trace.specs.declared.Record.{Record}
 use Rattle.trace.specs.declared.RecordAt.{RecordAt}
 use Rattle.trace.specs.declared.RecordAt.the-variants.{Is, Broken}
 
-abbrev pub most : ℕ
-most = 2 ^ 64 - 1
+-- the five numbers of a record, and the record of an op and five numbers
+abbrev pub valuesOf : Record → Values
+valuesOf r = record { slot = r .slot; id = r .id; fourth = r .stamp; clock = r .clock; sample = r .sample }
 
-abbrev pub mostSlot : ℕ
-mostSlot = 65535
+abbrev pub recordOf : Op → Values → Record
+recordOf o v = record { op = o; slot = v .slot; id = v .id; stamp = v .fourth; clock = v .clock; sample = v .sample }
 
--- a field that the op doesn't read must be 0
-unfoldable pub limit : Bool → ℕ → ℕ
-limit reads n = cond reads n 0
+abbrev pub opOf : Record → Op
+opOf r = r .op
 
--- the five lines after the op's
-unfoldable pub rules : Op → List Rule
-rules o =
-    (record { key = slotKey; most = limit (readsOf o .owner) mostSlot })
-    ∷ (record { key = idKey; most = limit (readsOf o .owner) most })
-    ∷ (record { key = stampKey; most = limit (readsOf o .stamp) most })
-    ∷ (record { key = clockKey; most = limit (readsOf o .clock) most })
-    ∷ (record { key = sampleKey; most = limit (readsOf o .clock) most })
-    ∷ []
+-- a record is named by its op, and its fourth line is `stamp`
+abbrev pub recordShape : Shape Op Record
+recordShape = record { names = opNames; fourth = stampKey; reads = readsOf; item = recordOf; kind = opOf; values = valuesOf }
 
--- the numbers of those lines
-abbrev pub numbersOf : Record → List ℕ
-numbersOf r = r .slot ∷ r .id ∷ r .stamp ∷ r .clock ∷ r .sample ∷ []
-
--- a record that the text can express: no number above the limit that its op sets
+-- a record that some text can express: no number above the limit that its op sets
 abbrev pub Expressible : Record → Type 0
-Expressible r = Within (rules (r .op)) (numbersOf r)
+Expressible r = Fits stampKey (readsOf (r .op)) (valuesOf r)
 
--- the six lines of a record, and its text
-unfoldable pub recordLines : Record → List (List ℕ)
-recordLines r = opLine (r .op) ∷ lineTexts (rules (r .op)) (numbersOf r)
+-- records under a header, and under any
+abbrev pub recordForm : Version → Form Record
+recordForm v = formOf recordShape (allowed v)
 
-unfoldable pub recordText : Record → List ℕ
-recordText r = joined (recordLines r)
+abbrev pub everyOp : Op → Bool
+everyOp o = true
 
--- the record of an op and the numbers of the five lines after it
-abbrev pub recordOf : Op → List ℕ → Record
-recordOf o ns = record { op = o; slot = getD ns 0 0; id = getD ns 1 0; stamp = getD ns 2 0; clock = getD ns 3 0; sample = getD ns 4 0 }
+abbrev pub anyForm : Form Record
+anyForm = formOf recordShape everyOp
 
-abbrev pub onOp : OpAt → (Op → ℕ → RecordAt) → RecordAt
-onOp (op.Is o e) f = f o e
-onOp op.Unknown f = Broken 1
+-- the text of a record
+abbrev pub recordText : Record → List ℕ
+recordText r = itemText anyForm r
 
-abbrev pub onLines : Op → Lines → RecordAt
-onLines o (Read ns e) = Is (recordOf o ns) e
-onLines o (Breaks k) = Broken k
+abbrev pub asRecord : ItemAt Record → RecordAt
+asRecord (item.Is r e) = Is r e
+asRecord (item.Broken k) = Broken k
 
--- the record at `at`, or the first of its six lines that breaks a rule
+-- the record of an op whose line ends just before `at`
+abbrev pub recordAfter : List ℕ → Op → ℕ → RecordAt
+recordAfter s o at = asRecord (onFields (recordOf o) (fieldsAt s at stampKey (readsOf o)))
+
+-- the record at `at` under a header, or the first of its six lines that breaks a rule; and whatever the header
+unfoldable pub recordUnder : Version → List ℕ → ℕ → RecordAt
+recordUnder v s at = asRecord (recordForm v .at s at)
+
 unfoldable pub recordAt : List ℕ → ℕ → RecordAt
-recordAt s at = onOp (opAt s at) λ o a. onLines o (linesAt s a 2 (rules o))
+recordAt s at = asRecord (anyForm .at s at)

@@ -1,12 +1,19 @@
 // Captured runs as text: a header and records of six lines, read and judged line by line.
 mod lines;
 mod ops;
+mod versions;
 mod whole;
 
 pub use lines::record_at;
+pub use ops::reads_of;
 pub use whole::LONGEST;
 pub use whole::first_record;
 pub use whole::read_trace;
+
+// The headers that are known: `trace=proc-1`.
+pub enum Version {
+    Proc1,
+}
 
 // The calls that a record can name.
 pub enum Op {
@@ -37,9 +44,9 @@ pub enum RecordAt {
     Broken(usize),
 }
 
-// What a whole text is: so many records, or a trace that breaks a rule first at this line. Line 0
+// What a whole text is: a header and so many records, or a trace that breaks a rule first at this line. Line 0
 // stands for an input that is too long.
 pub enum Reading {
-    Whole(usize),
+    Whole(Version, usize),
     Broken(usize),
 }

@@ -1,9 +1,10 @@
 // The line of an op, and which fields an op reads.
 use crate::Op;
+use text::Reads;
 ghost use Prim.Native.Nat.{_<_};
 ghost use mathlib.Core.Path.{_≡_};
 ghost use lib.ListN.{length};
-ghost use Rattle.trace.specs.Op.{readsOf, tryName, nameAt, opAt};
+ghost use Rattle.trace.specs.Op.{readsOf, tryName, opNameAt, opAt};
 
 // An op, with the place past its line, or none.
 pub enum OpAt {
@@ -11,36 +12,30 @@ pub enum OpAt {
     Unknown,
 }
 
-// Which fields an op reads: owner is `slot` and `id`, clock is `clock` and `sample`.
-pub struct Reads {
-    pub owner: bool,
-    pub stamp: bool,
-    pub clock: bool,
-}
-
-fn fields(owner: bool, stamp: bool, clock: bool) -> Reads
-    ensures { λ r. ⌜ r ≡ record { owner = owner; stamp = stamp; clock = clock } ⌝ }
+fn reads(slot: bool, id: bool, stamp: bool, clock: bool) -> Reads
+    ensures { λ r. ⌜ r ≡ record { slot = slot; id = id; fourth = stamp; clock = clock } ⌝ }
 {
     Reads {
-        owner,
-        stamp,
+        slot,
+        id,
+        fourth: stamp,
         clock,
     }
 }
 
-// The fields that `op` reads.
+// The fields that `op` reads: slot, id, stamp, and clock with sample.
 pub fn reads_of(op: Op) -> Reads
     ensures { λ r. ⌜ r ≡ readsOf op ⌝ }
 {
     match op {
-        Op::Begin => fields(false, true, false),
-        Op::End => fields(true, false, false),
-        Op::Snap => fields(false, false, true),
-        Op::Own => fields(true, false, true),
-        Op::Oldest => fields(false, false, true),
-        Op::Vacuum => fields(false, false, true),
-        Op::Stamp => fields(false, true, false),
-        Op::Finish => fields(true, true, false),
+        Op::Begin => reads(false, false, true, false),
+        Op::End => reads(true, true, false, false),
+        Op::Snap => reads(false, false, false, true),
+        Op::Own => reads(true, true, false, true),
+        Op::Oldest => reads(false, false, false, true),
+        Op::Vacuum => reads(false, false, false, true),
+        Op::Stamp => reads(false, false, true, false),
+        Op::Finish => reads(true, true, true, false),
     }
 }
 
@@ -58,7 +53,7 @@ fn try_name(s: &[u8], at: usize, name: &[u8], op: Op, other: OpAt) -> OpAt
 // The op whose name, with its newline, stands at `at`. All eight are compared; no two can stand at
 // one place.
 fn name_at(s: &[u8], at: usize) -> OpAt
-    ensures { λ r. ⌜ r ≡ nameAt (now (s .entry)) at ⌝ }
+    ensures { λ r. ⌜ r ≡ opNameAt (now (s .entry)) at ⌝ }
 {
     let finish = try_name(s, at, b"finish\n", Op::Finish, OpAt::Unknown);
     let stamp = try_name(s, at, b"stamp\n", Op::Stamp, finish);

@@ -127,8 +127,8 @@ pub check-run-spec : {M : Type 1} → f.Statement.statement M
 unfolding f.Code.routine
 check-run-spec 𝓤 H 𝓜 𝓖 𝓡 =
     let w = world 𝓜 𝓖 𝓡 f.Code.env in
-    let none-met = known 𝓜 𝓖 𝓡 f.Code.env (None w) none.Symbol.name f.Code.calls-segment·no-columns (none.Met.met 𝓤 H 𝓜 𝓖 𝓡) in
-    let gather-met = known 𝓜 𝓖 𝓡 f.Code.env (Gather w) gather.Symbol.name f.Code.calls-segment·gather (gather.Met.met 𝓤 H 𝓜 𝓖 𝓡) in
-    let core-met = known 𝓜 𝓖 𝓡 f.Code.env (Core w) core.Symbol.name f.Code.calls-segment·check-gathered (core.Met.met 𝓤 H 𝓜 𝓖 𝓡) in
+    let none-met = known 𝓜 𝓖 𝓡 f.Code.env (None w) none.Symbol.name f.Code.calls-record-check·no-columns (none.Met.met 𝓤 H 𝓜 𝓖 𝓡) in
+    let gather-met = known 𝓜 𝓖 𝓡 f.Code.env (Gather w) gather.Symbol.name f.Code.calls-record-check·gather (gather.Met.met 𝓤 H 𝓜 𝓖 𝓡) in
+    let core-met = known 𝓜 𝓖 𝓡 f.Code.env (Core w) core.Symbol.name f.Code.calls-record-check·check-gathered (core.Met.met 𝓤 H 𝓜 𝓖 𝓡) in
     proves 𝓜 𝓖 𝓡 f.Code.env (P w) f.Key.name f.Code.function (f.Code.unfolded 𝓤 H 𝓜 𝓡)
     (meets w none-met gather-met core-met (λ κ. asked.gives 𝓤 H 𝓜 𝓖 𝓡 asking.env tt tt))

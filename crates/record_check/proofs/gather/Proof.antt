@@ -249,5 +249,5 @@ pub gather-spec : {M : Type 1} → f.Statement.statement M
 unfolding f.Code.routine
 gather-spec 𝓤 H 𝓜 𝓖 𝓡 =
     let w = world 𝓜 𝓖 𝓡 f.Code.env in
-    let slot-at = known 𝓜 𝓖 𝓡 f.Code.env (At w) g.Symbol.name f.Code.calls-segment·slot-at (g.Met.met 𝓤 H 𝓜 𝓖 𝓡) in
+    let slot-at = known 𝓜 𝓖 𝓡 f.Code.env (At w) g.Symbol.name f.Code.calls-record-check·slot-at (g.Met.met 𝓤 H 𝓜 𝓖 𝓡) in
     proves 𝓜 𝓖 𝓡 f.Code.env (P w) f.Key.name f.Code.function (f.Code.unfolded 𝓤 H 𝓜 𝓡) (meets w slot-at)

@@ -1,5 +1,5 @@
 -- Each case of a change: the column as the case of `storedTxid` has it.
-use Rattle.changes.specs.Stored.{storedTxid}
+use Rattle.model.specs.Stored.{storedTxid}
 use borrow.Author.Needs.{needs}
 use Rattle.changes.proofs.store.store_txid.Statement.{statement}
 use Rattle.changes.proofs.store.store_txid.Tie as tie

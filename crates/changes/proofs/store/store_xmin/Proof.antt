@@ -1,5 +1,5 @@
 -- Each case of a change: the column as the case of `storedXmin` has it.
-use Rattle.changes.specs.Stored.{storedXmin}
+use Rattle.model.specs.Stored.{storedXmin}
 use borrow.Author.Needs.{needs}
 use Rattle.changes.proofs.store.store_xmin.Statement.{statement}
 use Rattle.changes.proofs.store.store_xmin.Tie as tie

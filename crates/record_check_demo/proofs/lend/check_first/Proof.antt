@@ -113,5 +113,5 @@ pub check-first-spec : {M : Type 1} → f.Statement.statement M
 unfolding f.Code.routine
 check-first-spec 𝓤 H 𝓜 𝓖 𝓡 =
     let w = world 𝓜 𝓖 𝓡 f.Code.env in
-    let check = known 𝓜 𝓖 𝓡 f.Code.env (Check w) g.Symbol.name f.Code.calls-segment·check-run (g.Met.met 𝓤 H 𝓜 𝓖 𝓡) in
+    let check = known 𝓜 𝓖 𝓡 f.Code.env (Check w) g.Symbol.name f.Code.calls-record-check·check-run (g.Met.met 𝓤 H 𝓜 𝓖 𝓡) in
     proves 𝓜 𝓖 𝓡 f.Code.env (P w) f.Key.name f.Code.function (f.Code.unfolded 𝓤 H 𝓜 𝓡) (meets w check)

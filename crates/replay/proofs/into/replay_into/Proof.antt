@@ -37,9 +37,9 @@ returns c =
     let a = c .before .before .before .before .before .before .before .before .before .before .before .before .before .before .before .before .before .args in
     let e = sym (c .before .before .before .before .before .before .before .before .before .before .before .before .before .before .read-trace .ensures) ∙ c .before .before .before .before .before .before .before .before .before .before .before .before .reading2 .given .1 in
     let first = c .before .before .before .before .before .before .before .before .before .first-record .ensures in
-    let ran = c .before .before .before .before .before .before .before .run-part .ensures (rw first (opened _ _ e .boundary)) in
+    let ran = c .before .before .before .before .before .before .before .run-part .ensures (rw first (opened _ _ _ e .boundary)) in
     let p = rw (first, c .before .before .before .before .before .before .before .before .before .before .fresh .ensures) at ran in
-    into-whole _ (a .s .now) (a .out .now) _ e p (c .before .before .before .before .if1 .taken) (c .before .before .before .before .before .before .before .run-part .kept .1 .1 .1 .0) (c .before .before .put-records .ensures)
+    into-whole _ (a .s .now) (a .out .now) _ _ e p (c .before .before .before .before .if1 .taken) (c .before .before .before .before .before .before .before .run-part .kept .1 .1 .1 .0) (c .before .before .put-records .ensures)
 
 same-length-2 : tie.Need-same-length-2
 same-length-2 c = search needs
@@ -57,9 +57,9 @@ returns-3 c =
     let a = c .before .before .before .before .before .before .before .before .before .before .before .before .before .args in
     let e = sym (c .before .before .before .before .before .before .before .before .before .before .read-trace .ensures) ∙ c .before .before .before .before .before .before .before .before .reading2 .given .1 in
     let first = c .before .before .before .before .before .first-record .ensures in
-    let ran = c .before .before .before .run-part .ensures (rw first (opened _ _ e .boundary)) in
+    let ran = c .before .before .before .run-part .ensures (rw first (opened _ _ _ e .boundary)) in
     let p = rw (first, c .before .before .before .before .before .before .fresh .ensures) at ran in
-    into-cut _ (a .s .now) (a .out .now) _ e p (c .if1 .left)
+    into-cut _ (a .s .now) (a .out .now) _ _ e p (c .if1 .left)
 
 pub replay-into-spec : {M : Type 1} → statement M
 replay-into-spec =

@@ -38,7 +38,7 @@ loop-holds : tie.Need-loop-holds Inv-loop μ-loop
 loop-holds c =
     let fresh = c .before .before in
     let read = fresh .before .before .before .pre in
-    let start = sending-start _ _ _ read in
+    let start = sending-start _ _ _ _ read in
     (refl, to-fresh (fresh .fresh .ensures) (rw (c .nothing .ensures, c .before .first-record .ensures, fresh .fresh .ensures) start))
 
 slice-aggregate-run-part : tie.Need-slice-aggregate-run-part Inv-loop μ-loop

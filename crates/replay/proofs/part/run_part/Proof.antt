@@ -1,25 +1,29 @@
-use native.Mathlib.Nat.{le-of-eq}
-use Rattle.trace.proofs.Records.{moves}
-use Rattle.trace.proofs.Loop.{none-broken}
-use Rattle.changes.proofs.Stored.{stored-length, stored-applied}
+-- The invariant, `Running` (crate's proofs/Running.antt): what was printed stands at the buffer's start, and the part of the whole is
+-- that text and the part of the records left, from the table as it is now. It is kept where the run started at a record.
 use Prim.Native.Nat.{_-_}
 use mathlib.Core.Path.{_≡_, refl, sym, ap, _∙_}
 use native.Mathlib.Omega.{arith}
-use borrow.Author.Needs.{needs}
 use lib.ListN.{length, length-map}
+use Rattle.model.proofs.Stores.{stored-txid-long, stored-xmin-long, stored-applied}
 use Rattle.trace.specs.Trace.{Boundary}
-use Rattle.replay.proofs.Running.{Running, running-start, running-more, running-full, running-over}
+use Rattle.trace.proofs.Loop.{moves, none-broken}
+use Rattle.replay.proofs.Running.{Running, ran-there, running-start, running-more, running-full, running-over}
+use borrow.Author.Needs.{needs}
 use Rattle.replay.proofs.part.run_part.Statement.{statement}
 use Rattle.replay.proofs.part.run_part.Tie as tie
 
 abbrev Inv-loop : tie.InvT-loop
-Inv-loop s from buf₀ t₀ at₀ filled₀ buf t at filled = (length buf ≡ length buf₀) × (length (t .txids) ≡ length (t₀ .txids)) × (Boundary s from → Running (length (t₀ .txids)) s from t₀ buf₀ buf t at filled)
+Inv-loop s from buf₀ t₀ at₀ filled₀ buf t at filled =
+    (length buf ≡ length buf₀)
+    × (length (t .txids) ≡ length (t₀ .txids))
+    × (length (t .«snapshot_xmins») ≡ length (t₀ .«snapshot_xmins»))
+    × (Boundary s from → Running (length (t₀ .txids)) s from t₀ buf₀ buf t at filled)
 
 abbrev μ-loop : tie.MeasureT-loop
 μ-loop s from buf₀ t₀ at₀ filled₀ buf t at filled = length s - at
 
 loop-holds : tie.Need-loop-holds Inv-loop μ-loop
-loop-holds c = (refl, refl, λ h. running-start _ _ _ _ _ refl h)
+loop-holds c = (refl, refl, refl, λ h. running-start _ _ _ _ _ refl h)
 
 next-record-requires : tie.Need-next-record-requires Inv-loop μ-loop
 next-record-requires c κs = search needs
@@ -36,9 +40,10 @@ same-length c = c .before .before .before .before .loop .inv .0
 returns : tie.Need-returns Inv-loop μ-loop
 returns c =
     λ h.
-    let l = c .before .before .before .before .loop in
-    let w = l .inv .2 h in
-    absurd (none-broken _ _ _ (w .boundary) (c .before .before .before .loop-test .taken) (sym (c .before .before .next-record .ensures) ∙ c .enum-told .given .1))
+    let asked = c .before .before in
+    let l = asked .before .before .loop in
+    let broken = sym (asked .next-record .ensures) ∙ c .enum-told .given .1 in
+    absurd (none-broken _ _ _ (l .inv .3 h .boundary) (asked .before .loop-test .taken) broken)
 
 run-record-requires : tie.Need-run-record-requires Inv-loop μ-loop
 run-record-requires c κs = search needs
@@ -50,48 +55,74 @@ enum-told-2 : tie.Need-enum-told-2 Inv-loop μ-loop
 enum-told-2 c = search needs
 
 same-length-2 : tie.Need-same-length-2 Inv-loop μ-loop
-same-length-2 c = c .before .before .before .before .before .run-record .kept .1 .1 .1 .1 .0 ∙ c .before .before .before .before .before .before .before .before .before .before .before .before .before .before .before .before .before .loop .inv .0
+same-length-2 c =
+    let ran = c .before .before .before .before .before in
+    let read = ran .before .before .before .before .before in
+    let found = read .before .before .before .before in
+    ran .run-record .kept .1 .1 .1 .1 .0 ∙ found .before .before .before .before .loop .inv .0
 
 returns-2 : tie.Need-returns-2 Inv-loop μ-loop
 returns-2 c =
     λ h.
-    let l = c .before .before .before .before .before .before .before .before .before .before .before .before .before .before .before .before .before .loop in
-    let s = c .before .before .before .before .before .before .before .before .before .before .before .before .before .before .before .before .before .before .before .before in
-    let size = simp length-map at (s .good .1 .1 .0 .1 .1 .0 .1 .0 .1) in
-    let q = sym (c .before .before .before .before .before .before .before .before .before .before .before .before .before .before .before .next-record .ensures) ∙ c .before .before .before .before .before .before .before .before .before .before .before .before .before .found .given .1 in
-    let ran = c .before .before .before .before .before .run-record in
-    let step = ran .ensures (l .t) (record { column = refl; counters = refl }) refl (le-of-eq (l .inv .1 ∙ size)) in
-    running-full _ _ _ _ _ (rw size at (l .inv .2 h)) _ _ q step (c .enum-told2 .given .1)
+    let ran = c .before .before .before .before .before in
+    let read = ran .before .before .before .before .before in
+    let found = read .before .before .before .before in
+    let looped = found .before .before .before .before in
+    let l = looped .loop in
+    let size = simp length-map at (looped .before .before .before .good .1 .1 .0 .1 .1 .0 .1 .0 .1) in
+    let q = sym (found .before .before .next-record .ensures) ∙ found .found .given .1 in
+    let o = ran .run-record .ensures in
+    let there = ran-there (l .inv .1 ∙ size) (o .0) (o .1) in
+    running-full _ _ _ _ _ (rw size at (l .inv .3 h)) _ _ q there (c .enum-told2 .given .1)
 
-store-at-requires : tie.Need-store-at-requires Inv-loop μ-loop
-store-at-requires c κs = search needs
+store-txid-requires : tie.Need-store-txid-requires Inv-loop μ-loop
+store-txid-requires c κs = search needs
 
-store-at-requires-2 : tie.Need-store-at-requires-2 Inv-loop μ-loop
-store-at-requires-2 c κs = search needs
+store-xmin-requires : tie.Need-store-xmin-requires Inv-loop μ-loop
+store-xmin-requires c κs = search needs
 
 loop-less : tie.Need-loop-less Inv-loop μ-loop
 loop-less c =
-    let l = c .before .before .before .before .before .before .before .before .before .before .before .before .before .before .before .before .before .before .before .before .before .before .before .loop in
-    let q = sym (c .before .before .before .before .before .before .before .before .before .before .before .before .before .before .before .before .before .before .before .before .before .next-record .ensures) ∙ c .before .before .before .before .before .before .before .before .before .before .before .before .before .before .before .before .before .before .before .found .given .1 in
+    let stored = c .before .before .before .before in
+    let put = stored .before .before .before .before .before in
+    let ran = put .before .before .before .before .before in
+    let read = ran .before .before .before .before .before in
+    let found = read .before .before .before .before in
+    let looped = found .before .before .before .before in
+    let l = looped .loop in
+    let q = sym (found .before .before .next-record .ensures) ∙ found .found .given .1 in
     let m = moves _ _ _ _ q in
     omega arith
 
 loop-again : tie.Need-loop-again Inv-loop μ-loop
 loop-again c =
-    let kept = c .before .before .before .before .before .before .before .before .before .before .before .run-record .kept .1 .1 .1 .1 .0 in
-    let one = c .before .before .before .store-at .ensures in
-    let two = c .before .store-at2 .ensures in
-    let long = ap length one ∙ stored-length _ _ _ _ in (
-      kept ∙ c .before .before .before .before .before .before .before .before .before .before .before .before .before .before .before .before .before .before .before .before .before .before .before .loop .inv .0,
-      long ∙ c .before .before .before .before .before .before .before .before .before .before .before .before .before .before .before .before .before .before .before .before .before .before .before .loop .inv .1,
+    let stored = c .before .before .before .before in
+    let put = stored .before .before .before .before .before in
+    let ran = put .before .before .before .before .before in
+    let read = ran .before .before .before .before .before in
+    let found = read .before .before .before .before in
+    let looped = found .before .before .before .before in
+    let l = looped .loop in
+    let s = looped .before .before .before in
+    let kept = ran .run-record .kept .1 .1 .1 .1 .0 in
+    let one = stored .before .before .store-txid .ensures in
+    let two = stored .store-xmin .ensures in
+    let size = simp length-map at (s .good .1 .1 .0 .1 .1 .0 .1 .0 .1) in
+    let size′ = simp length-map at (s .good .1 .1 .0 .1 .1 .1 .0 .1 .0 .1) in
+    let txids = l .inv .1 ∙ size in
+    let xmins = l .inv .2 ∙ size′ in
+    let long = ap length one ∙ stored-txid-long _ _ txids _ in
+    let long′ = ap length two ∙ stored-xmin-long _ _ xmins _ in (
+      kept ∙ l .inv .0,
+      long ∙ l .inv .1,
+      long′ ∙ l .inv .2,
       λ h.
-          let l = c .before .before .before .before .before .before .before .before .before .before .before .before .before .before .before .before .before .before .before .before .before .before .before .loop in
-          let s = c .before .before .before .before .before .before .before .before .before .before .before .before .before .before .before .before .before .before .before .before .before .before .before .before .before .before in
-          let size = simp length-map at (s .good .1 .1 .0 .1 .1 .0 .1 .0 .1) in
-          let q = sym (c .before .before .before .before .before .before .before .before .before .before .before .before .before .before .before .before .before .before .before .before .before .next-record .ensures) ∙ c .before .before .before .before .before .before .before .before .before .before .before .before .before .before .before .before .before .before .before .found .given .1 in
-          let ran = c .before .before .before .before .before .before .before .before .before .before .before .run-record in
-          let step = ran .ensures (l .t) (record { column = refl; counters = refl }) refl (le-of-eq (l .inv .1 ∙ size)) in
-          rw size (running-more _ _ _ _ _ (rw size at (l .inv .2 h)) _ _ q step (c .before .before .before .before .before .before .put .given .1) kept (stored-applied _ (l .t) (ran .result .change) one two) (long ∙ l .inv .1 ∙ size)),
+          let q = sym (found .before .before .next-record .ensures) ∙ found .found .given .1 in
+          let o = ran .run-record .ensures in
+          let there = ran-there txids (o .0) (o .1) in
+          let made = stored-applied _ (l .t) (ran .run-record .result .change) txids xmins one two in
+          rw size
+          (running-more _ _ _ _ _ (rw size at (l .inv .3 h)) _ _ q there (put .put .given .1) kept made (long ∙ txids)),
     )
 
 same-length-3 : tie.Need-same-length-3 Inv-loop μ-loop
@@ -103,7 +134,7 @@ returns-3 c =
     let l = c .before .loop in
     let s = c .before .before .before .before in
     let size = simp length-map at (s .good .1 .1 .0 .1 .1 .0 .1 .0 .1) in
-    running-over _ _ _ _ _ (rw size at (l .inv .2 h)) (c .loop-test .left)
+    running-over _ _ _ _ _ (rw size at (l .inv .3 h)) (c .loop-test .left)
 
 pub run-part-spec : {M : Type 1} → statement M
 run-part-spec =
@@ -122,8 +153,8 @@ run-part-spec =
     enum-told-2
     same-length-2
     returns-2
-    store-at-requires
-    store-at-requires-2
+    store-txid-requires
+    store-xmin-requires
     loop-less
     loop-again
     same-length-3

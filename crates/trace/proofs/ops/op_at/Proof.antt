@@ -5,6 +5,7 @@ use borrow.Author.Needs.{needs}
 use denote.Ref.{now}
 use Rattle.text.specs.Keys.{opKey}
 use Rattle.text.proofs.Bytes.{starts-room}
+use Rattle.grammar.specs.Names.{nameAt}
 use Rattle.trace.specs.Op.{opAt}
 use Rattle.trace.proofs.ops.op_at.Statement.{statement}
 use Rattle.trace.proofs.ops.op_at.Tie as tie
@@ -24,11 +25,11 @@ name-at-requires : tie.Need-name-at-requires
 name-at-requires c κs = search needs
 
 returns : tie.Need-returns
-unfolding opAt
+unfolding opAt nameAt
 returns c = rw (sym (c .before .before .bytes-at .ensures) ∙ c .before .if1 .taken) (c .name-at .ensures)
 
 returns-2 : tie.Need-returns-2
-unfolding opAt
+unfolding opAt nameAt
 returns-2 c = rw (sym (c .before .bytes-at .ensures) ∙ c .if1 .left)
 
 pub op-at-spec : {M : Type 1} → statement M

@@ -1,0 +1,4 @@
+pub mod Names
+pub mod Items
+pub mod Named
+pub mod Texts

@@ -1,0 +1,3 @@
+pub mod OpNumbers
+pub mod Laws
+mod Examples

@@ -1,0 +1,49 @@
+-- `record_under` meets its contract: an op that is unknown, one that the header allows, and one that it doesn't.
+use mathlib.Core.Path.{sym, _∙_}
+use Rattle.trace.proofs.Answers.{under-allowed, under-refused, under-unknown}
+use borrow.Author.Needs.{needs}
+use Rattle.trace.proofs.lines.record_under.Statement.{statement}
+use Rattle.trace.proofs.lines.record_under.Tie as tie
+
+op-at-requires : tie.Need-op-at-requires
+op-at-requires c κs = search needs
+
+enum-known-op : tie.Need-enum-known-op
+enum-known-op c = search needs
+
+enum-told : tie.Need-enum-told
+enum-told c = search needs
+
+returns : tie.Need-returns
+returns c = sym (under-unknown _ _ _ (sym (c .before .before .op-at .ensures) ∙ c .enum-told .given .1))
+
+allows-requires : tie.Need-allows-requires
+allows-requires c κs = search needs
+
+record-after-requires : tie.Need-record-after-requires
+record-after-requires c κs = search needs
+
+returns-2 : tie.Need-returns-2
+returns-2 c =
+    let asked = c .before .before in
+    let named = sym (asked .before .before .before .before .op-at .ensures) ∙ asked .before .before .op .given .1 in
+    c .record-after .ensures ∙ sym (under-allowed _ _ _ named (sym (asked .allows .ensures) ∙ c .before .if1 .taken))
+
+returns-3 : tie.Need-returns-3
+returns-3 c =
+    let asked = c .before in
+    let named = sym (asked .before .before .before .before .op-at .ensures) ∙ asked .before .before .op .given .1 in
+    sym (under-refused _ _ _ named (sym (asked .allows .ensures) ∙ c .if1 .left))
+
+pub record-under-spec : {M : Type 1} → statement M
+record-under-spec =
+    tie.close
+    (tie.spec
+    op-at-requires
+    enum-known-op
+    enum-told
+    returns
+    allows-requires
+    record-after-requires
+    returns-2
+    returns-3)

@@ -1,0 +1,32 @@
+// The headers that are known, and the ops that each of them allows.
+use crate::Op;
+use crate::Version;
+ghost use mathlib.Core.Path.{_≡_};
+ghost use Rattle.trace.specs.Version.{allowed, headerAt};
+
+// The header of a text, with the place past its line, or none that is known.
+pub enum HeaderAt {
+    Is(Version, usize),
+    Unknown,
+}
+
+// The header that a text begins with.
+pub fn header_at(s: &[u8]) -> HeaderAt
+    ensures { λ r. ⌜ r ≡ headerAt (now (s .entry)) ⌝ }
+{
+    if text::bytes_at(s, 0, b"trace=") {
+        if text::bytes_at(s, 6, b"proc-1\n") {
+            return HeaderAt::Is(Version::Proc1, 13);
+        }
+    }
+    HeaderAt::Unknown
+}
+
+// Whether a record under this header may name this op.
+pub fn allows(version: Version, op: Op) -> bool
+    ensures { λ r. ⌜ r ≡ allowed version op ⌝ }
+{
+    match version {
+        Version::Proc1 => true,
+    }
+}
