@@ -19,6 +19,8 @@ no-first true a b h = absurd h
 no-first false a b h = refl
 
 -- one of another length doesn't, whatever it holds
-pub other-length : (n : ℕ) (run : List Slot) (clock sample line : ℕ) → Holds (not (eqb (length run) n)) → false ≡ runPasses n run clock sample line
+pub other-length :
+    (n : ℕ) (run : List Slot) (clock sample line : ℕ) → Holds (not (eqb (length run) n)) →
+    false ≡ runPasses n run clock sample line
 unfolding passes
 other-length n run clock sample line h = rw (length-map run _) (no-first (eqb (length run) n) _ _ h)

@@ -1,3 +1,4 @@
+-- Rounds are counted; nothing else is promised.
 use Prim.Native.Nat.{_≤_, _-_}
 use borrow.Author.Needs.{needs}
 use Rattle.bench_settled.proofs.bench_settled_by_value.Statement.{statement}

@@ -1,3 +1,4 @@
+-- Places are counted; nothing else is promised.
 use Prim.Native.Nat.{_≤_, _-_}
 use borrow.Author.Needs.{needs}
 use Rattle.bench_settled.proofs.gathered.Statement.{statement}

@@ -56,7 +56,9 @@ module _ {M : Type 1} {𝓤 : URA M} {H : Heap 𝓤} (w : World 𝓤 H) where
       v = sliceVal (x .ptr) (length ys)
 
       abbrev y : Call w P
-      y = ((κs, qs, tt, (x, (clock, (sample, (line, tt)))), (v ∷ [], (vint w64 clock ∷ [], (vint w64 sample ∷ [], (vint w64 line ∷ [], tt))))), tt)
+      y =
+          ((κs, qs, tt, (x, (clock, (sample, (line, tt)))),
+          (v ∷ [], (vint w64 clock ∷ [], (vint w64 sample ∷ [], (vint w64 line ∷ [], tt))))), tt)
 
       -- what the callees are passed
       abbrev to-none : Call w None
@@ -67,7 +69,8 @@ module _ {M : Type 1} {𝓤 : URA M} {H : Heap 𝓤} (w : World 𝓤 H) where
 
       abbrev to-core : Columns → Val → Call w Core
       to-core t u =
-          ((tt, tt, tt, (t, (clock, (sample, (line, tt)))), (u ∷ [], (vint w64 clock ∷ [], (vint w64 sample ∷ [], (vint w64 line ∷ [], tt))))), tt)
+          ((tt, tt, tt, (t, (clock, (sample, (line, tt)))),
+          (u ∷ [], (vint w64 clock ∷ [], (vint w64 sample ∷ [], (vint w64 line ∷ [], tt))))), tt)
 
       -- what the core says of gathered columns, and of the run
       abbrev Passed : Columns → Bool → Type 0
@@ -86,7 +89,8 @@ module _ {M : Type 1} {𝓤 : URA M} {H : Heap 𝓤} (w : World 𝓤 H) where
       exits r u is e =
           qed (w .given) (raw (Tokens w P y) ∷ []) ∵ owned w ! (truth w) r u is $ by ! (ends w P y u r (tt, (tt, (tt, (tt, tt))))
           (via 𝓤 (fact 𝓤 (Said r count)) (factI 𝓤 (Said r count) (emp 𝓤) e)
-          (ask-in 𝓤 H (w .atoms) (f.⟦kinds·SLOTS⟧-code κs .signature) (w .run asking.routine) tt tt count (counts (κs .0)) (λ n. fact 𝓤 (Said r n)))))
+          (ask-in 𝓤 H (w .atoms) (f.⟦kinds·SLOTS⟧-code κs .signature) (w .run asking.routine) tt tt count (counts (κs .0))
+          (λ n. fact 𝓤 (Said r n)))))
 
       walk : Room T.the-row (length ys) → clock < 2 ^ 64 → sample < 2 ^ 64 → line < 2 ^ 64 → Walk w P f.Code.function y
       walk room clock-fits sample-fits line-fits = λ l₀ l₁ l₂ l₃ l₄ l₅ l₆ l₇ l₈ l₉.

@@ -77,7 +77,9 @@ module _ {ys : List Slot} (st : State ys) where
       xs-long = length-set (st .xs) (st .i) (r .txid) ∙ st .xs-long;
       zs-long = length-set (st .zs) (st .i) (r .«snapshot_xmin») ∙ st .zs-long;
       xs-same = grows (txidsOf ys) (st .xs) (st .i) (r .txid) lx (there _) (st .xs-same) (number-of (λ (s : Slot). s .txid));
-      zs-same = grows (xminsOf ys) (st .zs) (st .i) (r .«snapshot_xmin») lz (there _) (st .zs-same) (number-of (λ (s : Slot). s .«snapshot_xmin»));
+      zs-same =
+          grows (xminsOf ys) (st .zs) (st .i) (r .«snapshot_xmin») lz (there _) (st .zs-same)
+          (number-of (λ (s : Slot). s .«snapshot_xmin»));
     }
 
   -- past the last record, all is gathered
@@ -155,7 +157,8 @@ module _ {M : Type 1} {𝓤 : URA M} {H : Heap 𝓤} (w : World 𝓤 H) where
           sets ! 2 (bin ! (local ! 2 refl) (local ! 2 refl) tt) refl (tt, tt) $
           rewrite ! 10 (λ (z : Bool). ‵ (fat fullShare tyBool l₈ 0 (vbool z))) e refl $ stays ! (local ! 2 refl) $
           -- the run twice: [the tokens; what it owns; what it owns; _0; ..]
-          move ! (1 ∷ []) $ use1 (w .given) (‵ Own ⊛ ‵ Own) (shr-slice-copy 𝓤 H (w .atoms) (w .given) (named 0) (κs .0) T.the-row .twice x (v ∷ [])) $
+          move ! (1 ∷ []) $
+          use1 (w .given) (‵ Own ⊛ ‵ Own) (shr-slice-copy 𝓤 H (w .atoms) (w .given) (named 0) (κs .0) T.the-row .twice x (v ∷ [])) $
           split ! $ move ! (2 ∷ []) $
           hands w ! At (to-at (st .i)) refl (made w (u64 ∷ []) (word w, tt) (st .i, tt) (vint w64 (st .i) ∷ [], tt) ((refl, i-fits), tt)) $
           calls w ! At slot-at (to-at (st .i)) (factI 𝓤 _ (emp 𝓤) l) (λ r. r ≡ getD ys (st .i) emptySlot) (λ r ws. id⊢ 𝓤 _)
@@ -174,7 +177,8 @@ module _ {M : Type 1} {𝓤 : URA M} {H : Heap 𝓤} (w : World 𝓤 H) where
           takes w (word w) ! 6 (st .zs) l₄ (st .i) 0 lz refl $
           assigns ! (of-opd ! (member ! 3 refl refl)) (through ! 3 refl) (store-raw ! 0 refl (tt, record { fits = fit r m ris .1 })) $
           puts w (word w) ! 6 (st .zs) l₄ (st .i) (r .«snapshot_xmin») (vint w64 (r .«snapshot_xmin»)) lz (refl, fit r m ris .1) refl $
-          resets-last ! 2 (bin ! (local ! 2 refl) (lit ! tt) (record { fits = i-next })) refl (tt, record { fits = i-next }) $ empties ! 8 7 refl $
+          resets-last ! 2 (bin ! (local ! 2 refl) (lit ! tt) (record { fits = i-next })) refl (tt, record { fits = i-next }) $
+          empties ! 8 7 refl $
           goes-on w I left ! st (after st l lx lz r read) (omega (arith, l)))
         where
           l : st .i < length ys

@@ -1,3 +1,4 @@
+-- Each exit is one case of the choice, in its order (crate's proofs/Choices.antt).
 use Rattle.tiles.proofs.Choices.{choice-yes, choice-no, choice-refused}
 use borrow.Author.Needs.{needs}
 use Rattle.tiles.proofs.choose.Statement.{statement}

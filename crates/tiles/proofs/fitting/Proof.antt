@@ -1,3 +1,4 @@
+-- A used length fits exactly where it is no longer than its run.
 use borrow.Author.Tests.{lt-ltb, le-ltb}
 use Rattle.tiles.proofs.fitting.Statement.{statement}
 use Rattle.tiles.proofs.fitting.Tie as tie

@@ -1,3 +1,4 @@
+-- Each arm of the choice: the part as bytes and as memory (crate's proofs/Choices.antt).
 use Rattle.tiles.proofs.Choices.{newer-within, older-within}
 use lib.ListN.{length, take, length-take}
 use native.Mathlib.Omega.{arith}

@@ -1,3 +1,4 @@
+-- Each arm of the choice: the number that it tells (crate's proofs/Choices.antt).
 use Rattle.kinds.specs.declared.told.Told.{Told}
 use mathlib.Core.Path.{_≡_, ap}
 use borrow.Author.Needs.{needs}

@@ -86,20 +86,24 @@ module _ {M : Type 1} {𝓤 : URA M} {H : Heap 𝓤} (w : World 𝓤 H) where
         -- [the tokens; what the arguments own; _0; ..; _8; ..]
         sets ! 2 (of-opd ! (local ! 2 refl)) refl (records .lawful .typed ys (records .vals ys) is .0) $
         sets ! 2 (addr ! (from ! (stop !))) refl (tt, tt) $
-        sets ! 2 (agg ! (and-then ! (local ! 2 refl) (and-then ! (local ! 2 refl) (no-more !)))) refl (tt, (tt, (record { fits = k-fits }, tt))) $
+        sets ! 2 (agg ! (and-then ! (local ! 2 refl) (and-then ! (local ! 2 refl) (no-more !)))) refl
+        (tt, (tt, (record { fits = k-fits }, tt))) $
         rewrite ! 10 (λ (m : ℕ). ‵ (fat fullShare run-type l₈ 0 (sliceVal (l₆, 0) m))) (sym (length-take-le k ys there)) refl $
         -- the first records of _6 are lent; the others stay in its place
         move ! (8 ∷ []) $ spreads w (slot w) ! tt room ys l₆ _ is $ cuts w (slot w) ! ys k l₆ $ move ! (1 ∷ []) $ back ! 9 $
         lends w (slot w) front l₆ ! tt front-room (λ α γ.
         -- [the token; what the lent records own; what gives them back; the tokens; what the arguments own; _0; ..]
-        hands w ! Check (to l₆ α γ) refl (made w (u64 ∷ u64 ∷ u64 ∷ []) (word w, (word w, (word w, tt))) (to l₆ α γ .0 .3 .1) (to l₆ α γ .0 .4 .1)
+        hands w ! Check (to l₆ α γ) refl
+        (made w (u64 ∷ u64 ∷ u64 ∷ []) (word w, (word w, (word w, tt))) (to l₆ α γ .0 .3 .1) (to l₆ α γ .0 .4 .1)
         ((refl, clock-fits), ((refl, sample-fits), ((refl, line-fits), tt)))) $
-        calls-as w ! Check check (to l₆ α γ) (id⊢ 𝓤 (emp 𝓤)) Says (λ r ws. id⊢ 𝓤 _) (locals ! 4 (refl, (refl, (refl, (refl, tt))))) (λ v r ris.
+        calls-as w ! Check check (to l₆ α γ) (id⊢ 𝓤 (emp 𝓤)) Says (λ r ws. id⊢ 𝓤 _)
+        (locals ! 4 (refl, (refl, (refl, (refl, tt))))) (λ v r ris.
         drop ! $ lands ! 5 refl (truth w .lawful .typed r (v ∷ []) ris .0) $
         -- [the token; the clause; what gives them back; the tokens; what the arguments own; _0; ..]
         move ! (0 ∷ 2 ∷ []) $ returns w (slot w) front l₆ ! tt α $
         move ! (0 ∷ 10 ∷ []) $ joins w (slot w) ! ys k l₆ $ gathers w (slot w) ! room ys l₆ (is .1 .0 .1) (λ u _. back ! 9 $
-        leaves ! 3 refl refl $ keep ! (1 ∷ 0 ∷ []) $ owned w ! (truth w) r v ris $ by ! (ends-as w P y v r (tt, (tt, (tt, (tt, (tt, tt)))))))))
+        leaves ! 3 refl refl $ keep ! (1 ∷ 0 ∷ []) $ owned w ! (truth w) r v ris $
+        by ! (ends-as w P y v r (tt, (tt, (tt, (tt, (tt, tt)))))))))
       where
         front-room : Room T.the-row (length front)
         front-room =

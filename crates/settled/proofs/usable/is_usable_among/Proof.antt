@@ -1,3 +1,4 @@
+-- The settled test's refusals come first; then the own id decides where settled said no (crate's proofs/Wider.antt).
 use Rattle.settled.proofs.Wider.{usable-settled, usable-own, usable-neither, usable-refused}
 use borrow.Author.Needs.{needs}
 use Rattle.settled.proofs.usable.is_usable_among.Statement.{statement}

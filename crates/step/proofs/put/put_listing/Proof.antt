@@ -22,7 +22,8 @@ returns c =
     let p = put .put-answer .ensures in
     let asked = put .before .before .before .before .before in
     let e = asked .numbers-of .ensures in
-    (ap (λ (x : Put). record { put = x; change = asked .before .before .before .before .args .decided .change }) (rw e at (p .0)), rw e at (p .1))
+    let change = asked .before .before .before .before .args .decided .change in
+    (ap (λ (x : Put). record { put = x; change = change }) (rw e at (p .0)), rw e at (p .1))
 
 pub put-listing-spec : {M : Type 1} → statement M
 put-listing-spec = tie.close (tie.spec numbers-of-requires put-answer-requires same-length returns)

@@ -67,28 +67,32 @@ returns-5 c =
 mul-n : tie.Need-mul-n Inv-loop μ-loop
 mul-n c =
     let p = c .before .before .before .before .before in
-    let b = getD (now (p .before .before .before .before .before .before .args .s)) (p .loop .i) 0 in
+    let entered = p .before .before .before in
+    let b = getD (now (entered .before .before .before .args .s)) (p .loop .i) 0 in
     let w = went (p .loop .n) b (sym (c .before .goes-on .ensures) ∙ not-false _ (c .if5 .left)) in
     omega (arith, w .fits)
 
 sub-n : tie.Need-sub-n Inv-loop μ-loop
 sub-n c =
     let p = c .before .before .before .before .before in
-    let b = getD (now (p .before .before .before .before .before .before .args .s)) (p .loop .i) 0 in
+    let entered = p .before .before .before in
+    let b = getD (now (entered .before .before .before .args .s)) (p .loop .i) 0 in
     let w = went (p .loop .n) b (sym (c .before .goes-on .ensures) ∙ not-false _ (c .if5 .left)) in
     omega (arith, w .low)
 
 cast-n-2 : tie.Need-cast-n-2 Inv-loop μ-loop
 cast-n-2 c =
     let p = c .before .before .before .before .before in
-    let b = getD (now (p .before .before .before .before .before .before .args .s)) (p .loop .i) 0 in
+    let entered = p .before .before .before in
+    let b = getD (now (entered .before .before .before .args .s)) (p .loop .i) 0 in
     let w = went (p .loop .n) b (sym (c .before .goes-on .ensures) ∙ not-false _ (c .if5 .left)) in
     omega (arith, w .high)
 
 add-n : tie.Need-add-n Inv-loop μ-loop
 add-n c =
     let p = c .before .before .before .before .before in
-    let b = getD (now (p .before .before .before .before .before .before .args .s)) (p .loop .i) 0 in
+    let entered = p .before .before .before in
+    let b = getD (now (entered .before .before .before .args .s)) (p .loop .i) 0 in
     let w = went (p .loop .n) b (sym (c .before .goes-on .ensures) ∙ not-false _ (c .if5 .left)) in
     omega (arith, w .fits)
 
