@@ -1,6 +1,7 @@
 -- An array in a local: its elements one by one, cut at a place, and whole again. While a loop writes an array, it is kept as its elements.
 --     spreads one n xs b u is     [the array in block b, at the value u; ..] becomes [its elements; ..]
---     gathers n xs b e k          [its elements; ..] becomes [the array in block b, at some value; ..], and k is handed that the value is xs's
+--     gathers n xs b e k          [its elements; ..] becomes [the array in block b, at some value; ..],
+--                                 and k is handed that the value is xs's
 --     cuts xs k b                 [the elements; ..] becomes [the first k; the others; ..].        joins      and back
 --     takes p xs b i d l e        element i of the array at place p comes to the head, and the others stay at place p
 --     puts p xs b i y v l is e    what is at the head, y, goes to where element i was
@@ -86,16 +87,19 @@ module _ {M : Type 1} {𝓤 : URA M} {H : Heap 𝓤} (w : World 𝓤 H) {R : Rat
         use1 (w .given) (‵ (cellAt fullShare (Array R n .mir) (u ∷ []) b 0)) (w .given .laws .at-raw fullShare (array R n) b 0 u) $
         owned w t (row-of w r n) xs u is $ move t (1 ∷ 0 ∷ []) $ fjoin t $
         fpack t (List Val) (λ vs. fsep (cellAt fullShare (Array R n .mir) vs b 0) (Array R n .own xs vs)) (u ∷ []) $
-        use1 (w .given) (‵ (arr-parts (shares R) n .part fullShare xs b 0)) (array-apart 𝓤 H (w .atoms) (w .given) R fullShare one n xs b 0) $
+        use1 (w .given) (‵ (arr-parts (shares R) n .part fullShare xs b 0))
+        (array-apart 𝓤 H (w .atoms) (w .given) R fullShare one n xs b 0) $
         fsplit t $ drop t $ s)
 
     pub gathers : K → (n : ℕ) (xs : List (R .Denot)) (b : ℕ) → length xs ≡ n
-        → ((u : Val) → Is (Array R n) xs (u ∷ []) → Seq K (w .given) (‵ (fat fullShare (array R n) b 0 u) ∷ Γ) G) → Seq K (w .given) (Row xs b ∷ Γ) G
+        → ((u : Val) → Is (Array R n) xs (u ∷ []) → Seq K (w .given) (‵ (fat fullShare (array R n) b 0 u) ∷ Γ) G)
+        → Seq K (w .given) (Row xs b ∷ Γ) G
     unfolding partOf
     gathers t n xs b e k =
         let tells = row-of w r n .tells xs in
         feqI t ℕ (length xs) n e $ fjoin t $
-        use1 (w .given) (‵ (partAt (Array R n) fullShare xs b 0)) (array-whole 𝓤 H (w .atoms) (w .given) R fullShare n xs b 0) $ fpick t (λ vs.
+        use1 (w .given) (‵ (partAt (Array R n) fullShare xs b 0))
+        (array-whole 𝓤 H (w .atoms) (w .given) R fullShare n xs b 0) $ fpick t (λ vs.
         fsplit t $ move t (1 ∷ []) $ facts t (Array R n) (Is (Array R n)) (shows 𝓤 H (w .atoms) (Array R n)) xs vs (λ p.
         rewrite t 0 (λ (us : List Val). ‵ (cellAt fullShare (Array R n .mir) us b 0)) (tells vs p) refl $
         use1 (w .given) (‵ (fat fullShare (array R n) b 0 _)) (w .given .laws .raw-at fullShare (array R n) b 0 _) $

@@ -149,14 +149,16 @@ module _ {M : Type 1} (𝓤 : URA M) (H : Heap 𝓤) (A : Atoms 𝓤) (W : Given
       let last = i ∷ d ∷ raw (⋆ Γ) ∷ [] in
       via 𝓤 (⋆ (cells E [] ++ last))
       (qed W ((raw (⋆ (i ∷ cells E [])) ⊛ d) ∷ raw (⋆ Γ) ∷ []) ∵
-      split ! $ use1 W (i ⊛ raw (⋆ (cells E []))) (pop 𝓤 H A i (cells E [])) $ split ! $ move ! (1 ∷ 0 ∷ []) $ by ! (++⊢ 𝓤 H A (cells E []) last))
+      split ! $ use1 W (i ⊛ raw (⋆ (cells E []))) (pop 𝓤 H A i (cells E [])) $ split ! $
+      move ! (1 ∷ 0 ∷ []) $ by ! (++⊢ 𝓤 H A (cells E []) last))
       (store-all E vs last P ok
       (via 𝓤 (sep 𝓤 (⋆ (cells E vs)) (⋆ last)) (⊢++ 𝓤 H A (cells E vs) last)
       (via 𝓤 (⋆ (Γ ++ entered (e ∷ E) vs))
       (qed W (raw (⋆ (cells E vs)) ∷ (i ⊛ d ⊛ raw (⋆ Γ)) ∷ []) ∵ move ! (1 ∷ []) $ split3 ! $
       -- [_0; that they die; Γ; the other locals]
       move ! (3 ∷ 1 ∷ []) $ use2 W (raw (⋆ (cells E vs ++ (d ∷ [])))) (++⊢ 𝓤 H A (cells E vs) (d ∷ [])) $ move ! (1 ∷ 0 ∷ []) $
-      use2 W (raw (⋆ (entered (e ∷ E) vs))) (push 𝓤 H A i (cells E vs ++ (d ∷ []))) $ move ! (1 ∷ 0 ∷ []) $ by ! (++⊢ 𝓤 H A Γ (entered (e ∷ E) vs)))
+      use2 W (raw (⋆ (entered (e ∷ E) vs))) (push 𝓤 H A i (cells E vs ++ (d ∷ []))) $
+      move ! (1 ∷ 0 ∷ []) $ by ! (++⊢ 𝓤 H A Γ (entered (e ∷ E) vs)))
       h)))
 
   pub begins : (f : Fn) (vs : List Val) (C : Calls 𝓤 H) (Λ : Loops 𝓤 H) (Kf : Val → SProp 𝓤) (Γ : List (Item 𝓤)) → Stored (f .locals) vs

@@ -69,7 +69,8 @@ module _ {M : Type 1} (𝓤 : URA M) (H : Heap 𝓤) (A : Atoms 𝓤) (W : Given
     out E [] e = absurd (none P E e)
     out [] (i ∷ Γ) e =
         let is : i ≡ ‵ P = ap (λ (x : Item 𝓤 × Share). x .0) (head-eq-of-cons-eq e) in
-        let to : ent 𝓤 (mean 𝓤 H A i) (sem 𝓤 H A P) = subst (λ (j : Item 𝓤). ent 𝓤 (mean 𝓤 H A i) (mean 𝓤 H A j)) is (id⊢ 𝓤 (mean 𝓤 H A i)) in
+        let to : ent 𝓤 (mean 𝓤 H A i) (sem 𝓤 H A P) =
+        subst (λ (j : Item 𝓤). ent 𝓤 (mean 𝓤 H A i) (mean 𝓤 H A j)) is (id⊢ 𝓤 (mean 𝓤 H A i)) in
         via 𝓤 (sep 𝓤 (mean 𝓤 H A i) (⋆ Γ)) (pop 𝓤 H A i Γ) (monoL 𝓤 (⋆ Γ) (via 𝓤 (sem 𝓤 H A P) to (emp∗ 𝓤 (sem 𝓤 H A P))))
     out (x ∷ E) (i ∷ Γ) e =
         let head : _≡_ {A = Item 𝓤 × Share} (left 𝓤 H A W i .0, left 𝓤 H A W i .1) (room x, fullShare) = head-eq-of-cons-eq e in
@@ -87,7 +88,8 @@ module _ {M : Type 1} (𝓤 : URA M) (H : Heap 𝓤) (A : Atoms 𝓤) (W : Given
     out-at (suc d) E [] e = out E [] e
     out-at (suc d) E (i ∷ Γ) e =
         via 𝓤 (sep 𝓤 (mean 𝓤 H A i) (⋆ Γ)) (pop 𝓤 H A i Γ)
-        (qed W (i ∷ raw (⋆ Γ) ∷ []) ∵ move ! (1 ∷ []) $ use1 W (raw (Out E) ⊛ raw (⋆ (without d E Γ))) (out-at d E Γ e) $ split ! $ frame ! $
+        (qed W (i ∷ raw (⋆ Γ) ∷ []) ∵ move ! (1 ∷ []) $
+        use1 W (raw (Out E) ⊛ raw (⋆ (without d E Γ))) (out-at d E Γ e) $ split ! $ frame ! $
         move ! (1 ∷ 0 ∷ []) $ by ! (push 𝓤 H A i (without d E Γ)))
 
   free-all : (E : Env 𝓤 H) (P : SProp 𝓤) → ent 𝓤 (sep 𝓤 (whole-frame 𝓤 H A W E) P) (release 𝓤 H E P)

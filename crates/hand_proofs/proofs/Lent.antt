@@ -46,7 +46,8 @@ module _ {M : Type 1} {𝓤 : URA M} {H : Heap 𝓤} (w : World 𝓤 H) {R : Rat
 
   module _ {K : Type 0} {Γ : List (Item 𝓤)} {G : Goal 𝓤 H} where
     pub looks : K → Soaks G → (x : RefT (List (R .Denot))) {vs : List Val} (i : ℕ) (d : R .Denot) → i < length (now x)
-        → ((s : Share) → Is R (getD (now x) i d) (r .vals (getD (now x) i d)) → Seq K (w .given) (‵ (Element s x i d) ∷ ‵ (Shut s x i d) ∷ Γ) G)
+        → ((s : Share) → Is R (getD (now x) i d) (r .vals (getD (now x) i d))
+        → Seq K (w .given) (‵ (Element s x i d) ∷ ‵ (Shut s x i d) ∷ Γ) G)
         → Seq K (w .given) (raw Token ∷ ‵ (ShrSlice erased κ R .own x vs) ∷ Γ) G
     looks t z x i d l k =
         let b = ptr x .0 in
@@ -90,9 +91,12 @@ module _ {M : Type 1} {𝓤 : URA M} {H : Heap 𝓤} (w : World 𝓤 H) {R : Rat
         use1 (w .given) (later (some (λ (γ : GName). ‵ (Own α γ) ⊛ ‵ (Back α))))
         (lends-shr-slice 𝓤 H (w .atoms) (w .given) R erased (α ∷ []) fullShare xs b 0 room) $ await t z $ pick t (λ γ. split t $
         -- [what the run owns; what gives back; the token]
-        nothing t $ move t (3 ∷ 0 ∷ []) $ use2 (w .given) (raw (Token w r (α ∷ []) fullShare)) (id⊢ 𝓤 (Token w r (α ∷ []) fullShare)) $ k α γ))
+        nothing t $ move t (3 ∷ 0 ∷ []) $
+        use2 (w .given) (raw (Token w r (α ∷ []) fullShare)) (id⊢ 𝓤 (Token w r (α ∷ []) fullShare)) $ k α γ))
 
-    pub returns : K → Soaks G → (α : ℕ) → Step K (w .given) (‵ (row R fullShare xs b 0) ∷ Γ) G (raw (Token w r (α ∷ []) fullShare) ∷ ‵ (Back α) ∷ Γ) G
+    pub returns : K → Soaks G → (α : ℕ)
+        → Step K (w .given) (‵ (row R fullShare xs b 0) ∷ Γ) G (raw (Token w r (α ∷ []) fullShare) ∷ ‵ (Back α) ∷ Γ) G
     returns t z α = step (λ k.
-        use1 (w .given) (‵ (flft (α ∷ []) fullShare) ⊛ ‵ ftrue) (id⊢ 𝓤 (Token w r (α ∷ []) fullShare)) $ split t $ move t (1 ∷ []) $ drop t $
+        use1 (w .given) (‵ (flft (α ∷ []) fullShare) ⊛ ‵ ftrue) (id⊢ 𝓤 (Token w r (α ∷ []) fullShare)) $
+        split t $ move t (1 ∷ []) $ drop t $
         lft-end t z $ lent-back t z $ fsplit t $ drop t $ k)

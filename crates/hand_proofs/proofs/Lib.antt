@@ -8,6 +8,7 @@ pub mod Meets
 pub mod Locals
 pub mod Constants
 pub mod Calls
+pub mod Structs
 pub mod Lent
 pub mod Arrays
 pub mod Loops

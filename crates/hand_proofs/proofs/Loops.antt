@@ -2,7 +2,8 @@
 -- I is the invariant, a context for each state, and size the measure.
 --     Turn st          what is shown of one turn: from `I st` it leaves the loop, and the rest runs, or it ends in the invariant
 --                      at a smaller state. A proof of one says `unfolding afterTurn`
---     goes-on st st′   a turn that ends in the invariant at the smaller state st′.        leaves-loop, exec      (of the toolchain) one that leaves
+--     goes-on st st′   a turn that ends in the invariant at the smaller state st′
+--     leaves-loop, exec    (of the toolchain) one that leaves
 --     rounds           the loop and the rest run, from any state
 use mathlib.Core.List.{List}
 use mathlib.Core.WellFounded.{InvImage·wf}

@@ -2,7 +2,8 @@
 --     Call w P         what a call chooses: the lifetimes, the shares of their tokens, the arguments, their machine values
 --     Walk w P f y     what a walk shows of the call y: from [the tokens; what the arguments own; _0; _1; ..; that they die]
 --                      the body runs, and reaches what it has to
---     walks            the function keeps its promise, from a walk for each call.        walks-if      where the `requires` is the fact φ, in hand
+--     walks            the function keeps its promise, from a walk for each call
+--     walks-if         the same where the `requires` is the fact φ, in hand
 --     ends             the last step: what the result owns, and the tokens, are what a walk has to reach, once the `ensures` is shown
 --     ends-as          the same where the `ensures` stands in the context: [what the result owns; the tokens; the `ensures`]
 use mathlib.Core.List.{List, [], _∷_}
@@ -77,8 +78,8 @@ module _ {M : Type 1} {𝓤 : URA M} {H : Heap 𝓤} (w : World 𝓤 H) (P : Pro
     no-fit [] ks a ws = tt
     no-fit (s ∷ ss) ks a ws = (tt, no-fit ss (ks .1) (a .1) (ws .1))
 
-    none-had : (ss : List (Slot (S .lifetimes))) (ks : Kepts ss) (a : Denots (typesAt ss κs)) (ws : Fins κs ss ks a) (vss : Valss (typesAt ss κs))
-        → ent 𝓤 (emp 𝓤) (sem 𝓤 H (w .atoms) (hasOf κs ss ks (dropped w ss ks) a ws vss))
+    none-had : (ss : List (Slot (S .lifetimes))) (ks : Kepts ss) (a : Denots (typesAt ss κs)) (ws : Fins κs ss ks a)
+        (vss : Valss (typesAt ss κs)) → ent 𝓤 (emp 𝓤) (sem 𝓤 H (w .atoms) (hasOf κs ss ks (dropped w ss ks) a ws vss))
     none-had [] ks a ws vss = id⊢ 𝓤 (emp 𝓤)
     none-had (s ∷ ss) ks a ws vss =
         beside 𝓤 (sem 𝓤 H (w .atoms) (hasOf κs ss (ks .1) (dropped w ss (ks .1)) (a .1) (ws .1) (vss .1))) (emp 𝓤)
@@ -117,9 +118,11 @@ module _ {M : Type 1} {𝓤 : URA M} {H : Heap 𝓤} (w : World 𝓤 H) (P : Pro
 
       -- the code's parameters have the signature's types: `λ κs a t. t`
       abbrev Fit : Type 0
-      Fit = (κs : Lfts (S .lifetimes)) (a : Args S κs) → Typed (mirs (Ts κs)) (flat (Ts κs) (Vs κs a)) → Stored (f .locals) (flat (Ts κs) (Vs κs a))
+      Fit = (κs : Lfts (S .lifetimes)) (a : Args S κs) → Typed (mirs (Ts κs)) (flat (Ts κs) (Vs κs a))
+          → Stored (f .locals) (flat (Ts κs) (Vs κs a))
 
-      -- a fact of the arguments, and a walk for all of which it holds: what is known of them is that they are spelled so, and have their types
+      -- a fact of the arguments, and a walk for all of which it holds:
+      -- what is known of them is that they are spelled so, and have their types
       abbrev Fact : Type 1
       Fact = (κs : Lfts (S .lifetimes)) (a : Args S κs) → P .1 κs a .ghost → Type 0
 

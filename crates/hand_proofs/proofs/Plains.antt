@@ -1,7 +1,8 @@
 -- Plain data: how a value is spelled as machine values, that these have the type's MIR types,
 -- and that what it owns can be had twice, and for nothing.
---     word, truth      a u64 or a usize; a bool
+--     word, truth, unit    a u64 or a usize; a bool; `()`
 --     record-of D L c p    a struct of plain data, by its generated type, laws, `the-copy` and `the-plain`
+--     choice-of D L c p    an enum of plain data, likewise
 --     row-of r n       an array of n
 --     owned r x v is   what a value owns, for nothing: [..] becomes [what x owns; ..].        made      what a list of values owns
 use mathlib.Core.List.{List, [], _∷_}
@@ -17,7 +18,12 @@ use denote.RattleType.{RattleType, Denots, Valss, owns}
 use denote.Laws.{Is, Ises, Are, Tells, Makes, Copy, Lawful}
 use denote.Array.{Array, array-vals, array-tells, array-copy, array-makes, array-lawful}
 use denote.Builtin.{u64}
-use denote.Plain.{Boolean, uint-vals, uint-tells, uint-copy, uint-makes, uint-lawful, bool-vals, bool-tells, bool-copy, bool-makes, bool-lawful}
+use denote.Plain.{uint-vals, uint-tells, uint-copy, uint-makes, uint-lawful}
+use denote.Plain.{Boolean, bool-vals, bool-tells, bool-copy, bool-makes, bool-lawful}
+use denote.Plain.{Nothing, nothing-vals, nothing-tells, nothing-copy, nothing-makes, nothing-lawful}
+use denote.Enum.Declared as ED
+use denote.Enum.Enum.{Few, Plainss}
+use denote.Enum.Laws as EL
 use denote.Struct.Declared.{Declared, row, fields}
 use denote.Struct.Laws as LL
 use denote.Struct.Struct.{Plains}
@@ -49,6 +55,15 @@ module _ {M : Type 1} {𝓤 : URA M} {H : Heap 𝓤} (w : World 𝓤 H) where
     lawful = bool-lawful 𝓤 H (w .atoms) (w .given);
   }
 
+  abbrev pub unit : Plain Nothing
+  unit = record {
+    vals = nothing-vals;
+    tells = nothing-tells;
+    copy = nothing-copy 𝓤 H (w .atoms) (w .given);
+    makes = nothing-makes 𝓤 H (w .atoms) (w .given);
+    lawful = nothing-lawful 𝓤 H (w .atoms) (w .given);
+  }
+
   abbrev pub row-of : {R : RattleType} → Plain R → (n : ℕ) → Plain (Array R n)
   row-of {R} r n = record {
     vals = array-vals (r .vals);
@@ -65,6 +80,16 @@ module _ {M : Type 1} {𝓤 : URA M} {H : Heap 𝓤} (w : World 𝓤 H) where
     copy = LL.copy D c 𝓤 H (w .atoms) (w .given);
     makes = LL.makes D p 𝓤 H (w .atoms);
     lawful = LL.lawful D L 𝓤 H (w .atoms) (w .given);
+  }
+
+  abbrev pub choice-of : (D : ED.Declared) (L : EL.Laws D) → Few (ED.shape D) → EL.Copyabless (D .parts)
+      → Plainss (ED.variants D) → Plain (ED.row D)
+  choice-of D L few c p = record {
+    vals = EL.vals D L;
+    tells = EL.tells D L;
+    copy = EL.copy D c 𝓤 H (w .atoms) (w .given);
+    makes = EL.makes D p 𝓤 H (w .atoms);
+    lawful = EL.lawful D L 𝓤 H (w .atoms) (w .given) few;
   }
 
   pub owned : {K : Type 0} {Γ : List (Item 𝓤)} {G : Goal 𝓤 H} → K → {R : RattleType} → Plain R → (x : R .Denot) (v : Val) → Is R x (v ∷ [])

@@ -1,7 +1,8 @@
 -- What a proof by hand is made over, and what it shows.
 --     World            the atoms of ghost state and their rules, what owns the memory, what a routine does,
 --                      and what the calls and loops in the code at hand do
---     Promise          a contract: a signature, and the clauses.        promise w T c      a function's, by its generated `ended` and `clauses`
+--     Promise          a contract: a signature, and the clauses
+--     promise w T c    a function's, by its generated `ended` and `clauses`
 --     Callee w P k     what the code at hand calls k keeps P.        Proved w P f      the code f does
 --     known, proves    a callee's theorem, as the code at hand needs it; and a function's own, from its code's
 use mathlib.Core.Path.{_≡_}

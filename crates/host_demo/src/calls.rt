@@ -21,7 +21,7 @@ pub fn value(called: Outcome) -> u64 {
     }
 }
 
-// Document 01's number of an answer, and what it carries.
+// The number of an answer, and what it carries.
 pub fn answered(answer: Answer) {
     let numbers = output::numbers_of(answer, 0, 0, 0, 0);
     let told = numbers.told;

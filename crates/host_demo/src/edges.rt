@@ -1,4 +1,4 @@
-// The twelve situations at the edges, P2 being document 01's whole case.
+// The twelve situations at the edges (SPEC 11.1), P2 being the whole case.
 use crate::calls::begin;
 use crate::calls::end;
 use crate::calls::oldest;

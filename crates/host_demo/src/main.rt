@@ -1,7 +1,7 @@
 // How a host written in this language uses the table (story, in_place), and a run of every call by value.
 // A line says a call with what it was handed, `clock/sample` for an observation; what it answers, in the words of
-// document 01's record; and after `|` the table that came back, a slot as txid/snapshot_xmin. Every line of the file
-// `stdout` was worked out by hand from document 01, before the program had been run.
+// a replayed record (SPEC 10.2); and after `|` the table that came back, a slot as txid/snapshot_xmin. Every line of the file
+// `stdout` was worked out by hand from the rules, before the program had been run.
 mod accepted;
 mod calls;
 mod checking;

@@ -108,12 +108,13 @@ lent-stamps n t number = go (reservationTest (clockOf t) number)
 
 -- the outcome by value, from what was decided on the lent column; a stamp's, from what was decided on the counters
 pub lent-outcome :
-    (n : ℕ) (t : Table) (c : Call) → readsXmins c ≡ false → {d : Decision} →
-    d ≡ decision n (lentTxids (t .txids) (t .counters)) c →
-    _≡_ {A = Outcome} (record { table = applied t (d .change); answer = d .answer }) (outcome n t c)
-lent-outcome n t c b e = outcome-of n t c (e ∙ lent-decides n t c b)
+    (n : ℕ) (t : Table) (c : Call) → readsXmins c ≡ false → {d : Decision} {next : Table} →
+    d ≡ decision n (lentTxids (t .txids) (t .counters)) c → next ≡ applied t (d .change) →
+    _≡_ {A = Outcome} (record { table = next; answer = d .answer }) (outcome n t c)
+lent-outcome n t c b e a = rw a (outcome-of n t c (e ∙ lent-decides n t c b))
 
 pub stamp-outcome :
-    (n : ℕ) (t : Table) (number : Stamp) {d : Decision} → d ≡ decision n (lentTxids [] (t .counters)) (stamp number) →
-    _≡_ {A = Outcome} (record { table = applied t (d .change); answer = d .answer }) (outcome n t (stamp number))
-stamp-outcome n t number e = outcome-of n t (stamp number) (e ∙ lent-stamps n t number)
+    (n : ℕ) (t : Table) (number : Stamp) {d : Decision} {next : Table} →
+    d ≡ decision n (lentTxids [] (t .counters)) (stamp number) → next ≡ applied t (d .change) →
+    _≡_ {A = Outcome} (record { table = next; answer = d .answer }) (outcome n t (stamp number))
+stamp-outcome n t number e a = rw a (outcome-of n t (stamp number) (e ∙ lent-stamps n t number))

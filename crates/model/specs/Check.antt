@@ -1,4 +1,4 @@
--- The table check of document 01, call 12, computed.
+-- The table check (SPEC 6.1), computed.
 use Prim.Native.Nat.{ℕ}
 use mathlib.Core.List.{List, [], _∷_}
 use mathlib.Core.Bool.{Bool, true, false, cond, _&&_, _||_, not}

@@ -7,6 +7,7 @@ use Rattle.kinds.specs.declared.Txid.{Txid}
 use Rattle.kinds.specs.declared.refusal.Verdict.the-variants.{Pass}
 use Rattle.kinds.specs.Verdicts.{then}
 use Rattle.kinds.proofs.Verdicts.{then-pass}
+use Rattle.model.specs.declared.Counters.{Counters}
 use Rattle.model.specs.declared.Table.{Table}
 use Rattle.model.specs.declared.change.SlotChange.the-variants.{Stays, Leaves}
 use Rattle.model.specs.declared.answer.Answer.the-variants.{Stamped}
@@ -18,21 +19,19 @@ use Rattle.model.proofs.Decides.{accepted-decides}
 use Rattle.changes.specs.Reserved.{reservedFrom}
 use Rattle.changes.proofs.Past.{reserved-past}
 
-module _ (n : ℕ) (t : Table) (number : Stamp) where
+module _ (n : ℕ) (t : Table) (number : Stamp) {k : Counters} (past : k ≡ reservedFrom number (t .counters)) where
   pub stamp-accepted :
       reservationTest (clockOf t) number ≡ Pass →
-      record { change = change Stays (reservedFrom number (t .counters)); answer = Stamped number }
-      ≡ decision n t (stamp number)
+      record { change = change Stays k; answer = Stamped number } ≡ decision n t (stamp number)
   unfolding refusal changeAccepted answerAccepted
   stamp-accepted e =
-      rw (reserved-past (clockOf t) number (t .counters) e) (accepted-decides n t (stamp number) e)
+      rw (past, reserved-past (clockOf t) number (t .counters) e) (accepted-decides n t (stamp number) e)
 
   pub finish-accepted :
       (slot : SlotNo) (id : Txid) →
       then (ownerTest n (t .txids) slot id) (reservationTest (clockOf t) number) ≡ Pass →
-      record { change = change (Leaves slot) (reservedFrom number (t .counters)); answer = Stamped number }
-      ≡ decision n t (finish slot id number)
+      record { change = change (Leaves slot) k; answer = Stamped number } ≡ decision n t (finish slot id number)
   unfolding refusal changeAccepted answerAccepted
   finish-accepted slot id e =
       let (owner, reservation) = then-pass (ownerTest n (t .txids) slot id) (reservationTest (clockOf t) number) e in
-      rw (reserved-past (clockOf t) number (t .counters) reservation) (accepted-decides n t (finish slot id number) e)
+      rw (past, reserved-past (clockOf t) number (t .counters) reservation) (accepted-decides n t (finish slot id number) e)

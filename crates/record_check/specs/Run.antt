@@ -5,6 +5,7 @@ use mathlib.Core.Bool.{Bool}
 use lib.ListN.{replicate}
 use Rattle.model.specs.Check.{passes}
 use Rattle.model.specs.declared.Table.{Table}
+use Rattle.model.specs.Tables.{counted, lent}
 use Rattle.record_check.specs.declared.Slot.{Slot}
 use Rattle.record_check.specs.declared.Columns.{Columns}
 
@@ -26,8 +27,7 @@ zeroColumns n = record { txids = replicate n 0; «snapshot_xmins» = replicate n
 
 -- the table whose slots a run holds
 abbrev pub tableOf : List Slot → ℕ → ℕ → ℕ → Table
-tableOf run clock sample line =
-    record { txids = txidsOf run; «snapshot_xmins» = xminsOf run; clock = clock; «sampled_clock» = sample; line = line }
+tableOf run clock sample line = lent (txidsOf run) (xminsOf run) (counted clock sample line)
 
 -- the check of a run of any length, for tables of n slots
 abbrev pub runPasses : ℕ → List Slot → ℕ → ℕ → ℕ → Bool

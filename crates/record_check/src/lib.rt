@@ -1,5 +1,6 @@
 // The table check over a lent run of slot records: the host's shared segment, read where it lies.
 use kinds::SLOTS;
+use model::Counters;
 ghost use mathlib.Core.Path.{_≡_};
 ghost use Prim.Native.Nat.{_<_};
 ghost use lib.ListN.{length, getD};
@@ -63,7 +64,12 @@ fn gather(slots: &[Slot], into: Columns) -> Columns
 fn check_gathered(columns: Columns, clock: u64, sample: u64, line: u64) -> bool
     ensures { λ r. ⌜ r ≡ passes (length (columns .txids)) (columns .txids) (columns .«snapshot_xmins») clock sample line ⌝ }
 {
-    table_check::check_columns(&columns.txids, &columns.snapshot_xmins, clock, sample, line)
+    let counters = Counters {
+        clock,
+        sampled_clock: sample,
+        vacuum_line: line,
+    };
+    table_check::check_columns(&columns.txids, &columns.snapshot_xmins, counters)
 }
 
 // The table check of a lent run of any length. A run of another length than a table's is refused before a record is read.

@@ -9,7 +9,7 @@ use Rattle.trace.specs.declared.Op.the-variants.{Begin, End, Snap, Own, Oldest,
 use Rattle.record_rows.specs.declared.OpNumbered.{OpNumbered}
 use Rattle.record_rows.specs.declared.OpNumbered.the-variants.{Is, Unknown}
 
--- from 1, in document 01's order
+-- from 1, in the order of SPEC 9.2
 abbrev pub opNumber : Op → ℕ
 opNumber Begin = 1
 opNumber End = 2

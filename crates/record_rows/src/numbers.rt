@@ -1,4 +1,4 @@
-// An op as a number, from 1 in document 01's order, so that a row of zeros names none.
+// An op as a number, from 1 in the order of SPEC 9.2, so that a row of zeros names none.
 use crate::OpNumbered;
 use trace::Op;
 ghost use mathlib.Core.Path.{_≡_};

@@ -3,11 +3,13 @@ use Prim.Native.Nat.{ℕ, _<_, _≤_}
 use mathlib.Core.Path.{_≡_, refl, sym}
 use borrow.Author.Tests.{lt-leb, le-leb}
 use Rattle.kinds.specs.declared.Stamp.{Stamp}
+use Rattle.kinds.specs.declared.Txid.{Txid}
 use Rattle.kinds.specs.declared.refusal.Refusal.{Refusal}
 use Rattle.kinds.specs.declared.refusal.Refusal.the-variants.{NoFreeSlot}
 use Rattle.kinds.specs.declared.refusal.Verdict.the-variants.{Pass, Refuse}
 use Rattle.kinds.specs.Kinds.{slot, txidOf}
 use Rattle.kinds.specs.Refusals.{consumed}
+use Rattle.model.specs.declared.Counters.{Counters}
 use Rattle.model.specs.declared.Table.{Table}
 use Rattle.model.specs.declared.change.SlotChange.the-variants.{Stays, Enters}
 use Rattle.model.specs.declared.answer.Answer.the-variants.{Begun, Refused}
@@ -28,25 +30,19 @@ module _ (n : ℕ) (t : Table) (number : Stamp) where
   unfolding refusal changeOf answer decision
   begin-refused {r} e = rw (e, refused-kept n t (stamp number) r refl e)
 
-  module _ (e : reservationTest (clockOf t) number ≡ Pass) where
+  module _
+      (e : reservationTest (clockOf t) number ≡ Pass) {id : Txid} (named : id ≡ txidOf number) {k : Counters}
+      (past : k ≡ reservedFrom number (t .counters)) {at : ℕ} (low : at ≡ lowestEmpty (t .txids)) where
     -- the number is reserved, and the lowest empty slot entered
     pub begin-free :
-        lowestEmpty (t .txids) < n →
-        record {
-          change = change (Enters (slot (lowestEmpty (t .txids))) (txidOf number)) (reservedFrom number (t .counters));
-          answer = Begun (slot (lowestEmpty (t .txids))) (txidOf number);
-        }
-        ≡ decision n t (begin number)
+        at < n → record { change = change (Enters (slot at) id) k; answer = Begun (slot at) id } ≡ decision n t (begin number)
     unfolding refusal changeAccepted changeOf answerAccepted answer decision
-    begin-free h = rw (e, lt-leb n (lowestEmpty (t .txids)) h, reserved-past (clockOf t) number (t .counters) e)
+    begin-free h =
+        rw (named, past, low, e, lt-leb n (lowestEmpty (t .txids)) (rw low at h), reserved-past (clockOf t) number (t .counters) e)
 
     -- 1: the number is reserved all the same
     pub begin-full :
-        n ≤ lowestEmpty (t .txids) →
-        record {
-          change = change Stays (reservedFrom number (t .counters));
-          answer = Refused (NoFreeSlot (txidOf number));
-        }
-        ≡ decision n t (begin number)
+        n ≤ at → record { change = change Stays k; answer = Refused (NoFreeSlot id) } ≡ decision n t (begin number)
     unfolding refusal consumed spent changeOf answer decision
-    begin-full h = rw (e, le-leb n (lowestEmpty (t .txids)) h, reserved-past (clockOf t) number (t .counters) e)
+    begin-full h =
+        rw (named, past, e, le-leb n (lowestEmpty (t .txids)) (rw low at h), reserved-past (clockOf t) number (t .counters) e)

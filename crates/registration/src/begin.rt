@@ -34,7 +34,8 @@ pub fn decide_begin(txids: &[u64], was: Counters, number: Stamp) -> Decision
             let counters = changes::reserved(was, number);
             let at = scans::lowest_empty(txids);
             if at < SLOTS {
-                let slot = SlotNo(at as u16);
+                let place = at as u16;
+                let slot = SlotNo(place);
                 return Decision {
                     change: Change {
                         slot: SlotChange::Enters { slot, txid: id },

@@ -1,5 +1,6 @@
 // A whole replay into one lent buffer.
 use crate::part::run_part;
+use kinds::Refusal;
 use text::Put;
 use trace::Reading;
 ghost use Rattle.replay.specs.Into.{IntoFits, BrokenFits, EndFits};
@@ -17,11 +18,12 @@ pub fn put_broken(buf: &mut [u8], line: usize) -> Replayed
     if buf.len() < 33 {
         return Replayed::NoRoom(0);
     }
-    let first = text::put_line(buf, 0, b"answer=", 9);
+    let told = kinds::tell(Refusal::BadTrace(line as u64));
+    let first = text::put_line(buf, 0, b"answer=", told.number);
     let Put::Past(at) = first else {
         return Replayed::NoRoom(0);
     };
-    let second = text::put_line(buf, at, b"at=", line as u64);
+    let second = text::put_line(buf, at, b"at=", told.at);
     let Put::Past(end) = second else {
         return Replayed::NoRoom(0);
     };

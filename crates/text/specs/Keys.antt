@@ -1,4 +1,4 @@
--- The keys of document 01's lines, each with its `=`.
+-- The keys of the text lines of a trace and of its output (SPEC 9.1, 10.2), each with its `=`.
 use Prim.Native.Nat.{ℕ}
 use mathlib.Core.List.{List}
 use Rattle.text.specs.Bytes.{bytes}

@@ -15,7 +15,7 @@ use Rattle.trace.specs.declared.Version.the-variants.{Proc1}
 use Rattle.trace.specs.declared.Reading.the-variants.{Whole, Broken}
 
 record Read : Type 0 where
-  -- the input of document 01's whole case: two records
+  -- the input of the whole case (SPEC 10.7): two records
   whole-case :
       reading
       (bytes "trace=proc-1\n"

@@ -1,7 +1,7 @@
--- Upstream's well_formed is kept by every call, whatever it is given and however it is refused; this is E1 of all its functions.
--- Its part on slots and clocks is the table check at line 1 (Yes.antt), which every call keeps (model's `good-after`), and no
--- step of upstream's state sees the line (`line-unread`). Its part on the history: `Step` says what a call reserves
--- (Histories.antt), and who is registered after a call was so before, or is its begin (model's `was`).
+-- Upstream's well_formed is kept by every call, whatever it is given and however it is refused, each of its two parts by itself;
+-- this is E1 of all its functions. The part on slots and clocks is the table check at line 1 (Yes.antt), which every call keeps
+-- (model's `good-after`), and no step of upstream's state reads the line (`line-unread`). The part on the history: `Step` says
+-- what a call reserves (Histories.antt), and who is registered after a call was so before, or is its begin (model's `was`).
 use Prim.Native.Nat.{ℕ}
 use mathlib.Core.Path.{_≡_, refl, sym, subst, _∙_}
 use mathlib.Core.Logic.{_≢_}
@@ -16,14 +16,14 @@ use Rattle.model.specs.Tables.{txidAt}
 use Rattle.model.specs.Changes.{pastNumber, withLine, applied}
 use Rattle.model.specs.Calls.{Call, begin, end, snap, own, oldest, vacuum, stamp, finish}
 use Rattle.model.specs.Calls.{refusal, changeAccepted, spent, changeBy, changeOf, after}
-use Rattle.model.specs.Facts.{Good}
+use Rattle.model.specs.Accepted.{Registered}
 use Rattle.model.specs.Reservations.{reservesBy}
 use Rattle.model.proofs.Facts.{good-after}
 use Rattle.model.proofs.Holders.{Was, before-it, begun-by-it, was}
 use Rattle.model.proofs.Reservations.{reserve-step}
 use Rattle.upstream.specs.States.{State, at, pushes, stateOf, stateAfter, historyBy, Shaped}
-use Rattle.upstream.specs.Relations.{Contains, HistoryOf, WellFormed, Sound}
-use Rattle.upstream.proofs.Pairs.{slotsOf, txid-at}
+use Rattle.upstream.specs.Relations.{Contains, TableOf, HistoryOf, WellFormed, Kept}
+use Rattle.upstream.proofs.Pairs.{slotsOf, txid-at, shaped-applied}
 use Rattle.upstream.proofs.Yes.{from-good, atLine, to-good}
 use Rattle.upstream.proofs.Histories.{contains-pushes, contains-last, history-step}
 
@@ -66,39 +66,43 @@ unfolding changeOf after
 line-unread n line t history c =
     rw (refusal-unseen n line t c) (changed-unseen (refusal n t c) line t (historyBy (refusal n t c) history c) c)
 
--- on a table that passes the check
-good-kept :
-    (n : ℕ) (t : Table) (history : List ℕ) (c : Call) → Good n t → HistoryOf (stateOf t history) →
-    WellFormed n (stateAfter n t history c)
-good-kept n t history c g h =
-    record { table = later .table; history = history-step _ _ _ _ history h ids (reserve-step n t c) registered }
-  where
-    ids : List ℕ
-    ids = reservesBy (refusal n t c) c
+module _ (n : ℕ) (t : Table) (history : List ℕ) (s : Shaped n t) (c : Call) where
+  table-kept : TableOf n (stateOf t history) → TableOf n (stateAfter n t history c)
+  table-kept y =
+      let good = good-after n (atLine 1 t) c (to-good n t (record { shape = s; table = y })) in
+      subst (λ (x : State). TableOf n x) (line-unread n 1 t history c) (from-good n (after n (atLine 1 t) c) good .table)
 
-    now : Sound n t
-    now = from-good n t g
+  history-kept : HistoryOf (stateOf t history) → HistoryOf (stateAfter n t history c)
+  unfolding after
+  history-kept h = history-step _ _ _ _ history h ids (reserve-step n t c) registered
+    where
+      ids : List ℕ
+      ids = reservesBy (refusal n t c) c
 
-    later : Sound n (after n t c)
-    later = from-good n (after n t c) (good-after n t c g)
+      later : Shaped n (after n t c)
+      later = shaped-applied n t s (changeOf n t c .slot) (changeOf n t c .counters)
 
-    had : (i x : ℕ) → Was t (slot i) (txid x) c (refusal n t c) → Contains (pushes history ids) x
-    had i x (before-it r f) =
-        let held : at (slotsOf t) i .txid ≡ x = txid-at n t (now .shape) i ∙ r .holds in
-        contains-pushes history ids x (rw held at (h .registered i (λ z. r .not-zero (sym held ∙ z))))
-    had i x (begun-by-it number p v s e) =
-        let only : ids ≡ number .0 ∷ [] = rw (v, p) in
-        rw (only, e) (contains-last history x)
+      had : (i x : ℕ) → Was t (slot i) (txid x) c (refusal n t c) → Contains (pushes history ids) x
+      had i x (before-it r f) =
+          let held : at (slotsOf t) i .txid ≡ x = txid-at n t s i ∙ r .holds in
+          contains-pushes history ids x (rw held at (h .registered i (λ z. r .not-zero (sym held ∙ z))))
+      had i x (begun-by-it number p v l e) =
+          let only : ids ≡ number .0 ∷ [] = rw (v, p) in
+          rw (only, e) (contains-last history x)
 
-    registered : (i : ℕ) → at (slotsOf (after n t c)) i .txid ≢ 0 → Contains (pushes history ids) (at (slotsOf (after n t c)) i .txid)
-    registered i z =
-        let held = txid-at n (after n t c) (later .shape) i in
-        rw held
-        (had i (txidAt (after n t c) i) (was n t (slot i) (txid _) c (record { not-zero = λ q. z (held ∙ q); holds = refl })))
+      registered :
+          (i : ℕ) → at (slotsOf (after n t c)) i .txid ≢ 0 →
+          Contains (pushes history ids) (at (slotsOf (after n t c)) i .txid)
+      registered i z =
+          let held = txid-at n (after n t c) later i in
+          let there : Registered (after n t c) (slot i) (txid (txidAt (after n t c) i)) =
+          record { not-zero = λ q. z (held ∙ q); holds = refl }
+          in
+          rw held (had i _ (was n t (slot i) (txid _) c there))
 
-pub well-formed-kept :
-    (n : ℕ) (t : Table) (history : List ℕ) → Shaped n t → (c : Call) → WellFormed n (stateOf t history) →
-    WellFormed n (stateAfter n t history c)
-well-formed-kept n t history s c w =
-    subst (λ (x : State). WellFormed n x) (line-unread n 1 t history c)
-    (good-kept n (atLine 1 t) history c (to-good n t (record { shape = s; table = w .table })) (w .history))
+  pub well-formed-kept : Kept n (stateOf t history) (stateAfter n t history c)
+  well-formed-kept = record { table = table-kept; history = history-kept }
+
+  -- and so it is as L has it
+  pub still-well-formed : WellFormed n (stateOf t history) → WellFormed n (stateAfter n t history c)
+  still-well-formed w = record { table = table-kept (w .table); history = history-kept (w .history) }

@@ -14,7 +14,7 @@ use Rattle.model.specs.Answers.{tellsOf}
 use Rattle.model.specs.Calls.{begin, refusal, changeAccepted, spent, changeOf, after, answerAccepted, answerBy, answer}
 use Rattle.model.proofs.Tally.{lowest-empty, below-lowest}
 use Rattle.upstream.specs.States.{stateOf, stateAfter, Shaped, Foreseen}
-use Rattle.upstream.specs.Relations.{WellFormed}
+use Rattle.upstream.specs.Relations.{Kept}
 use Rattle.upstream.specs.Clauses.{BeginTransaction, BeginAcquired}
 use Rattle.upstream.proofs.Pairs.{pairs-set, slots-length, txid-at}
 use Rattle.upstream.proofs.Histories.{length-push}
@@ -23,7 +23,7 @@ use Rattle.upstream.proofs.Runs.{stateBy, Beginning, entered, full, beg
 
 module _ (n : ℕ) (t : Table) (history : List ℕ) (k : Stamp) (s : Shaped n t) where
   by-run :
-      (v : Verdict) → (WellFormed n (stateOf t history) → WellFormed n (stateBy v t history (begin k))) → Beginning n t k v →
+      (v : Verdict) → Kept n (stateOf t history) (stateBy v t history (begin k)) → Beginning n t k v →
       BeginTransaction n (stateOf t history) (stateBy v t history (begin k)) (tellsOf (answerBy v t (begin k)))
   unfolding changeAccepted consumed spent answerAccepted tellsOf told
   by-run v kept (entered f room) =

@@ -15,7 +15,7 @@ use Rattle.model.specs.declared.Table.{Table}
 use Rattle.model.specs.Answers.{tellsOf}
 use Rattle.model.specs.Calls.{end, refusal, changeAccepted, spent, changeOf, after, answerAccepted, answerBy, answer}
 use Rattle.upstream.specs.States.{stateOf, stateAfter, Shaped, Foreseen}
-use Rattle.upstream.specs.Relations.{WellFormed}
+use Rattle.upstream.specs.Relations.{Kept}
 use Rattle.upstream.specs.Clauses.{EndTransaction}
 use Rattle.upstream.proofs.Pairs.{pairs-set, txid-at}
 use Rattle.upstream.proofs.Always.{well-formed-kept}
@@ -23,7 +23,7 @@ use Rattle.upstream.proofs.Runs.{stateBy, Owning, outside, other, owned
 
 module _ (n : ℕ) (t : Table) (history : List ℕ) (i : SlotNo) (id : Txid) (s : Shaped n t) where
   by-run :
-      (v : Verdict) → (WellFormed n (stateOf t history) → WellFormed n (stateBy v t history (end i id))) →
+      (v : Verdict) → Kept n (stateOf t history) (stateBy v t history (end i id)) →
       Owning n t i id (end i id) v →
       EndTransaction n (stateOf t history) (stateBy v t history (end i id)) i id (tellsOf (answerBy v t (end i id)))
   unfolding changeAccepted consumed spent answerAccepted tellsOf told

@@ -25,13 +25,13 @@ use Rattle.model.specs.Facts.{Good}
 use Rattle.model.proofs.Places.{Stored, new-here, as-before, stored, zeros-hold}
 use Rattle.model.proofs.Moves.{CountersFit, good-applied, good-fresh}
 use Rattle.upstream.specs.States.{at, push, stateOf, stateAfter, Shaped}
-use Rattle.upstream.specs.Relations.{Contains, WellFormed}
+use Rattle.upstream.specs.Relations.{Contains, TableOf, HistoryOf, Kept}
 use Rattle.upstream.specs.Clauses.{BeginTransaction, SnapshotLocked, CreateTransactionSnapshot}
 use Rattle.upstream.specs.Clauses.{OldestSnapshotXmin, DeregisterThenReserve}
 use Rattle.upstream.proofs.Pairs.{pairs-set, slotsOf, txid-at, shaped-applied}
 use Rattle.upstream.proofs.Yes.{from-good, atLine, to-good}
 use Rattle.upstream.proofs.Histories.{length-push, contains-pushes, contains-last, history-push}
-use Rattle.upstream.proofs.Foreseen.{snap-foreseen, oldest-foreseen}
+use Rattle.upstream.proofs.Foreseen.{asked-foreseen}
 use Rattle.upstream.proofs.Snapshots.{snapshot-locked-meets}
 use Rattle.upstream.proofs.Oldest.{oldest-meets}
 use Rattle.upstream.proofs.Publish.{above}
@@ -61,32 +61,34 @@ abbrev pub emptied : ℕ → ℕ → Table
 emptied n k = applied (freshTable n) (change Stays (counted (k + 1) 1 1))
 
 module _ (n : ℕ) (t : Table) (history : List ℕ) (s : Shaped n t) where
-  entered-well :
-      (i k : ℕ) → Reserves (clockOf t) k → WellFormed n (stateOf t history) →
-      WellFormed n (stateOf (entered t i k) (push history k))
-  entered-well i k f w =
+  entered-kept :
+      (i k : ℕ) → Reserves (clockOf t) k → Kept n (stateOf t history) (stateOf (entered t i k) (push history k))
+  entered-kept i k f =
       record {
-        table = from-good n _ good .table;
+        table = λ y. from-good n _ (good y) .table;
         history =
-            history-push (slotsOf t) (slotsOf (entered t i k)) (clockOf t) (k + 1) history (w .history) k (f .positive)
-            (f .from-clock) (λ j z. had j z (stored 0 (t .txids) i k j));
+            λ p. history-push (slotsOf t) (slotsOf (entered t i k)) (clockOf t) (k + 1) history p k (f .positive)
+            (f .from-clock) (λ j z. had p j z (stored 0 (t .txids) i k j));
       }
     where
-      good : Good n (applied (atLine 1 t) (change (Enters (slot i) (txid k)) (counted (k + 1) 1 1)))
-      good =
-          good-applied n (atLine 1 t) (counted (k + 1) 1 1) (to-good n t (record { shape = s; table = w .table }))
+      good :
+          TableOf n (stateOf t history) →
+          Good n (applied (atLine 1 t) (change (Enters (slot i) (txid k)) (counted (k + 1) 1 1)))
+      good y =
+          good-applied n (atLine 1 t) (counted (k + 1) 1 1) (to-good n t (record { shape = s; table = y }))
           (ones-fit (atLine 1 t) (k + 1) (omega (arith, f .from-clock)) (omega arith)) (Enters (slot i) (txid k))
           (record { positive = f .positive; new = f .from-clock; past = omega arith; over = f .positive })
 
       held : (j : ℕ) → at (slotsOf (entered t i k)) j .txid ≡ txidAt (entered t i k) j
       held j = txid-at n (entered t i k) (shaped-applied n t s (Enters (slot i) (txid k)) (counted (k + 1) 1 (lineOf t))) j
 
-      had : (j : ℕ) → at (slotsOf (entered t i k)) j .txid ≢ 0 → Stored 0 (t .txids) i k j →
+      had :
+          HistoryOf (stateOf t history) → (j : ℕ) → at (slotsOf (entered t i k)) j .txid ≢ 0 → Stored 0 (t .txids) i k j →
           Contains (push history k) (at (slotsOf (entered t i k)) j .txid)
-      had j z (new-here p l q) = rw (held j, q) (contains-last history k)
-      had j z (as-before d q) =
+      had p j z (new-here e l q) = rw (held j, q) (contains-last history k)
+      had p j z (as-before d q) =
           let same : at (slotsOf (entered t i k)) j .txid ≡ at (slotsOf t) j .txid = held j ∙ q ∙ sym (txid-at n t s j) in
-          rw same (contains-pushes history (k ∷ []) _ (w .history .registered j (rw same at z)))
+          rw same (contains-pushes history (k ∷ []) _ (p .registered j (rw same at z)))
 
   -- begin: any empty slot i, the highest too, and the sample set to 1
   pub any-slot-sample-one :
@@ -94,7 +96,7 @@ module _ (n : ℕ) (t : Table) (history : List ℕ) (s : Shaped n t) where
       BeginTransaction n (stateOf t history) (stateOf (entered t i k) (push history k)) (acceptedWith i k)
   any-slot-sample-one i k f h e =
       record {
-        l-begin-e1 = entered-well i k f;
+        l-begin-e1 = entered-kept i k f;
         l-begin-e3 = omega (arith, f .from-clock);
         l-begin-e4 = length-push history k;
         l-begin-e5 =
@@ -115,12 +117,12 @@ module _ (n : ℕ) (t : Table) (history : List ℕ) (s : Shaped n t) where
   pub always-sample-one :
       (c : ℕ) → clockOf t ≤ c → 1 ≤ c →
       SnapshotLocked n (stateOf t history) (stateAfter n t history (snap c 1)) (shown n t (snap c 1))
-  always-sample-one c h p = snapshot-locked-meets n t history s c 1 (snap-foreseen n t c 1 (one c h p))
+  always-sample-one c h p = snapshot-locked-meets n t history s c 1 (asked-foreseen n t (snap c 1) (one c h p))
 
   pub always-oldest-one :
       (c : ℕ) → clockOf t ≤ c → 1 ≤ c →
       OldestSnapshotXmin n (stateOf t history) (stateAfter n t history (oldest c 1)) (answer n t (oldest c 1))
-  always-oldest-one c h p = oldest-meets n t history c 1 s (oldest-foreseen n t c 1 (one c h p))
+  always-oldest-one c h p = oldest-meets n t history c 1 s (asked-foreseen n t (oldest c 1) (one c h p))
 
   -- the transaction snapshot: a refusal that moves clock and sample as a plain snapshot does, and is called NoFreeSlot
   pub refused-moves-clock :
@@ -128,7 +130,7 @@ module _ (n : ℕ) (t : Table) (history : List ℕ) (s : Shaped n t) where
       CreateTransactionSnapshot n (stateOf t history) (stateAfter n t history (snap c m)) i id none-free x
   unfolding told
   refused-moves-clock i id c m x f d =
-      let r = snapshot-locked-meets n t history s c m (snap-foreseen n t c m f) in
+      let r = snapshot-locked-meets n t history s c m (asked-foreseen n t (snap c m) f) in
       record {
         l-own-e1 = r .l-snapshot-locked-e1;
         l-own-e3 = r .l-snapshot-locked-e2 .reservations;
@@ -142,7 +144,11 @@ module _ (n : ℕ) (t : Table) (history : List ℕ) (s : Shaped n t) where
   pub refuses-always : (id : Txid) → DeregisterThenReserve n (stateOf t history) (stateOf t history) id none-free
   unfolding told
   refuses-always id =
-      record { l-finish-e1 = λ w. w; l-finish-e345 = λ e. absurd (suc-ne-zero _ e); l-finish-e6 = λ e. refl }
+      record {
+        l-finish-e1 = record { table = λ y. y; history = λ p. p };
+        l-finish-e345 = λ e. absurd (suc-ne-zero _ e);
+        l-finish-e6 = λ e. refl;
+      }
 
   -- finish: empties every slot, and sets the sample to 1
   pub empties-all :
@@ -152,10 +158,10 @@ module _ (n : ℕ) (t : Table) (history : List ℕ) (s : Shaped n t) where
   empties-all id k z f =
       record {
         l-finish-e1 =
-            λ w. record {
-              table = from-good n (emptied n k) good .table;
+            record {
+              table = λ y. from-good n (emptied n k) good .table;
               history =
-                  history-push (slotsOf t) (slotsOf (emptied n k)) (clockOf t) (k + 1) history (w .history) k (f .positive)
+                  λ p. history-push (slotsOf t) (slotsOf (emptied n k)) (clockOf t) (k + 1) history p k (f .positive)
                   (f .from-clock) (λ j d. absurd (d (empty j)));
             };
         l-finish-e345 =

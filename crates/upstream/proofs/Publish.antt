@@ -24,7 +24,7 @@ use Rattle.model.specs.Calls.{stamp, finish, refusal, changeAccepted, spent, ch
 use Rattle.model.proofs.Tests.{reserves}
 use Rattle.model.proofs.Gone.{emptied-gone}
 use Rattle.upstream.specs.States.{at, pairs, stateOf, stateAfter, Shaped, Foreseen}
-use Rattle.upstream.specs.Relations.{Contains, TableOf, HistoryOf, WellFormed}
+use Rattle.upstream.specs.Relations.{Contains, TableOf, HistoryOf, Kept}
 use Rattle.upstream.specs.Clauses.{ReservePublicationClock, DeregisterThenReserve}
 use Rattle.upstream.proofs.Pairs.{txid-at, shaped-applied}
 use Rattle.upstream.proofs.Yes.{atLine, to-good}
@@ -73,7 +73,7 @@ module _ (n : ℕ) (t : Table) (history : List ℕ) (s : Shaped n t) where
         (record { inside = o .inside; registered = record { not-zero = o .registered .not-zero; holds = o .registered .holds } }) j)
 
     finish-run :
-        (v : Verdict) → (WellFormed n (stateOf t history) → WellFormed n (stateBy v t history (finish i id k))) →
+        (v : Verdict) → Kept n (stateOf t history) (stateBy v t history (finish i id k)) →
         Owning n t i id (finish i id k) v →
         DeregisterThenReserve n (stateOf t history) (stateBy v t history (finish i id k)) id
         (tellsOf (answerBy v t (finish i id k)))

@@ -31,7 +31,7 @@ use Rattle.model.specs.Calls.{answerAccepted, answerBy, answer, shownAccepted, 
 use Rattle.model.proofs.Tally.{maximum-bound, active-taken, used-places}
 use Rattle.model.proofs.Tests.{observes}
 use Rattle.upstream.specs.States.{State, slot, at, stateOf, stateAfter, Shaped, Foreseen}
-use Rattle.upstream.specs.Relations.{TableOf, WellFormed, TxidsBelowTop, Coherent}
+use Rattle.upstream.specs.Relations.{TableOf, Kept, TxidsBelowTop, Coherent}
 use Rattle.upstream.specs.Clauses.{SnapshotLocked, CreateSnapshot, CreateTransactionSnapshot}
 use Rattle.upstream.proofs.Pairs.{pairs-length, pairs-set-xmin, slotsOf, even, txid-at, shaped-applied}
 use Rattle.upstream.proofs.Tallies.{active-same, minimum-same, maximum-same}
@@ -139,7 +139,7 @@ module _ (n : ℕ) (t : Table) (history : List ℕ) (s : Shaped n t) where
 
   module _ (i : SlotNo) (id : Txid) (c m : ℕ) where
     own-run :
-        (v : Verdict) → (WellFormed n (stateOf t history) → WellFormed n (stateBy v t history (own i id c m))) →
+        (v : Verdict) → Kept n (stateOf t history) (stateBy v t history (own i id c m)) →
         Owning n t i id (own i id c m) v →
         CreateTransactionSnapshot n (stateOf t history) (stateBy v t history (own i id c m)) i id
         (tellsOf (answerBy v t (own i id c m))) (shownBy v n t (own i id c m))

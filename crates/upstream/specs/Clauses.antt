@@ -1,6 +1,6 @@
 -- The ensures of upstream's nine functions, by the ids of docs/CONTRACTS.md. The flag is left out.
 -- A result is told by its number, 0 for Ok and 1 to 3 for upstream's errors, and by what it carries. A clause that needs
--- well_formed, or a part of it, asks for it in its field: E1 for all of it, finish's E3 for the history, its E5 for the table.
+-- a part of well_formed asks for it in its field: E1 for the part that it keeps, finish's E3 for the history, its E5 for the table.
 use Prim.Native.Nat.{ℕ, _+_, _<_, _≤_}
 use mathlib.Core.Path.{_≡_}
 use mathlib.Core.Logic.{_≢_}
@@ -21,7 +21,7 @@ use Rattle.model.specs.declared.answer.Answer.{Answer}
 use Rattle.model.specs.declared.answer.Answer.the-variants.{Oldest}
 use Rattle.upstream.specs.States.{State, slot, at, push}
 use Rattle.upstream.specs.Tallies.{«minimum_retention»}
-use Rattle.upstream.specs.Relations.{Contains, TableOf, HistoryOf, WellFormed, Coherent, Observation, Reservation}
+use Rattle.upstream.specs.Relations.{Contains, TableOf, HistoryOf, Kept, Coherent, Observation, Reservation}
 
 -- L:153-155, but for the value of an accepted slot, which a verdict does not carry
 pub record CheckedSlot (n : ℕ) (given : SlotNo) (result : Verdict) : Type 0 where
@@ -45,7 +45,7 @@ pub record BeginErr (old new : State) (result : Told) : Type 0 where
   pub l-begin-e7c : result .number ≡ 1
 
 pub record BeginTransaction (n : ℕ) (old new : State) (result : Told) : Type 0 where
-  pub l-begin-e1 : WellFormed n old → WellFormed n new
+  pub l-begin-e1 : Kept n old new
   pub l-begin-e3 : old .clock < new .clock
   pub l-begin-e4 : length (new .reservations) ≡ length (old .reservations) + 1
   pub l-begin-e5 : result .number ≡ 0 → BeginOk n old new result
@@ -70,7 +70,7 @@ endResult n old given id =
     (told (SlotOwnershipMismatch given id (txid (at (old .slots) (given .0) .txid)))))
 
 pub record EndTransaction (n : ℕ) (old new : State) (given : SlotNo) (id : Txid) (result : Told) : Type 0 where
-  pub l-end-e1 : WellFormed n old → WellFormed n new
+  pub l-end-e1 : Kept n old new
   pub l-end-e3 : new .clock ≡ old .clock
   pub l-end-e4 : new .«sampled_clock» ≡ old .«sampled_clock»
   pub l-end-e5 : new .reservations ≡ old .reservations
@@ -80,13 +80,13 @@ pub record EndTransaction (n : ℕ) (old new : State) (given : SlotNo) (id : Txi
 
 -- L:260-261
 pub record SnapshotLocked (n : ℕ) (old new : State) (snapshot : Snapshot) : Type 0 where
-  pub l-snapshot-locked-e1 : WellFormed n old → WellFormed n new
+  pub l-snapshot-locked-e1 : Kept n old new
   pub l-snapshot-locked-e2 : Observation old new
   pub l-snapshot-locked-e3 : Coherent new snapshot
 
 -- L:307-311
 pub record CreateSnapshot (n : ℕ) (old new : State) (snapshot : Snapshot) : Type 0 where
-  pub l-create-snapshot-e1 : WellFormed n old → WellFormed n new
+  pub l-create-snapshot-e1 : Kept n old new
   pub l-create-snapshot-e3 : new .slots ≡ old .slots
   pub l-create-snapshot-e4 : new .reservations ≡ old .reservations
   pub l-create-snapshot-e5 : old .clock ≤ new .clock
@@ -103,7 +103,7 @@ pub record OwnOk (n : ℕ) (old new : State) (given : SlotNo) (id : Txid) (snaps
 -- L:320-333; E7 is both ways, and the other way is E5 a and b
 pub record CreateTransactionSnapshot
     (n : ℕ) (old new : State) (given : SlotNo) (id : Txid) (result : Told) (snapshot : Snapshot) : Type 0 where
-  pub l-own-e1 : WellFormed n old → WellFormed n new
+  pub l-own-e1 : Kept n old new
   pub l-own-e3 : new .reservations ≡ old .reservations
   pub l-own-e4 : old .clock ≤ new .clock
   pub l-own-e5 : result .number ≡ 0 → OwnOk n old new given id snapshot
@@ -112,7 +112,7 @@ pub record CreateTransactionSnapshot
 
 -- L:351-355
 pub record OldestSnapshotXmin (n : ℕ) (old new : State) (result : Answer) : Type 0 where
-  pub l-oldest-e1 : WellFormed n old → WellFormed n new
+  pub l-oldest-e1 : Kept n old new
   pub l-oldest-e3 : new .slots ≡ old .slots
   pub l-oldest-e4 : new .reservations ≡ old .reservations
   pub l-oldest-e5 : old .clock ≤ new .clock
@@ -120,7 +120,7 @@ pub record OldestSnapshotXmin (n : ℕ) (old new : State) (result : Answer) : Ty
 
 -- L:385
 pub record ReservePublicationClock (n : ℕ) (old new : State) (result : Told) : Type 0 where
-  pub l-stamp-e1 : WellFormed n old → WellFormed n new
+  pub l-stamp-e1 : Kept n old new
   pub l-stamp-e2 : Reservation old new (result .id)
 
 -- L:402-405
@@ -131,6 +131,6 @@ pub record FinishOk (n : ℕ) (old new : State) (id : Txid) (result : Told) : Ty
 
 -- L:401-406
 pub record DeregisterThenReserve (n : ℕ) (old new : State) (id : Txid) (result : Told) : Type 0 where
-  pub l-finish-e1 : WellFormed n old → WellFormed n new
+  pub l-finish-e1 : Kept n old new
   pub l-finish-e345 : result .number ≡ 0 → FinishOk n old new id result
   pub l-finish-e6 : result .number ≢ 0 → new .reservations ≡ old .reservations

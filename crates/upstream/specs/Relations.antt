@@ -47,6 +47,11 @@ pub record WellFormed (n : ℕ) (s : State) : Type 0 where
   pub table : TableOf n s
   pub history : HistoryOf s
 
+-- E1 of L's functions: well_formed is kept, each of its parts by itself
+pub record Kept (n : ℕ) (old new : State) : Type 0 where
+  pub table : TableOf n old → TableOf n new
+  pub history : HistoryOf old → HistoryOf new
+
 -- what a yes of the table check gives: the shape, and well_formed but for the history
 pub record Sound (n : ℕ) (t : Table) : Type 0 where
   pub shape : Shaped n t

@@ -1,6 +1,6 @@
 -- Upstream's state, and how a table with the numbers reserved so far is one.
 -- Names are upstream's (L:18-40); the flag `lifecycle_held` is left out.
-use Prim.Native.Nat.{ℕ, _≤_}
+use Prim.Native.Nat.{ℕ, _<_, _≤_}
 use mathlib.Core.List.{List, [], _∷_, _++_}
 use mathlib.Core.Path.{_≡_}
 use lib.ListN.{length, getD}
@@ -8,7 +8,8 @@ use Rattle.kinds.specs.declared.refusal.Verdict.{Verdict}
 use Rattle.kinds.specs.Verdicts.{tells}
 use Rattle.model.specs.declared.Table.{Table}
 use Rattle.model.specs.Tables.{clockOf, sampleOf}
-use Rattle.model.specs.Calls.{Call, refusal, after}
+use Rattle.model.specs.Calls.{Call, begin, end, snap, own, oldest, vacuum, stamp, finish, refusal, after}
+use Rattle.model.specs.Accepted.{Reserves, Observes}
 use Rattle.model.specs.Reservations.{reservesBy}
 
 pub record Slot : Type 0 where
@@ -68,3 +69,15 @@ stateAfter n t history c = stateOf (after n t c) (historyBy (refusal n t c) hist
 -- upstream's outcomes by their numbers: 0, accepted, or one of its errors 1 to 3. So none of refusals 4 to 8, nor a later one
 abbrev pub Foreseen : Verdict → Type 0
 Foreseen v = tells v .number ≤ 3
+
+-- what upstream asks of a call's arguments, itself or by its trait, in our words: a number that may be reserved, a txid above 0,
+-- a clock and a sample that may be observed
+abbrev pub Asked : Table → Call → Type 0
+Asked t (begin number) = Reserves (clockOf t) (number .0)
+Asked t (end slot id) = 0 < id .0
+Asked t (snap clock sample) = Observes (clockOf t) clock sample
+Asked t (own slot id clock sample) = (0 < id .0) × Observes (clockOf t) clock sample
+Asked t (oldest clock sample) = Observes (clockOf t) clock sample
+Asked t (vacuum clock sample) = Observes (clockOf t) clock sample
+Asked t (stamp number) = Reserves (clockOf t) (number .0)
+Asked t (finish slot id number) = (0 < id .0) × Reserves (clockOf t) (number .0)

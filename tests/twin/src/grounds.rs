@@ -3,7 +3,7 @@
 use crate::table::{SLOTS, Table};
 use crate::trace::{Op, Record};
 
-/// The order of checks of each op, as document 01 lists it.
+/// The order of checks of each op, as SPEC 3.2 lists it.
 pub fn order(op: Op) -> &'static [u8] {
     match op {
         Op::Begin => &[5, 6, 1],

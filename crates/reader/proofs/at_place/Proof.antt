@@ -1,10 +1,10 @@
--- A walk of `at_place`: a reader is made of the text and the place passed.
-use Rattle.hand_proofs.proofs.Words.{refl, ℕ, List, [], _∷_, URA, Heap, Lfts, Shares, RefT, u8, named, w64, vint, Val, Typed, emp, factI}
+-- A walk of `at_place`: a reader is made of the text and the place passed. No fact is carried: the answer is the reader that is made.
+use Rattle.hand_proofs.proofs.Words.{refl, ℕ, List, [], _∷_, URA, Heap, Lfts, Shares, RefT, u8, named, w64, vint, Typed, emp, factI}
 use Rattle.hand_proofs.proofs.Words.{World, Promise, promise, Proved, Call, Walk, world, proves, walks, ends, leaves, number, lent}
-use Rattle.hand_proofs.proofs.Words.{_$_, !, ‵, by, move, use1, sets, local, agg, and-then, no-more}
+use Rattle.hand_proofs.proofs.Words.{_$_, !, by, move, sets, local, agg, and-then, no-more, shuts-struct}
 use Rattle.reader.specs.Reader.{standing}
 use Rattle.reader.proofs.Reader.Laws as T′
-use Rattle.reader.proofs.Held.{Held, spelled, together}
+use Rattle.reader.proofs.Held.{Reading, spelled}
 use Rattle.reader.proofs.at_place as f
 
 module _ {M : Type 1} {𝓤 : URA M} {H : Heap 𝓤} (w : World 𝓤 H) where
@@ -15,17 +15,12 @@ module _ {M : Type 1} {𝓤 : URA M} {H : Heap 𝓤} (w : World 𝓤 H) where
     abbrev y : Call w P
     y = ((κs, qs, tt, (s, (n, tt)), (spelled s ∷ [], (vint w64 n ∷ [], tt))), tt)
 
-    -- the reader's machine value
-    abbrev v : Val
-    v = T′.lowered (standing s n)
-
-    walk : Typed (T′.mir (named 0)) v → Walk w P f.Code.function y
+    walk : Typed (T′.mir (named 0)) (T′.lowered (standing s n)) → Walk w P f.Code.function y
     walk typed = λ l₀ l₁ l₂.
         -- [the tokens; what the arguments own; _0; _1; _2; ..]
         sets ! 2 (agg ! (and-then ! (local ! 2 refl) (and-then ! (local ! 2 refl) (no-more !)))) refl typed $
-        leaves ! 2 refl refl $ move ! (1 ∷ []) $
-        use1 (w .given) (‵ (Held (κs .0) .own (standing s n) (v ∷ []))) (together w (κs .0) s n) $
-        by ! (ends w P y v (standing s n) (tt, (tt, tt)) (factI 𝓤 _ (emp 𝓤) refl))
+        leaves ! 2 refl refl $ move ! (1 ∷ []) $ shuts-struct w ! (Reading (κs .0)) (standing s n) (spelled s ∷ [], (vint w64 n ∷ [], tt)) $
+        by ! (ends w P y (T′.lowered (standing s n)) (standing s n) (tt, (tt, tt)) (factI 𝓤 _ (emp 𝓤) refl))
 
   meets : Proved w P f.Code.function
   meets = walks w P f.Code.function (lent w 0 tt u8, (number w, tt)) (λ κs a t. t)

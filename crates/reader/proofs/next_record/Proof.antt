@@ -1,11 +1,16 @@
--- A walk of `next_record`: a reader is made in a local, and asked.
-use Rattle.hand_proofs.proofs.Words.{_≡_, refl, ap, _∙_, ℕ, List, [], _∷_, URA, Heap, Lfts, Shares, w64, vint, Val, u8, RefT, now, emp, id⊢, factI}
-use Rattle.hand_proofs.proofs.Words.{World, Promise, promise, Callee, Proved, Call, Walk, world, known, proves, walks, ends, leaves, number, lent}
-use Rattle.hand_proofs.proofs.Words.{_$_, !, by, move, locals, hands-on, hands, calls, lands}
-use Rattle.trace.specs.Record.{recordAt}
-use Rattle.reader.specs.Reader.{standing}
+-- A walk of `next_record`: a reader is made in a local and asked, and of its answer what was found is read.
+-- No fact is carried but the callees' equations: what was found is read of the very step that `stepOf` says.
+use package.mir.Syntax.{erased}
+use Rattle.hand_proofs.proofs.Words.{refl, ℕ, List, [], _∷_, URA, Heap, Lfts, Shares, w64, vint, u8, RefT, emp, id⊢, factI}
+use Rattle.hand_proofs.proofs.Words.{World, Promise, promise, Callee, Proved, Call, Walk, world, known, proves, walks, ends, leaves}
+use Rattle.hand_proofs.proofs.Words.{_$_, !, by, move, drop, sets, member, of-opd, locals, number, lent, owned}
+use Rattle.hand_proofs.proofs.Words.{nil, hands-on, hands, calls-is, lands}
+use Rattle.trace.proofs.RecordAt.Laws as F′
+use Rattle.reader.specs.Reader.{standing, foundBy, stepOf}
 use Rattle.reader.specs.declared.Reader.{Reader}
-use Rattle.reader.proofs.Held.{spelled, reader-typed, found-typed}
+use Rattle.reader.proofs.Reader.Laws as T′
+use Rattle.reader.proofs.Step.Laws as S′
+use Rattle.reader.proofs.Held.{spelled, lft, found, found-of, found-typed, reader-typed, step-typed}
 use Rattle.reader.proofs.at_place as g
 use Rattle.reader.proofs.next as h
 use Rattle.reader.proofs.next_record as f
@@ -25,25 +30,35 @@ module _ {M : Type 1} {𝓤 : URA M} {H : Heap 𝓤} (w : World 𝓤 H) where
       abbrev y : Call w P
       y = ((κs, qs, tt, (s, (n, tt)), (spelled s ∷ [], (vint w64 n ∷ [], tt))), tt)
 
-      abbrev to-next : Reader → Val → Call w Next
-      to-next r u = ((κs, qs, tt, (r, tt), (u ∷ [], tt)), tt)
+      -- the reader that is made
+      abbrev r : Reader
+      r = standing s n
+
+      abbrev to-next : Call w Next
+      to-next = ((κs, qs, tt, (r, tt), (T′.lowered r ∷ [], tt)), tt)
 
       walk : Walk w P f.Code.function y
-      walk = λ l₀ l₁ l₂ l₃.
-          -- [the tokens; what the arguments own; _0; _1; _2; _3; ..]: what is had is what `at_place` is handed
+      walk = λ l₀ l₁ l₂ l₃ l₄.
+          -- [the tokens; what the arguments own; _0; ..; _4; ..]: what is had is what `at_place` is handed
           hands-on w ! Make y $
-          calls w ! Make make y (id⊢ 𝓤 (emp 𝓤)) (λ r. r ≡ standing s n) (λ r ws. id⊢ 𝓤 _) (locals ! 1 (refl, (refl, tt))) (λ u r e is.
+          calls-is w ! Make make y (nil 𝓤) r (λ x ws. id⊢ 𝓤 _)
+          (T′.lowers (lft (κs .0)) .val-is) (locals ! 1 (refl, (refl, tt))) (λ r-is.
           -- [what the reader owns; the tokens; _0; ..]
-          lands ! 2 refl (reader-typed w (κs .0) r u is) $ move ! (1 ∷ 0 ∷ []) $
-          hands w ! Next (to-next r u) refl (id⊢ 𝓤 (emp 𝓤)) $
-          calls w ! Next next (to-next r u) (id⊢ 𝓤 (emp 𝓤)) (λ x. x ≡ recordAt (now (r .text)) (r .at)) (λ x ws. id⊢ 𝓤 _)
-          (locals ! 1 (refl, tt)) (λ v x e′ is′.
-          -- [what is found; the tokens; _0; ..]
-          lands ! 2 refl (found-typed w (κs .0) x v is′) $ leaves ! 2 refl refl $
-          by ! (ends w P y v x (tt, (tt, tt)) (factI 𝓤 _ (emp 𝓤) (e′ ∙ ap (λ (z : Reader). recordAt (now (z .text)) (z .at)) e)))))
+          lands ! 2 refl (reader-typed w (κs .0) erased r r-is) $ move ! (1 ∷ 0 ∷ []) $
+          hands w ! Next to-next refl (nil 𝓤) $
+          calls-is w ! Next next to-next (nil 𝓤) (stepOf r) (λ x ws. id⊢ 𝓤 _)
+          (S′.lowers (lft (κs .0)) .val-is) (locals ! 1 (refl, tt)) (λ s-is.
+          let x-is = found-of (κs .0) (stepOf r) s-is in
+          -- [what the step owns; the tokens; _0; ..]
+          drop ! $ lands ! 1 refl (step-typed w (κs .0) erased (stepOf r) s-is) $
+          sets ! 1 (of-opd ! (member ! 1 refl refl)) refl (found-typed w (foundBy r) x-is) $
+          leaves ! 1 refl refl $ owned w ! (found w) (foundBy r) (F′.lowered (foundBy r)) x-is $
+          by ! (ends w P y (F′.lowered (foundBy r)) (foundBy r) (tt, (tt, tt)) (factI 𝓤 _ (emp 𝓤) refl))))
 
     meets : Proved w P f.Code.function
-    meets = walks w P f.Code.function (lent w 0 tt u8, (number w, tt)) (λ κs a t. t) (λ κs qs bounds a g are typed h. walk κs qs (a .0) (a .1 .0))
+    meets =
+        walks w P f.Code.function (lent w 0 tt u8, (number w, tt)) (λ κs a t. t)
+        (λ κs qs bounds a g are typed h. walk κs qs (a .0) (a .1 .0))
 
 pub next-record-spec : {M : Type 1} → f.Statement.statement M
 unfolding f.Code.routine

@@ -5,9 +5,11 @@ use lib.Dec.{eqb→eq, lit<}
 use denote.Ask.Bracket.{ask-in}
 use denote.Ask.Quote.{gives}
 use denote.Plain.{Boolean}
-use Rattle.hand_proofs.proofs.Words.{_≡_, refl, sym, _∙_, ap, ℕ, _<_, _^_, List, [], _∷_, Bool, false, URA, Heap, Lfts, Shares, Lft, RefT, now}
+use Rattle.hand_proofs.proofs.Words.{_≡_, refl, sym, _∙_, ap, ℕ, _<_, _^_, List, [], _∷_, Bool, false, URA, Heap, Lfts, Shares, Lft, RefT}
+use Rattle.hand_proofs.proofs.Words.{now}
 use Rattle.hand_proofs.proofs.Words.{u64, w64, vint, vbool, Val, Room, sliceVal, Is, emp, via, ent, fact, factI, id⊢}
-use Rattle.hand_proofs.proofs.Words.{World, Promise, promise, Callee, Proved, Call, Tokens, Reached, Walk, world, known, proves, walks, ends, leaves, frame}
+use Rattle.hand_proofs.proofs.Words.{World, Promise, promise, Callee, Proved, Call, Tokens, Reached, Walk, world, known, proves, walks}
+use Rattle.hand_proofs.proofs.Words.{ends, leaves, frame}
 use Rattle.hand_proofs.proofs.Words.{number, lent, word, truth, owned, made, _$_, _∵_, !, raw, qed, by, drop, move, first-only, atRet, exec}
 use Rattle.hand_proofs.proofs.Words.{sets, sets-last, local, member, locals, of-opd, bin, constant, false-lit, no-more, first, branches}
 use Rattle.hand_proofs.proofs.Words.{hands, hands-none, calls, calls-last, lands, lands-last}
@@ -127,8 +129,8 @@ pub check-run-spec : {M : Type 1} → f.Statement.statement M
 unfolding f.Code.routine
 check-run-spec 𝓤 H 𝓜 𝓖 𝓡 =
     let w = world 𝓜 𝓖 𝓡 f.Code.env in
-    let none-met = known 𝓜 𝓖 𝓡 f.Code.env (None w) none.Symbol.name f.Code.calls-segment·no-columns (none.Met.met 𝓤 H 𝓜 𝓖 𝓡) in
-    let gather-met = known 𝓜 𝓖 𝓡 f.Code.env (Gather w) gather.Symbol.name f.Code.calls-segment·gather (gather.Met.met 𝓤 H 𝓜 𝓖 𝓡) in
-    let core-met = known 𝓜 𝓖 𝓡 f.Code.env (Core w) core.Symbol.name f.Code.calls-segment·check-gathered (core.Met.met 𝓤 H 𝓜 𝓖 𝓡) in
+    let none-met = known 𝓜 𝓖 𝓡 f.Code.env (None w) none.Symbol.name f.Code.calls-record-check·no-columns (none.Met.met 𝓤 H 𝓜 𝓖 𝓡) in
+    let gather-met = known 𝓜 𝓖 𝓡 f.Code.env (Gather w) gather.Symbol.name f.Code.calls-record-check·gather (gather.Met.met 𝓤 H 𝓜 𝓖 𝓡) in
+    let core-met = known 𝓜 𝓖 𝓡 f.Code.env (Core w) core.Symbol.name f.Code.calls-record-check·check-gathered (core.Met.met 𝓤 H 𝓜 𝓖 𝓡) in
     proves 𝓜 𝓖 𝓡 f.Code.env (P w) f.Key.name f.Code.function (f.Code.unfolded 𝓤 H 𝓜 𝓡)
     (meets w none-met gather-met core-met (λ κ. asked.gives 𝓤 H 𝓜 𝓖 𝓡 asking.env tt tt))

@@ -9,12 +9,16 @@ use prog.Wp.{afterTurn}
 use denote.Index.{row}
 use denote.Slice.{shr-slice-copy}
 use denote.Struct.Laws as LL
-use Rattle.hand_proofs.proofs.Words.{_≡_, refl, sym, _∙_, ap, subst, ℕ, _+_, _-_, _*_, _<_, _≤_, _^_, List, [], _∷_, _++_, Bool, true, false, not}
-use Rattle.hand_proofs.proofs.Words.{URA, Heap, Env, Lfts, Shares, RefT, now, u64, named, w64, vint, vbool, tyBool, tyPtr, Val, ShrSlice, Room, sliceVal}
-use Rattle.hand_proofs.proofs.Words.{Is, Fml, fat, froom, fullShare, emp, factI, id⊢, World, Promise, promise, Callee, Proved, Call, Tokens, Reached, Walk}
+use Rattle.hand_proofs.proofs.Words.{_≡_, refl, sym, _∙_, ap, subst, ℕ, _+_, _-_, _*_, _<_, _≤_, _^_, List, [], _∷_, _++_, Bool, true}
+use Rattle.hand_proofs.proofs.Words.{false, not}
+use Rattle.hand_proofs.proofs.Words.{URA, Heap, Env, Lfts, Shares, RefT, now, u64, named, w64, vint, vbool, tyBool, tyPtr, Val, ShrSlice}
+use Rattle.hand_proofs.proofs.Words.{Room, sliceVal}
+use Rattle.hand_proofs.proofs.Words.{Is, Fml, fat, froom, fullShare, emp, factI, id⊢, World, Promise, promise, Callee, Proved, Call}
+use Rattle.hand_proofs.proofs.Words.{Tokens, Reached, Walk}
 use Rattle.hand_proofs.proofs.Words.{world, known, proves, walks-if, ends, leaves, frame, deaths, cells, by-value, lent, word, owned, made}
 use Rattle.hand_proofs.proofs.Words.{Item, _$_, !, ‵, raw, _⊛_, by, move, drop, use1, split, rewrite, back, first-only, empties}
-use Rattle.hand_proofs.proofs.Words.{local, member, through, locals, sets, resets, resets-last, assigns, store-raw, of-opd, bin, lit, addr, agg, and-then}
+use Rattle.hand_proofs.proofs.Words.{local, member, through, locals, sets, resets, resets-last, assigns, store-raw, of-opd, bin, lit}
+use Rattle.hand_proofs.proofs.Words.{addr, agg, and-then}
 use Rattle.hand_proofs.proofs.Words.{no-more, from, stop, hands, calls, lands, spreads, gathers, takes, puts}
 use Rattle.hand_proofs.proofs.Words.{Turn, goes-on, rounds, stays, leaves-loop, exec, atRet}
 use Rattle.record_check.specs.Run.{emptySlot, txidsOf, xminsOf, columnsOf}
@@ -249,5 +253,5 @@ pub gather-spec : {M : Type 1} → f.Statement.statement M
 unfolding f.Code.routine
 gather-spec 𝓤 H 𝓜 𝓖 𝓡 =
     let w = world 𝓜 𝓖 𝓡 f.Code.env in
-    let slot-at = known 𝓜 𝓖 𝓡 f.Code.env (At w) g.Symbol.name f.Code.calls-segment·slot-at (g.Met.met 𝓤 H 𝓜 𝓖 𝓡) in
+    let slot-at = known 𝓜 𝓖 𝓡 f.Code.env (At w) g.Symbol.name f.Code.calls-record-check·slot-at (g.Met.met 𝓤 H 𝓜 𝓖 𝓡) in
     proves 𝓜 𝓖 𝓡 f.Code.env (P w) f.Key.name f.Code.function (f.Code.unfolded 𝓤 H 𝓜 𝓡) (meets w slot-at)

@@ -1,7 +1,7 @@
-//! Runs the replay program and the operator's command at their border: inputs and outputs that are slow, short, cut or
-//! not there.
+//! Runs the replay program, the operator's command and the shortest host at their border: inputs and outputs that are
+//! slow, short, cut or not there.
 //!
-//! border PROGRAM COMMAND SHIM CASES, with the folder of the stored cases; the last line is 'N passed, M failed'.
+//! border PROGRAM COMMAND BARE SHIM CASES, with the folder of the stored cases; the last line is 'N passed, M failed'.
 
 use std::fs::{self, File};
 use std::io::{Read, Write};
@@ -9,18 +9,20 @@ use std::net::Shutdown;
 use std::os::fd::OwnedFd;
 use std::os::unix::net::UnixStream;
 use std::os::unix::process::ExitStatusExt;
-use std::path::Path;
+use std::path::{Path, PathBuf};
 use std::process::{Child, Command, Stdio};
 use std::thread;
 use std::time::Duration;
 
 use twin::race_traces;
 
-/// The same program twice: as Rattle has it, with words alone, and under a main with a status.
+/// The same program three times: as Rattle has it, with words alone; under a main with a status and words; with the
+/// status alone.
 #[derive(Clone, Copy, PartialEq)]
 enum Who {
     Program,
     Command,
+    Bare,
 }
 
 /// How a run has to end.
@@ -55,32 +57,32 @@ struct Ran {
 struct Border {
     program: String,
     command: String,
+    bare: String,
     shim: String,
     passed: usize,
     failed: usize,
 }
 
-const BOTH: [Who; 2] = [Who::Program, Who::Command];
+const ALL: [Who; 3] = [Who::Program, Who::Command, Who::Bare];
 const SIGPIPE: i32 = 13;
-const EINTR: i32 = 4;
 const EIO: i32 = 5;
 const EAGAIN: i32 = 11;
 
 fn main() {
     let arguments: Vec<String> = std::env::args().skip(1).collect();
-    let [program, command, shim, cases] = arguments.as_slice() else {
-        eprintln!("usage: border PROGRAM COMMAND SHIM CASES");
+    let [program, command, bare, shim, cases] = arguments.as_slice() else {
+        eprintln!("usage: border PROGRAM COMMAND BARE SHIM CASES");
         std::process::exit(2);
     };
-    let (program, command, shim) = (program.clone(), command.clone(), shim.clone());
     let mut border = Border {
-        program,
-        command,
-        shim,
+        program: program.clone(),
+        command: command.clone(),
+        bare: bare.clone(),
+        shim: shim.clone(),
         passed: 0,
         failed: 0,
     };
-    let small = fs::read(Path::new(cases).join("whole-case.trace")).unwrap_or_default();
+    let small = fs::read(Path::new(cases).join("runs/whole-case.trace")).unwrap_or_default();
     border.is(
         "the small trace",
         small.len() > 100,
@@ -137,6 +139,7 @@ impl Border {
         Command::new(match who {
             Who::Program => &self.program,
             Who::Command => &self.command,
+            Who::Bare => &self.bare,
         })
     }
 
@@ -154,14 +157,14 @@ impl Border {
     fn held(&mut self, what: &str, who: Who, ran: &Ran, out: &[u8], end: End) {
         let status = match who {
             Who::Program => 0,
-            Who::Command => end as i32,
+            Who::Command | Who::Bare => end as i32,
         };
         let name = format!(
             "{what}, {}",
-            if who == Who::Program {
-                "program"
-            } else {
-                "command"
+            match who {
+                Who::Program => "program",
+                Who::Command => "command",
+                Who::Bare => "shortest host",
             }
         );
         let otherwise = format!(
@@ -171,7 +174,7 @@ impl Border {
             ran.out.len(),
             ran.err
         );
-        let said = if end == End::Done {
+        let said = if end == End::Done || who == Who::Bare {
             ran.err.is_empty()
         } else {
             ran.err.contains(end.word())
@@ -190,7 +193,7 @@ impl Border {
     }
 
     fn plain(&mut self, small: &[u8], large: &[u8], broken: &[u8]) {
-        for who in BOTH {
+        for who in ALL {
             for (text, end) in [
                 (small, End::Done),
                 (large, End::Done),
@@ -205,7 +208,7 @@ impl Border {
 
     /// Byte by byte, each some time after the last.
     fn slow(&mut self, texts: &[&[u8]]) {
-        for who in BOTH {
+        for who in ALL {
             for text in texts {
                 let ran = fed(
                     self.call(who),
@@ -219,7 +222,7 @@ impl Border {
 
     /// Reads and writes that move few bytes each.
     fn short(&mut self, texts: &[(&[u8], usize)]) {
-        for who in BOTH {
+        for who in ALL {
             for (text, most) in texts {
                 let ran = fed(self.shimmed(who, &[("SHORT", *most)]), text.to_vec(), None);
                 self.held("short counts", who, &ran, &right(text), ended(text));
@@ -229,9 +232,9 @@ impl Border {
 
     /// A read that fails, after any number of bytes: record boundaries are among them.
     fn reads_fail(&mut self, text: &[u8]) {
-        for who in BOTH {
+        for who in ALL {
             for turn in 1..=text.len() + 1 {
-                let error = [EIO, EAGAIN, EINTR][turn % 3] as usize;
+                let error = [EIO, EAGAIN][turn % 2] as usize;
                 let settings = [("SHORT", 1), ("FAIL_READ", turn), ("ERROR", error)];
                 let ran = fed(self.shimmed(who, &settings), text.to_vec(), None);
                 self.held("failed read", who, &ran, b"", End::Unread);
@@ -242,7 +245,7 @@ impl Border {
     /// A write that fails, after any number of bytes, and after each piece of a long output.
     fn writes_fail(&mut self, text: &[u8], large: &[u8]) {
         let out = right(text);
-        for who in BOTH {
+        for who in ALL {
             for turn in 1..=out.len() {
                 let settings = [("SHORT", 1), ("FAIL_WRITE", turn)];
                 let ran = fed(self.shimmed(who, &settings), text.to_vec(), None);
@@ -272,7 +275,7 @@ impl Border {
     fn no_input(&mut self, text: &[u8]) {
         // a whole trace of one record, whose second has not come yet
         let one = &text[..first_record(text)];
-        for who in BOTH {
+        for who in ALL {
             let ran = in_shell(self.call(who), "<&-", Stdio::null());
             self.held("closed input", who, &ran, b"", End::Unread);
             let mut call = self.call(who);
@@ -307,7 +310,7 @@ impl Border {
     /// Outputs that can't be written: closed, full, not taken, a pipe whose reader leaves.
     fn no_output(&mut self, text: &[u8]) {
         let all = right(text);
-        for who in BOTH {
+        for who in ALL {
             for to in [">&-", ">/dev/full"] {
                 let ran = in_shell(self.call(who), to, Stdio::piped());
                 self.held(to, who, &ran, b"", End::Unwritten);
@@ -334,7 +337,7 @@ impl Border {
         }
     }
 
-    /// A reader that leaves after some bytes. The program is ended by the signal; the command sees a write that fails.
+    /// A reader that leaves after some bytes. The signal ends the others; the command sees a write that fails.
     fn reader_leaves(&mut self, who: Who, text: &[u8], all: &[u8], some: usize) {
         let mut child = spawned(self.call(who).stdin(Stdio::piped()));
         let mut pipe = child.stdout.take().expect("stdout is piped");
@@ -354,7 +357,7 @@ impl Border {
         }
         let ran = taken(child);
         let good = match who {
-            Who::Program => ran.signal == Some(SIGPIPE),
+            Who::Program | Who::Bare => ran.signal == Some(SIGPIPE),
             Who::Command => ran.status == Some(1) && ran.err.contains(End::Unwritten.word()),
         };
         let otherwise = format!(
@@ -367,16 +370,8 @@ impl Border {
     /// Every stored text that is no trace gets a reason, and some the very one.
     fn words(&mut self, cases: &Path) {
         let mut seen = 0;
-        let mut files: Vec<_> = fs::read_dir(cases)
-            .expect("the folder of cases")
-            .flatten()
-            .map(|file| file.path())
-            .collect();
-        files.sort();
-        for file in files
-            .iter()
-            .filter(|file| file.extension().is_some_and(|end| end == "trace"))
-        {
+        let files = stored(cases);
+        for file in &files {
             let text = fs::read(file).expect("a stored case");
             let name = file
                 .file_stem()
@@ -409,7 +404,11 @@ impl Border {
             seen > 50,
             "there are few",
         );
-        let known = |case: &str| cases.join(format!("{case}.trace")).is_file();
+        let known = |case: &str| {
+            files
+                .iter()
+                .any(|file| file.file_stem().is_some_and(|stem| stem == case))
+        };
         for (case, _) in REASONS {
             self.is(case, known(case), "no such case is stored");
         }
@@ -547,4 +546,19 @@ fn taken(child: Child) -> Ran {
         out: output.stdout,
         err: String::from_utf8_lossy(&output.stderr).into_owned(),
     }
+}
+
+/// The stored traces in a folder and the folders in it, in the order of their names.
+fn stored(folder: &Path) -> Vec<PathBuf> {
+    let mut found = Vec::new();
+    let entries = fs::read_dir(folder).expect("a folder of cases");
+    for path in entries.flatten().map(|entry| entry.path()) {
+        if path.is_dir() {
+            found.extend(stored(&path));
+        } else if path.extension().is_some_and(|end| end == "trace") {
+            found.push(path);
+        }
+    }
+    found.sort();
+    found
 }

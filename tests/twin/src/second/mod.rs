@@ -1,4 +1,4 @@
-//! A second reading of document 01, slow, that takes faults on demand. Its text, table and calls are its own; from
+//! A second reading of the rules, slow, that takes faults on demand. Its text, table and calls are its own; from
 //! the twin it takes the number of slots and the ops with their names, from the coverage the orders of checks.
 //!
 //! Without a fault it has to agree with the twin; with one, the comparison has to notice.

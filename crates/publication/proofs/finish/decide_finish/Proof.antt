@@ -27,7 +27,7 @@ returns c = refused-decides _ _ _ refl (sym (c .before .before .before .finish-t
 returns-2 : tie.Need-returns-2
 returns-2 c =
     let passed = sym (c .before .before .before .finish-test .ensures) ∙ c .before .enum-told .given .1 in
-    rw (c .reserved .ensures) (finish-accepted _ _ _ _ _ passed)
+    finish-accepted _ _ _ (c .reserved .ensures) _ _ passed
 
 pub decide-finish-spec : {M : Type 1} → statement M
 decide-finish-spec = tie.close (tie.spec finish-test-requires enum-known-verdict enum-told reserved-requires returns returns-2)

@@ -12,7 +12,7 @@ apply-requires : tie.Need-apply-requires
 apply-requires c κs = search needs
 
 returns : tie.Need-returns
-returns c = rw (c .apply .ensures) (lent-outcome _ _ _ refl (c .before .before .decide-finish .ensures))
+returns c = lent-outcome _ _ _ refl (c .before .before .decide-finish .ensures) (c .apply .ensures)
 
 pub finish-transaction-spec : {M : Type 1} → statement M
 finish-transaction-spec = tie.close (tie.spec decide-finish-requires apply-requires returns)

@@ -28,7 +28,7 @@ returns c =
 returns-2 : tie.Need-returns-2
 returns-2 c =
     let passed = sym (c .before .before .before .reservation-test .ensures) ∙ c .before .enum-told .given .1 in
-    rw (c .reserved .ensures) (stamp-accepted _ _ _ passed)
+    stamp-accepted _ _ _ (c .reserved .ensures) passed
 
 pub decide-stamp-spec : {M : Type 1} → statement M
 decide-stamp-spec =

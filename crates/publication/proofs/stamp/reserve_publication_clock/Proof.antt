@@ -11,7 +11,7 @@ apply-requires : tie.Need-apply-requires
 apply-requires c κs = search needs
 
 returns : tie.Need-returns
-returns c = rw (c .apply .ensures) (stamp-outcome _ _ _ (c .before .before .decide-stamp .ensures))
+returns c = stamp-outcome _ _ _ (c .before .before .decide-stamp .ensures) (c .apply .ensures)
 
 pub reserve-publication-clock-spec : {M : Type 1} → statement M
 reserve-publication-clock-spec = tie.close (tie.spec decide-stamp-requires apply-requires returns)

@@ -12,7 +12,7 @@ apply-requires : tie.Need-apply-requires
 apply-requires c κs = search needs
 
 returns : tie.Need-returns
-returns c = rw (c .apply .ensures) (lent-outcome _ _ _ refl (c .before .before .decide-begin .ensures))
+returns c = lent-outcome _ _ _ refl (c .before .before .decide-begin .ensures) (c .apply .ensures)
 
 pub begin-transaction-spec : {M : Type 1} → statement M
 begin-transaction-spec = tie.close (tie.spec decide-begin-requires apply-requires returns)

@@ -23,17 +23,16 @@ reserved-requires c κs = search needs
 lowest-empty-requires : tie.Need-lowest-empty-requires
 lowest-empty-requires c κs = search needs
 
-cast-t15 : tie.Need-cast-t15
-cast-t15 c = search needs
+cast-place : tie.Need-cast-place
+cast-place c = search needs
 
 returns : tie.Need-returns
 returns c =
     let reserved = c .before .before in
     let told = reserved .before .before in
     let passed = sym (told .before .before .reservation-test .ensures) ∙ told .enum-told .given .1 in
-    let low = c .before .lowest-empty .ensures in
-    rw (reserved .before .txid-of-stamp .ensures, reserved .reserved .ensures, low)
-    (begin-free _ _ _ passed (rw low at (c .if1 .taken)))
+    let named = reserved .before .txid-of-stamp .ensures in
+    begin-free _ _ _ passed named (reserved .reserved .ensures) (c .before .lowest-empty .ensures) (c .if1 .taken)
 
 returns-2 : tie.Need-returns-2
 returns-2 c = begin-refused _ _ _ (sym (c .before .before .before .reservation-test .ensures) ∙ c .before .verdict .given .1)
@@ -43,9 +42,8 @@ returns-3 c =
     let reserved = c .before .before in
     let told = reserved .before .before in
     let passed = sym (told .before .before .reservation-test .ensures) ∙ told .enum-told .given .1 in
-    let low = c .before .lowest-empty .ensures in
-    rw (reserved .before .txid-of-stamp .ensures, reserved .reserved .ensures)
-    (begin-full _ _ _ passed (rw low at (c .if1 .left)))
+    let named = reserved .before .txid-of-stamp .ensures in
+    begin-full _ _ _ passed named (reserved .reserved .ensures) (c .before .lowest-empty .ensures) (c .if1 .left)
 
 pub decide-begin-spec : {M : Type 1} → statement M
 decide-begin-spec =
@@ -57,7 +55,7 @@ decide-begin-spec =
     txid-of-stamp-requires
     reserved-requires
     lowest-empty-requires
-    cast-t15
+    cast-place
     returns
     returns-2
     returns-3)

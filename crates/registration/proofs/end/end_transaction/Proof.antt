@@ -12,7 +12,7 @@ apply-requires : tie.Need-apply-requires
 apply-requires c κs = search needs
 
 returns : tie.Need-returns
-returns c = rw (c .apply .ensures) (lent-outcome _ _ _ refl (c .before .before .decide-end .ensures))
+returns c = lent-outcome _ _ _ refl (c .before .before .decide-end .ensures) (c .apply .ensures)
 
 pub end-transaction-spec : {M : Type 1} → statement M
 end-transaction-spec = tie.close (tie.spec decide-end-requires apply-requires returns)
