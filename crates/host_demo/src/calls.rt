@@ -9,7 +9,8 @@ use table::SnapshotOutcome;
 use table::Table;
 
 // The xmin that oldest answers, the line that vacuum answers; else 0.
-pub fn value(answer: Answer) -> u64 {
+pub fn value(called: Outcome) -> u64 {
+    let answer = called.answer;
     match answer {
         Answer::Oldest(xmin) => xmin,
         Answer::Line(line) => line,
@@ -35,7 +36,7 @@ fn plain(called: Outcome, rest: &[u8]) -> Table {
     let answer = called.answer;
     let next = called.table;
     answered(answer);
-    say::line(rest, &[value(answer)]);
+    say::line(rest, &[value(called)]);
     say::table(next);
     next
 }

@@ -33,35 +33,32 @@ fn number(answer: Settled) -> u64 {
     }
 }
 
-fn ask(s: Snapshot, id: u64) {
+fn ask(xmin: u64, count: usize, id: u64) {
+    let s = to_20(xmin, count);
     let by_value = number(settled::is_settled(s, Txid(id)));
     let lent = number(settled::is_settled_among(&s.ids, s.count, s.xmax, Txid(id)));
     say::line(
         b"xmin=# count=# id=#: settled=# among=#\n",
-        &[s.xmin, s.count as u64, id, by_value, lent],
+        &[xmin, count as u64, id, by_value, lent],
     );
 }
 
 // Of the first snapshot 16 stands past the count. The last two have the largest count, and one more.
 pub fn vectors() {
     say::word(b"part=settled\n");
-    let s = to_20(10, 3);
-    ask(s, 9);
-    ask(s, 10);
-    ask(s, 11);
-    ask(s, 13);
-    ask(s, 14);
-    ask(s, 15);
-    ask(s, 16);
-    ask(s, 19);
-    ask(s, 20);
-    let badly_formed = to_20(12, 1);
-    ask(badly_formed, 10);
-    ask(badly_formed, 11);
-    let all = to_20(10, SLOTS);
-    ask(all, 0);
-    ask(all, 16);
-    let too_many = to_20(10, SLOTS + 1);
-    ask(too_many, 0);
-    ask(too_many, 9);
+    ask(10, 3, 9);
+    ask(10, 3, 10);
+    ask(10, 3, 11);
+    ask(10, 3, 13);
+    ask(10, 3, 14);
+    ask(10, 3, 15);
+    ask(10, 3, 16);
+    ask(10, 3, 19);
+    ask(10, 3, 20);
+    ask(12, 1, 10);
+    ask(12, 1, 11);
+    ask(10, SLOTS, 0);
+    ask(10, SLOTS, 16);
+    ask(10, SLOTS + 1, 0);
+    ask(10, SLOTS + 1, 9);
 }

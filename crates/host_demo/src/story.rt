@@ -45,23 +45,14 @@ fn page(t: Table, encode: SlotNo, new: Txid) -> Table {
     let seen = table::create_transaction_snapshot(joined.table, slot, id, 5, 5);
     let top = read(seen.snapshot, new);
     let before = table::vacuum(seen.table, 5, 5);
-    let before_answer = before.answer;
     let done = table::finish_transaction(before.table, encode, new, Stamp(5));
     let after = table::vacuum(done.table, 6, 6);
-    let after_answer = after.answer;
     let bottom = read(seen.snapshot, new);
     let left = table::end_transaction(after.table, slot, id);
     let last = table::vacuum(left.table, 6, 6);
-    let last_answer = last.answer;
     say::line(
         b"page: top=# line=# line=# bottom=# line=#\n",
-        &[
-            top,
-            value(before_answer),
-            value(after_answer),
-            bottom,
-            value(last_answer),
-        ],
+        &[top, value(before), value(after), bottom, value(last)],
     );
     last.table
 }
