@@ -31,6 +31,8 @@ pub fn tell(r: Refusal) -> Told
         Refusal::BadSample => bare_number(8),
         Refusal::BadTrace(line) => numbers(9, 0, 0, 0, line),
         Refusal::BadSnapshot => bare_number(10),
+        Refusal::NoRoom => bare_number(12),
+        Refusal::BadRecord => bare_number(20),
     }
 }
 

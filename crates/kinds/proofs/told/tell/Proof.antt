@@ -70,6 +70,18 @@ enum-told-6 c = search needs
 bare-number-requires-6 : tie.Need-bare-number-requires-6
 bare-number-requires-6 c κs = search needs
 
+enum-told-7 : tie.Need-enum-told-7
+enum-told-7 c = search needs
+
+bare-number-requires-7 : tie.Need-bare-number-requires-7
+bare-number-requires-7 c κs = search needs
+
+enum-told-8 : tie.Need-enum-told-8
+enum-told-8 c = search needs
+
+bare-number-requires-8 : tie.Need-bare-number-requires-8
+bare-number-requires-8 c κs = search needs
+
 returns : tie.Need-returns
 unfolding told
 returns c = rw (c .before .before .r .given .1) (c .numbers .ensures)
@@ -110,6 +122,14 @@ returns-10 : tie.Need-returns-10
 unfolding told
 returns-10 c = rw (c .before .enum-told6 .given .1) (c .bare-number6 .ensures)
 
+returns-11 : tie.Need-returns-11
+unfolding told
+returns-11 c = rw (c .before .enum-told7 .given .1) (c .bare-number7 .ensures)
+
+returns-12 : tie.Need-returns-12
+unfolding told
+returns-12 c = rw (c .before .enum-told8 .given .1) (c .bare-number8 .ensures)
+
 pub tell-spec : {M : Type 1} → statement M
 tell-spec =
     tie.close
@@ -136,6 +156,10 @@ tell-spec =
     numbers-requires-4
     enum-told-6
     bare-number-requires-6
+    enum-told-7
+    bare-number-requires-7
+    enum-told-8
+    bare-number-requires-8
     returns
     returns-2
     returns-3
@@ -145,4 +169,6 @@ tell-spec =
     returns-7
     returns-8
     returns-9
-    returns-10)
+    returns-10
+    returns-11
+    returns-12)
