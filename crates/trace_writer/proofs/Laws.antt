@@ -35,8 +35,8 @@ use Rattle.trace_writer.proofs.Judging.{bad-run}
 
 -- rows as code has them: six machine numbers each
 pub data Machines : List (List ℕ) → Type 0 where
-  none : Machines []
-  also : {x : List ℕ} {xs : List (List ℕ)} → Machine x → Machines xs → Machines (x ∷ xs)
+  no-row : Machines []
+  row-more : {x : List ℕ} {xs : List (List ℕ)} → Machine x → Machines xs → Machines (x ∷ xs)
 
 -- a good row is a record that the header allows
 record IsGood (v : Version) (x : List ℕ) (r : Record) : Type 0 where
@@ -69,10 +69,10 @@ pub record RowsAre (v : Version) (rows : List (List ℕ)) (rs : List Record) : T
 
 pub rows-are : (v : Version) (rows : List (List ℕ)) (rs : List Record) → Machines rows → recordsOf v rows ≡ Are rs → RowsAre v rows rs
 unfolding recordsOf rowsOf
-rows-are v [] rs none h =
+rows-are v [] rs no-row h =
     let same : [] ≡ rs = cc in
     rw (← same) (record { rows-are = refl; expressible = none })
-rows-are v (x ∷ xs) rs (also m ms) h = go (rowUnder v x) refl (recordsOf v xs) refl (λ ts. rows-are v xs ts ms) h
+rows-are v (x ∷ xs) rs (row-more m ms) h = go (rowUnder v x) refl (recordsOf v xs) refl (λ ts. rows-are v xs ts ms) h
   where
     go : (j : Judged) → rowUnder v x ≡ j → (y : Records) → recordsOf v xs ≡ y
         → ((ts : List Record) → recordsOf v xs ≡ Are ts → RowsAre v xs ts)
@@ -213,7 +213,7 @@ only-20 v rows size h = go (recordsOf v rows) refl h
 
     go : (x : Records) → recordsOf v rows ≡ x → wroteBy v size x ≡ Refused refusal.BadRecord → SomeBad v rows
     go BadRow q e = bad-some v rows q
-    go (Are rs) q e = absurd (other _ _ e)
+    go (Are rs) q e = absurd (other (hasRoom (length (traceText v rs)) size) (length (traceText v rs)) e)
 
 -- refusal 12 exactly if every row is a record and the text is over 65,536 bytes or longer than the buffer
 pub data TooLong (n size : ℕ) : Type 0 where
@@ -248,5 +248,4 @@ only-12 v rows size h = go (recordsOf v rows) refl h
 
     go : (x : Records) → recordsOf v rows ≡ x → wroteBy v size x ≡ Refused refusal.NoRoom → Long v rows size
     go BadRow q e = absurd (let z : _≡_ {A = ℕ} 0 1 = cc in omega arith)
-    go (Are rs) q e = which rs q _ _ refl refl e
-
+    go (Are rs) q e = which rs q (leb (length (traceText v rs)) longest) (leb (length (traceText v rs)) size) refl refl e

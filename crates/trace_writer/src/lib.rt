@@ -5,8 +5,8 @@ mod read;
 mod write;
 
 use kinds::Refusal;
-use trace::Version;
 pub use read::read_rows;
+use trace::Version;
 pub use write::write_trace;
 
 // The length of the text that was written, or refusal 20 or 12, with nothing written.

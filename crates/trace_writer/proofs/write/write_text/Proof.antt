@@ -67,8 +67,7 @@ loop-again c =
     let l = asked .before .before .before .loop in
     let a = asked .before .before .before .before .before .before .before .before .before .args in
     let e = sym (judged .judged .given .1) ∙ asked .row-under .ensures in
-    let p = put .«record» .ensures in
-    (
+    let p = put .«record» .ensures in (
       omega arith,
       p .size ∙ l .inv .1,
       left-next (a .version) (a .rows .now) _ (l .buf) (l .at) (l .i) _ (omega arith) e (l .inv .2) p,
