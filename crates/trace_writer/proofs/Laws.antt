@@ -1,20 +1,25 @@
 -- What is written is read back, what was read is written again byte for byte, no two runs have one text, and each refusal comes exactly
 -- when. The laws of texts are the trace's (trace/proofs/Grammar.antt), those of rows are record_rows' (record_rows/proofs/Laws.antt).
-use Prim.Native.Nat.{ℕ, _+_, _≤_, _<_}
+use Prim.Native.Nat.{ℕ, _+_, _*_, _≤_, _<_}
 use native.Mathlib.Omega.{arith}
 use native.Mathlib.Nat.{zero-add}
 use mathlib.Core.Path.{_≡_, refl, sym, ap, _∙_}
 use mathlib.Core.Bool.{Bool, true, false, cond, _&&_}
 use mathlib.Core.List.{List, [], _∷_, _++_}
 use lib.Dec.{leb}
-use lib.ListN.{length, take, drop}
+use lib.ListN.{length, take, drop, length-append}
 use borrow.Author.Tests.{le-leb, lt-leb, leb-true, leb-false}
 use Rattle.kinds.specs.declared.refusal.Refusal.the-variants as refusal
 use Rattle.text.specs.Write.{spliced}
+use Rattle.text.proofs.Decimal.{length-some}
 use Rattle.grammar.specs.Items.{none, also}
 use Rattle.grammar.specs.Texts.{Read, Whole}
+use Rattle.trace.specs.Op.{opName}
 use Rattle.trace.specs.Version.{allowed}
+use Rattle.trace.specs.Record.{recordText}
 use Rattle.trace.specs.Trace.{longest, traceText, AllExpressible, traceOf}
+use Rattle.trace.specs.declared.Op.{Op}
+use Rattle.trace.specs.declared.Op.the-variants.{Begin, End, Snap, Own, Oldest, Vacuum, Stamp, Finish}
 use Rattle.trace.specs.declared.Version.{Version}
 use Rattle.trace.specs.declared.Record.{Record}
 use Rattle.trace.proofs.Grammar.{accepted, accepts, one-text}
@@ -23,7 +28,7 @@ use Rattle.record_rows.specs.declared.RowIs.{RowIs}
 use Rattle.record_rows.specs.declared.RowIs.the-variants as row
 use Rattle.record_rows.proofs.Laws.{Machine, record-of-row, row-of-record}
 use Rattle.trace_writer.specs.Writing.{Records, Are, BadRow, withFirst, onJudged, allowedRecord, judged, rowUnder, recordsOf}
-use Rattle.trace_writer.specs.Writing.{listed, hasRoom, wroteBy, wroteOf, leftBy, leftOf}
+use Rattle.trace_writer.specs.Writing.{listed, hasRoom, recordsText, wroteBy, wroteOf, leftBy, leftOf}
 use Rattle.trace_writer.specs.Reading.{rowsOf, inFront, readOf, rowsLeft}
 use Rattle.trace_writer.specs.declared.Wrote.{Wrote}
 use Rattle.trace_writer.specs.declared.Wrote.the-variants.{Length, Refused}
@@ -32,6 +37,7 @@ use Rattle.trace_writer.specs.declared.measure.Judged.{Judged}
 use Rattle.trace_writer.specs.declared.measure.Judged.the-variants.{Good, Bad}
 use Rattle.trace_writer.proofs.Filling.{rows-many}
 use Rattle.trace_writer.proofs.Judging.{bad-run}
+use Rattle.trace_writer.proofs.Texts.{record-length, records-first, trace-length}
 
 -- rows as code has them: six machine numbers each
 pub data Machines : List (List ℕ) → Type 0 where
@@ -249,3 +255,50 @@ only-12 v rows size h = go (recordsOf v rows) refl h
     go : (x : Records) → recordsOf v rows ≡ x → wroteBy v size x ≡ Refused refusal.NoRoom → Long v rows size
     go BadRow q e = absurd (let z : _≡_ {A = ℕ} 0 1 = cc in omega arith)
     go (Are rs) q e = which rs q (leb (length (traceText v rs)) longest) (leb (length (traceText v rs)) size) refl refl e
+
+-- an accepted text, whatever the room for it
+pub again-wrote : (s : List ℕ) (v : Version) (rs : List Record) (size : ℕ) → traceOf s ≡ Whole v rs
+    → wroteOf v (rowsOf rs) size ≡ cond (leb (length s) size) (Length (length s)) (Refused refusal.NoRoom)
+unfolding wroteOf
+again-wrote s v rs size h =
+    let a = accepted s v rs h in
+    rw (records-are v rs (a .expressible), ← a .text, le-leb (length s) longest (a .short))
+
+pub again-left : (s : List ℕ) (v : Version) (rs : List Record) (xs : List ℕ) → traceOf s ≡ Whole v rs
+    → leftOf v (rowsOf rs) xs ≡ cond (leb (length s) (length xs)) (spliced xs 0 s) xs
+unfolding leftOf
+again-left s v rs xs h =
+    let a = accepted s v rs h in
+    rw (records-are v rs (a .expressible), ← a .text, le-leb (length s) longest (a .short))
+
+-- a record has 44 bytes at least, so a trace has 1,489 records at most
+name-least : (o : Op) → 4 ≤ length (opName o)
+name-least Begin = omega arith
+name-least End = omega arith
+name-least Snap = omega arith
+name-least Own = omega arith
+name-least Oldest = omega arith
+name-least Vacuum = omega arith
+name-least Stamp = omega arith
+name-least Finish = omega arith
+
+record-least : (r : Record) → 44 ≤ length (recordText r)
+record-least r =
+    let name = name-least (r .op) in
+    let slot = length-some (r .slot) in
+    let id = length-some (r .id) in
+    let stamp = length-some (r .stamp) in
+    let clock = length-some (r .clock) in
+    let sample = length-some (r .sample) in
+    omega (arith, record-length r)
+
+records-least : (rs : List Record) → 44 * length rs ≤ length (recordsText rs)
+records-least [] = omega arith
+records-least (r ∷ rs) =
+    let size = ap length (records-first r rs) ∙ length-append (recordText r) (recordsText rs) in
+    omega (arith, size, record-least r, records-least rs)
+
+pub most-records : (s : List ℕ) (v : Version) (rs : List Record) → traceOf s ≡ Whole v rs → length rs ≤ 1489
+most-records s v rs h =
+    let a = accepted s v rs h in
+    omega (arith, a .short, ap length (a .text), trace-length v rs, records-least rs)
