@@ -1,50 +1,65 @@
+-- 1,489 rows hold every trace, and the first n of them are its own (crate's proofs/Rewriting.antt).
+use mathlib.Core.Path.{sym, _∙_}
+use native.Mathlib.Omega.{arith}
+use lib.Seq.{length-take-le}
+use Rattle.rewrite.proofs.Rewriting.{got, read-refused, again}
 use borrow.Author.Needs.{needs}
 use Rattle.rewrite.proofs.again.rewrite.Statement.{statement}
 use Rattle.rewrite.proofs.again.rewrite.Tie as tie
-use Rattle.rewrite.proofs.again.rewrite.Reads as reads
-use Rattle.rewrite.proofs.again.rewrite.Lts as lts
-use Rattle.trace_writer.proofs.read_rows.Reads as read-rows-reads
-use Rattle.trace_writer.proofs.write_trace.Reads as write-trace-reads
 
--- src/again.rt:17:42
 slice-aggregate-read-rows : tie.Need-slice-aggregate-read-rows
 slice-aggregate-read-rows c = search needs
 
--- src/again.rt:17:9
 read-rows-requires : tie.Need-read-rows-requires
 read-rows-requires c κs = search needs
 
--- src/again.rt:19:27
 enum-known-got : tie.Need-enum-known-got
 enum-known-got c = search needs
 
--- src/again.rt:20:24
 enum-known-got-2 : tie.Need-enum-known-got-2
 enum-known-got-2 c = search needs
 
--- src/again.rt:20:74
 array-share-prefix-rows : tie.Need-array-share-prefix-rows
-array-share-prefix-rows c = ?
+array-share-prefix-rows c =
+    let known = c .before in
+    let asked = known .before .before .before in
+    let a = asked .before .before .before .before .args in
+    let e = sym (asked .read-rows .ensures .0) ∙ known .got2 .given .1 in
+    let g = got (a .s .now) _ (omega arith) _ _ e (asked .read-rows .ensures .1) in
+    g .inside
 
--- src/again.rt:20:74
 slice-aggregate-write-trace : tie.Need-slice-aggregate-write-trace
-slice-aggregate-write-trace c = ?
+slice-aggregate-write-trace c =
+    let known = c .before .before in
+    let asked = known .before .before .before in
+    let a = asked .before .before .before .before .args in
+    let e = sym (asked .read-rows .ensures .0) ∙ known .got2 .given .1 in
+    let g = got (a .s .now) _ (omega arith) _ _ e (asked .read-rows .ensures .1) in
+    sym (length-take-le _ _ (g .inside))
 
--- src/again.rt:20:39
 write-trace-requires : tie.Need-write-trace-requires
 write-trace-requires c κs = search needs
 
--- src/again.rt:12:1
 returns : tie.Need-returns
-returns c = ?
+returns c =
+    let known = c .before in
+    let asked = known .before .before .before in
+    let a = asked .before .before .before .before .args in
+    let e = sym (asked .read-rows .ensures .0) ∙ known .got .given .1 in
+    read-refused (a .s .now) _ (omega arith) _ e (a .out .now)
 
--- src/again.rt:12:1
 same-length : tie.Need-same-length
 same-length c = search needs
 
--- src/again.rt:12:1
 returns-2 : tie.Need-returns-2
-returns-2 c = ?
+returns-2 c =
+    let known = c .before .before .before .before .before .before in
+    let asked = known .before .before .before in
+    let a = asked .before .before .before .before .args in
+    let e = sym (asked .read-rows .ensures .0) ∙ known .got2 .given .1 in
+    let g = got (a .s .now) _ (omega arith) _ _ e (asked .read-rows .ensures .1) in
+    let put = c .before .before .write-trace .ensures in
+    again (a .s .now) _ _ _ (a .out .now) g (put .0) (put .1)
 
 pub rewrite-spec : {M : Type 1} → statement M
 rewrite-spec =
