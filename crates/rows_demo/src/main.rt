@@ -1,49 +1,58 @@
 // Writes the trace of rows that are given as numbers: on standard input a line `n=` and a number for each, first the
-// size of the buffer, then six for each row. Prints the answer, then the whole room that holds the buffer, so that
-// bytes past the text can be looked at. The tests put rows to it, good and bad.
+// size of the buffer and the number of rows, then six for each row. Prints the answer, then the whole buffer, which
+// held dots, so that bytes past the text can be looked at. The tests put rows to it, good and bad.
 use libc::STDIN_FILENO;
 use libc::STDOUT_FILENO;
 use text::Number;
 use trace::Version;
 use trace_writer::Wrote;
-ghost use Prim.Native.Nat.{_≤_};
-ghost use lib.ListN.{length};
 
 const INPUT: usize = 262144;
+
 const ROOM: usize = 65600;
+
 const MOST: usize = 1600;
 
-// As many rows as stand from `at` on and have a place.
-fn rows_from(s: &[u8], at: usize, rows: &mut [[u64; 6]]) -> usize
-    ensures { λ r. ⌜ r ≤ length (now (rows .exit)) ⌝ }
-{
+// A number and the place past its line; 0 where none stands.
+struct Found {
+    number: u64,
+    past: usize,
+}
+
+fn next_number(s: &[u8], at: usize) -> Found {
+    let found = text::field_at(s, at, b"n=", u64::MAX);
+    match found {
+        Number::Is(number, past) => Found { number, past },
+        Number::Bad => Found {
+            number: 0,
+            past: at,
+        },
+    }
+}
+
+// The rows that stand from `at` on, one for each place.
+fn fill(s: &[u8], at: usize, rows: &mut [[u64; 6]]) {
     let mut place = at;
     let mut k: usize = 0;
     while k < rows.len() {
-        let Number::Is(op, p) = text::field_at(s, place, b"n=", u64::MAX) else {
-            return k;
-        };
-        let Number::Is(slot, q) = text::field_at(s, p, b"n=", u64::MAX) else {
-            return k;
-        };
-        let Number::Is(id, r) = text::field_at(s, q, b"n=", u64::MAX) else {
-            return k;
-        };
-        let Number::Is(stamp, t) = text::field_at(s, r, b"n=", u64::MAX) else {
-            return k;
-        };
-        let Number::Is(clock, u) = text::field_at(s, t, b"n=", u64::MAX) else {
-            return k;
-        };
-        let Number::Is(sample, v) = text::field_at(s, u, b"n=", u64::MAX) else {
-            return k;
-        };
-        let row = [op, slot, id, stamp, clock, sample];
+        let op = next_number(s, place);
+        let slot = next_number(s, op.past);
+        let id = next_number(s, slot.past);
+        let stamp = next_number(s, id.past);
+        let clock = next_number(s, stamp.past);
+        let sample = next_number(s, clock.past);
+        let row = [
+            op.number,
+            slot.number,
+            id.number,
+            stamp.number,
+            clock.number,
+            sample.number,
+        ];
         rows[k] = row;
-        place = v;
+        place = sample.past;
         k += 1;
     }
-    k
 }
 
 fn say(wrote: Wrote) {
@@ -61,25 +70,34 @@ fn say(wrote: Wrote) {
     io::write_all(STDOUT_FILENO, b"\n");
 }
 
+fn write(rows: &[[u64; 6]], out: &mut [u8], bytes: usize) {
+    if bytes <= out.len() {
+        let part = &mut out[..bytes];
+        let wrote = trace_writer::write_trace(Version::Proc1, rows, part);
+        say(wrote);
+    }
+}
+
+fn write_some(rows: &[[u64; 6]], count: usize, out: &mut [u8], bytes: usize) {
+    if count <= rows.len() {
+        write(&rows[..count], out, bytes);
+    }
+}
+
+fn show(out: &[u8], bytes: usize) {
+    if bytes <= out.len() {
+        io::write_all(STDOUT_FILENO, &out[..bytes]);
+    }
+}
+
 fn main() {
     let mut input = [0u8; INPUT];
     let mut out = [b'.'; ROOM];
     let mut rows = [[0u64; 6]; MOST];
     let size = io::read_full(STDIN_FILENO, &mut input);
-    let s = &input[..size];
-    let first = text::field_at(s, 0, b"n=", 65600);
-    match first {
-        Number::Is(room, at) => {
-            let n = rows_from(s, at, &mut rows);
-            let room_size = room as usize;
-            if room_size <= ROOM {
-                let wrote = trace_writer::write_trace(Version::Proc1, &rows[..n], &mut out[..room_size]);
-                say(wrote);
-                io::write_all(STDOUT_FILENO, &out);
-            }
-        }
-        Number::Bad => {
-            io::write_all(STDOUT_FILENO, b"no size\n");
-        }
-    }
+    let room = next_number(&input[..size], 0);
+    let many = next_number(&input[..size], room.past);
+    fill(&input[..size], many.past, &mut rows);
+    write_some(&rows, many.number as usize, &mut out, room.number as usize);
+    show(&out, room.number as usize);
 }

@@ -22,3 +22,4 @@ pub mod sized;
 pub mod table;
 pub mod text;
 pub mod trace;
+pub mod writer;
