@@ -28,8 +28,22 @@ fn tell(number: u64, slot: u64, id: u64, seen: u64, value: u64) -> Told {
 }
 
 pub fn refusal(r: Refusal) -> Told {
-    let told = kinds::tell(r);
-    tell(told.number, told.slot, told.id, told.seen, 0)
+    match r {
+        Refusal::NoFreeSlot(txid) => tell(1, 0, txid.0, 0, 0),
+        Refusal::InvalidSlot(slot) => tell(2, slot.0 as u64, 0, 0, 0),
+        Refusal::SlotOwnershipMismatch {
+            slot,
+            expected,
+            observed,
+        } => tell(3, slot.0 as u64, expected.0, observed.0, 0),
+        Refusal::ZeroTxid => tell(4, 0, 0, 0, 0),
+        Refusal::ClockExhausted => tell(5, 0, 0, 0, 0),
+        Refusal::BadReservation => tell(6, 0, 0, 0, 0),
+        Refusal::BadClock => tell(7, 0, 0, 0, 0),
+        Refusal::BadSample => tell(8, 0, 0, 0, 0),
+        Refusal::BadTrace(_) => tell(9, 0, 0, 0, 0),
+        Refusal::BadSnapshot => tell(10, 0, 0, 0, 0),
+    }
 }
 
 pub fn begun(answer: Begun) -> Told {

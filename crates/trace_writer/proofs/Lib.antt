@@ -3,3 +3,4 @@ pub mod Judging
 pub mod Filling
 pub mod Answering
 pub mod Laws
+mod Examples
