@@ -1,6 +1,6 @@
 //! The rounds of each job over plain Rust, with the checksums that crates/bench makes over the proved calls.
 
-use crate::plain::{SLOTS, Table, is_settled, snapshot_in_array};
+use crate::plain::{SLOTS, Table, snapshot_in_array};
 
 /// All slots begin in order, then those end that the layout leaves empty.
 fn half_full(layout: u64) -> Table {
@@ -85,22 +85,6 @@ pub extern "C" fn oldest(layout: u64, rounds: u64) -> u64 {
             continue;
         };
         sum = sum.wrapping_add(xmin);
-    }
-    sum
-}
-
-#[inline(never)]
-pub extern "C" fn settled(layout: u64, rounds: u64) -> u64 {
-    let mut table = half_full(layout);
-    let clock = table.clock();
-    let s = table.snapshot(clock, clock).unwrap();
-    let mut sum = 0u64;
-    for round in 1..=rounds {
-        match is_settled(&s, round % SLOTS as u64 + 1) {
-            Ok(true) => sum = sum.wrapping_add(round),
-            Ok(false) => sum = sum.wrapping_add(1),
-            Err(_) => {}
-        }
     }
     sum
 }

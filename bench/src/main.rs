@@ -11,46 +11,31 @@ unsafe extern "C" {
     safe fn bench_slots() -> u64;
     safe fn bench_begin_end_by_value(layout: u64, rounds: u64) -> u64;
     safe fn bench_begin_end_lent(layout: u64, rounds: u64) -> u64;
-    safe fn bench_snapshot_by_value(layout: u64, rounds: u64) -> u64;
     safe fn bench_snapshot_lent(layout: u64, rounds: u64) -> u64;
-    safe fn bench_oldest_by_value(layout: u64, rounds: u64) -> u64;
     safe fn bench_oldest_lent(layout: u64, rounds: u64) -> u64;
-    safe fn bench_settled_by_value(layout: u64, rounds: u64) -> u64;
-    safe fn bench_settled_lent(layout: u64, rounds: u64) -> u64;
 }
 
 type Rounds = extern "C" fn(u64, u64) -> u64;
 
-/// A job's name, then plain Rust, the calls by value, the lent decisions.
-const JOBS: [(&str, [Rounds; 3]); 5] = [
+/// A job's name and how the table is passed, then plain Rust and the proved calls.
+const JOBS: [(&str, &str, [Rounds; 2]); 5] = [
     (
         "begin+end",
-        [
-            jobs::begin_end,
-            bench_begin_end_by_value,
-            bench_begin_end_lent,
-        ],
+        "by value",
+        [jobs::begin_end, bench_begin_end_by_value],
     ),
+    ("begin+end", "lent", [jobs::begin_end, bench_begin_end_lent]),
     (
         "snapshot (Rust: Vec)",
-        [jobs::snapshot, bench_snapshot_by_value, bench_snapshot_lent],
+        "lent",
+        [jobs::snapshot, bench_snapshot_lent],
     ),
     (
         "snapshot (Rust: array)",
-        [
-            jobs::fixed_snapshot,
-            bench_snapshot_by_value,
-            bench_snapshot_lent,
-        ],
+        "lent",
+        [jobs::fixed_snapshot, bench_snapshot_lent],
     ),
-    (
-        "oldest",
-        [jobs::oldest, bench_oldest_by_value, bench_oldest_lent],
-    ),
-    (
-        "settled",
-        [jobs::settled, bench_settled_by_value, bench_settled_lent],
-    ),
+    ("oldest", "lent", [jobs::oldest, bench_oldest_lent]),
 ];
 const LAYOUTS: [&str; 2] = ["lower half", "every second"];
 /// Where code and stack lie differs from process to process, and so do the times: each number is the middle of so many processes.
@@ -82,13 +67,13 @@ fn enough_rounds(job: Rounds, layout: u64, filling: f64) -> u64 {
     rounds
 }
 
-/// Nanoseconds of a round. The three take turns, so that what disturbs the machine disturbs all alike.
-fn measure(jobs: [Rounds; 3], layout: u64) -> [f64; 3] {
+/// Nanoseconds of a round. The two take turns, so that what disturbs the machine disturbs both alike.
+fn measure(jobs: [Rounds; 2], layout: u64) -> [f64; 2] {
     let fillings = jobs.map(|job| filling(job, layout));
-    let rounds: [u64; 3] = std::array::from_fn(|k| enough_rounds(jobs[k], layout, fillings[k]));
-    let mut least = [f64::INFINITY; 3];
+    let rounds: [u64; 2] = std::array::from_fn(|k| enough_rounds(jobs[k], layout, fillings[k]));
+    let mut least = [f64::INFINITY; 2];
     for _ in 0..SAMPLES {
-        for k in 0..3 {
+        for k in 0..2 {
             let spent = elapsed(jobs[k], layout, rounds[k]) - fillings[k];
             least[k] = least[k].min(spent / rounds[k] as f64);
         }
@@ -96,12 +81,12 @@ fn measure(jobs: [Rounds; 3], layout: u64) -> [f64; 3] {
     least
 }
 
-/// A line for each job and layout, with three times.
+/// A line for each job and layout, with two times.
 fn print_times() {
-    for (_, jobs) in JOBS {
+    for (_, _, jobs) in JOBS {
         for layout in 0..2 {
-            let [rust, value, lent] = measure(jobs, layout);
-            println!("{rust} {value} {lent}");
+            let [rust, proved] = measure(jobs, layout);
+            println!("{rust} {proved}");
         }
     }
 }
@@ -122,10 +107,10 @@ fn times_of_a_process() -> Vec<Vec<f64>> {
     text.lines().map(numbers).collect()
 }
 
-fn agree(jobs: [Rounds; 3], layout: u64) -> bool {
+fn agree(jobs: [Rounds; 2], layout: u64) -> bool {
     [0, 1, 2, 1_000, 4_321].into_iter().all(|rounds| {
-        let sums = jobs.map(|job| job(layout, rounds));
-        sums[0] == sums[1] && sums[0] == sums[2]
+        let [rust, proved] = jobs.map(|job| job(layout, rounds));
+        rust == proved
     })
 }
 
@@ -138,10 +123,10 @@ fn check_answers() {
         );
         exit(1);
     }
-    for (name, jobs) in JOBS {
+    for (name, form, jobs) in JOBS {
         for layout in 0..2 {
             if !agree(jobs, layout) {
-                eprintln!("{name}, layout {layout}: the answers differ");
+                eprintln!("{name}, {form}, layout {layout}: the answers differ");
                 exit(1);
             }
         }
@@ -152,10 +137,10 @@ fn print_table() {
     let runs: Vec<_> = (0..PROCESSES).map(|_| times_of_a_process()).collect();
     println!("{} slots, half full; the answers agree.", plain::SLOTS);
     println!("ns per round: the middle of {PROCESSES} processes (least to most).\n");
-    println!("| job | taken | plain Rust | by value | lent | by value / Rust | lent / Rust |");
-    println!("|---|---|---|---|---|---|---|");
-    for (row, (name, _)) in JOBS.iter().flat_map(|job| [job, job]).enumerate() {
-        let sorted: [Vec<f64>; 3] = std::array::from_fn(|k| {
+    println!("| job | table | taken | plain Rust | proved | proved / Rust |");
+    println!("|---|---|---|---|---|---|");
+    for (row, (name, form, _)) in JOBS.iter().flat_map(|job| [job, job]).enumerate() {
+        let sorted: [Vec<f64>; 2] = std::array::from_fn(|k| {
             let mut times: Vec<f64> = runs.iter().map(|run| run[row][k]).collect();
             times.sort_by(f64::total_cmp);
             times
@@ -169,13 +154,9 @@ fn print_table() {
                 sorted[k][PROCESSES - 1]
             )
         };
-        let ratio = |k: usize| middle(k) / middle(0);
-        let (taken, rust, value, lent) = (LAYOUTS[row % 2], cell(0), cell(1), cell(2));
-        println!(
-            "| {name} | {taken} | {rust} | {value} | {lent} | {:.2} | {:.2} |",
-            ratio(1),
-            ratio(2)
-        );
+        let (taken, rust, proved) = (LAYOUTS[row % 2], cell(0), cell(1));
+        let ratio = middle(1) / middle(0);
+        println!("| {name} | {form} | {taken} | {rust} | {proved} | {ratio:.2} |");
     }
 }
 

@@ -4,7 +4,7 @@
 #[path = "../../tests/twin/src/table.rs"]
 mod table;
 
-pub use table::{Refusal, SLOTS, Snapshot, Table};
+pub use table::{Refusal, SLOTS, Table};
 
 /// The snapshot for hosts that may not allocate: the ids in an array.
 pub struct FixedSnapshot {
@@ -38,11 +38,4 @@ pub fn snapshot_in_array(
         ids,
         count,
     })
-}
-
-pub fn is_settled(snapshot: &Snapshot, id: u64) -> Result<bool, Refusal> {
-    if id == 0 {
-        return Err(Refusal::ZeroTxid);
-    }
-    Ok(id < snapshot.xmax && !snapshot.in_flight.contains(&id))
 }

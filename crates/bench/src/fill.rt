@@ -1,6 +1,6 @@
 // Half-full tables in two layouts.
 use kinds::SLOTS;
-use model::Table;
+use table::Table;
 
 // Layout 0 takes the lower half of the slots, any other takes every second slot.
 fn is_taken(layout: u64, slot: usize) -> bool {
@@ -23,6 +23,6 @@ pub fn half_full(layout: u64) -> Table {
             t.snapshot_xmins[at] = id;
         }
     }
-    t.clock = kinds::saturating_next(i as u64);
+    t.counters.clock = kinds::saturating_next(i as u64);
     t
 }

@@ -1,8 +1,8 @@
-// The four jobs that bench/ times: each is done over and over on a half-full table, and answers a checksum.
+// The jobs that bench/ times: each is done over and over on a half-full table, and answers a checksum. All lend the columns;
+// begin and end also pass the table by value, which shows what its copies cost.
 mod begin_end;
 mod fill;
 mod oldest;
-mod settle;
 mod snapshot;
 
 use kinds::SLOTS;
@@ -28,38 +28,14 @@ pub extern "C" fn bench_begin_end_lent(layout: u64, rounds: u64) -> u64 {
     begin_end::lent(layout, rounds)
 }
 
-// A plain snapshot, the table passed by value.
-#[no_mangle]
-pub extern "C" fn bench_snapshot_by_value(layout: u64, rounds: u64) -> u64 {
-    snapshot::by_value(layout, rounds)
-}
-
 // A plain snapshot, the column lent.
 #[no_mangle]
 pub extern "C" fn bench_snapshot_lent(layout: u64, rounds: u64) -> u64 {
     snapshot::lent(layout, rounds)
 }
 
-// The oldest retained xmin, the table passed by value.
-#[no_mangle]
-pub extern "C" fn bench_oldest_by_value(layout: u64, rounds: u64) -> u64 {
-    oldest::by_value(layout, rounds)
-}
-
 // The oldest retained xmin, the columns lent.
 #[no_mangle]
 pub extern "C" fn bench_oldest_lent(layout: u64, rounds: u64) -> u64 {
     oldest::lent(layout, rounds)
-}
-
-// The settled test, the snapshot passed by value.
-#[no_mangle]
-pub extern "C" fn bench_settled_by_value(layout: u64, rounds: u64) -> u64 {
-    settle::by_value(layout, rounds)
-}
-
-// The settled test, the snapshot's ids lent.
-#[no_mangle]
-pub extern "C" fn bench_settled_lent(layout: u64, rounds: u64) -> u64 {
-    settle::lent(layout, rounds)
 }

@@ -1,6 +1,5 @@
 // A round takes a plain snapshot one tick later, and reads one place of its list.
 use crate::fill::half_full;
-use changes::Counters;
 use kinds::SLOTS;
 use std::num::wrapping_add_u64;
 
@@ -13,40 +12,19 @@ fn marked(sum: u64, round: u64, xmin: u64, xmax: u64, ids: &[u64; SLOTS], count:
     wrapping_add_u64(with_count, ids[at])
 }
 
-pub fn by_value(layout: u64, rounds: u64) -> u64 {
-    let mut t = half_full(layout);
-    let mut sum: u64 = 0;
-    let mut i: u64 = 0;
-    while i < rounds {
-        i += 1;
-        let clock = kinds::saturating_next(t.clock);
-        let answered = table::create_snapshot(t, clock, clock);
-        let after = answered.table;
-        let s = answered.snapshot;
-        t = after;
-        sum = marked(sum, i, s.xmin, s.xmax, &s.ids, s.count);
-    }
-    sum
-}
-
 pub fn lent(layout: u64, rounds: u64) -> u64 {
     let mut t = half_full(layout);
     let mut sum: u64 = 0;
     let mut i: u64 = 0;
     while i < rounds {
         i += 1;
-        let clock = kinds::saturating_next(t.clock);
-        let was = Counters {
-            clock: t.clock,
-            sampled_clock: t.sampled_clock,
-            line: t.line,
-        };
-        let decided = snapshots::decide_snap(&t.txids, was, clock, clock);
+        let clock = kinds::saturating_next(t.counters.clock);
+        let decided = table::decide_snap(&t.txids, t.counters, clock, clock);
         let s = decided.snapshot;
         let change = decided.change;
         let now = change.counters;
-        t.clock = now.clock;
-        t.sampled_clock = now.sampled_clock;
+        t.counters.clock = now.clock;
+        t.counters.sampled_clock = now.sampled_clock;
         sum = marked(sum, i, s.xmin, s.xmax, &s.ids, s.count);
     }
     sum

@@ -1,4 +1,5 @@
--- What the numbers for a C host say of the replay's own answers.
+-- What the numbers for a C host say of the replay's own answers, case by case of the answer. The numbers stand in specs/Status.antt, the
+-- answers in crate replay (specs/Into, specs/Sent).
 use Prim.Native.Nat.{ℕ, _≤_}
 use mathlib.Core.Path.{_≡_, refl, sym, _∙_}
 use mathlib.Core.Bool.{true, false}

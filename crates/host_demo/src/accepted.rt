@@ -1,13 +1,13 @@
 // Each call accepted, on a table where slot 0 holds 5 and retains 3; clock 9, sample 3, line 3.
+use crate::calls::begin;
+use crate::calls::end;
+use crate::calls::finish;
+use crate::calls::oldest;
+use crate::calls::own;
+use crate::calls::snap;
+use crate::calls::stamp;
+use crate::calls::vacuum;
 use crate::say::word;
-use crate::steps::begin;
-use crate::steps::end;
-use crate::steps::finish;
-use crate::steps::oldest;
-use crate::steps::own;
-use crate::steps::snap;
-use crate::steps::stamp;
-use crate::steps::vacuum;
 use crate::tables::one;
 
 pub fn each_call() {

@@ -1,27 +1,22 @@
-// A host that owns its columns: a decision says the answer and the change, and the host stores the change.
-use crate::answers;
+// A host that owns its table in place: a decision says the answer and the change, and the host stores the change.
+use crate::calls::answered;
 use crate::say;
 use kinds::Stamp;
-use table::Counters;
 
 // A begin. No table is copied.
 pub fn begin() {
     let mut t = table::fresh();
-    let was = Counters {
-        clock: t.clock,
-        sampled_clock: t.sampled_clock,
-        line: t.line,
-    };
-    let decided = table::decide_begin(&t.txids, was, Stamp(5));
+    let decided = table::decide_begin(&t.txids, t.counters, Stamp(5));
     let change = decided.change;
-    table::store_at(&mut t.txids, change.at, change.txid);
-    table::store_at(&mut t.snapshot_xmins, change.at, change.snapshot_xmin);
+    let slot = change.slot;
+    table::store_txid(&mut t.txids, slot);
+    table::store_xmin(&mut t.snapshot_xmins, slot);
     let now = change.counters;
-    t.clock = now.clock;
-    t.sampled_clock = now.sampled_clock;
-    t.line = now.line;
-    let answer = decided.answer;
+    t.counters.clock = now.clock;
+    t.counters.sampled_clock = now.sampled_clock;
+    t.counters.vacuum_line = now.vacuum_line;
     say::word(b"part=in place\nbegin 5");
-    answers::say(answers::begun(answer));
+    let answer = decided.answer;
+    answered(answer);
     say::table(t);
 }

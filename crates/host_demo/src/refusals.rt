@@ -1,21 +1,22 @@
 // Every refusal of every call, with what it carries; the table stays, but for refusal 1. The first lines of a call go
 // through its order of checks: each is refused while the conditions of all later checks hold too.
+use crate::calls::begin;
+use crate::calls::end;
+use crate::calls::finish;
+use crate::calls::oldest;
+use crate::calls::own;
+use crate::calls::snap;
+use crate::calls::stamp;
+use crate::calls::vacuum;
 use crate::say::word;
-use crate::steps::begin;
-use crate::steps::end;
-use crate::steps::finish;
-use crate::steps::oldest;
-use crate::steps::own;
-use crate::steps::snap;
-use crate::steps::stamp;
-use crate::steps::vacuum;
-use crate::tables::exhausted;
+use crate::tables::begun;
 use crate::tables::full;
 use crate::tables::one;
 use kinds::SLOTS;
 
 // 5, 6, 1, and 5, 6. The first line takes the last number of a full table. 5 is never alone: no number is good then.
-fn of_begin_and_stamp() {
+pub fn of_begin_and_stamp() {
+    word(b"part=refusals\n");
     let taken = full();
     let last = stamp(taken, u64::MAX - 1);
     begin(last, 0);
@@ -30,8 +31,8 @@ fn of_begin_and_stamp() {
     stamp(t, u64::MAX);
 }
 
-// 2, 4, 3.
-fn of_end() {
+// 2, 4, 3; of finish then 5, 6.
+pub fn of_end_and_finish() {
     let t = one();
     end(t, SLOTS as u16, 0);
     end(t, 0, 0);
@@ -39,16 +40,11 @@ fn of_end() {
     end(t, 1, 5);
     end(t, SLOTS as u16, 5);
     end(t, 65535, 5);
-}
-
-// 2, 4, 3, 5, 6.
-fn of_finish() {
-    let last = exhausted();
+    let last = begun(table::fresh(), u64::MAX - 1);
     finish(last, SLOTS as u16, 0, 0);
     finish(last, 0, 0, 0);
     finish(last, 0, 7, 0);
     finish(last, 0, u64::MAX - 1, 0);
-    let t = one();
     finish(t, 0, 5, 0);
     finish(t, 0, 5, 8);
     finish(t, 0, 5, u64::MAX);
@@ -56,8 +52,8 @@ fn of_finish() {
     finish(t, SLOTS as u16, 5, 9);
 }
 
-// 2, 4, 3, 7, 8.
-fn of_own() {
+// Of own 2, 4, 3, 7, 8; of the others 7, 8.
+pub fn of_observations() {
     let t = one();
     own(t, SLOTS as u16, 0, 8, 0);
     own(t, 0, 0, 8, 0);
@@ -67,11 +63,6 @@ fn of_own() {
     own(t, 0, 5, 9, 10);
     own(t, 1, 5, 9, 9);
     own(t, SLOTS as u16, 5, 9, 9);
-}
-
-// 7, 8.
-fn of_observations() {
-    let t = one();
     snap(t, 8, 0);
     snap(t, 9, 0);
     snap(t, 9, 10);
@@ -81,13 +72,4 @@ fn of_observations() {
     vacuum(t, 8, 0);
     vacuum(t, 9, 0);
     vacuum(t, 9, 10);
-}
-
-pub fn each_call() {
-    word(b"part=refusals\n");
-    of_begin_and_stamp();
-    of_end();
-    of_finish();
-    of_own();
-    of_observations();
 }

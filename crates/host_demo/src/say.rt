@@ -1,10 +1,6 @@
 // Words and numbers on standard output.
 use kinds::SLOTS;
-use model::Table;
-use settled::Snapshot;
-
-// How many numbers a line has at most.
-const MOST: usize = 6;
+use table::Table;
 
 pub fn word(text: &[u8]) {
     io::write_all(1, text);
@@ -22,14 +18,8 @@ fn decimal(n: u64) {
     }
 }
 
-pub fn number(key: &[u8], n: u64) {
-    word(key);
-    decimal(n);
-}
-
 // A text whose `#` are the numbers, in their order.
-pub fn line(text: &[u8], a: u64, b: u64, c: u64, d: u64, e: u64, f: u64) {
-    let numbers = [a, b, c, d, e, f];
+pub fn line(text: &[u8], numbers: &[u64]) {
     let mut used: usize = 0;
     let mut i: usize = 0;
     while i < text.len() {
@@ -39,45 +29,28 @@ pub fn line(text: &[u8], a: u64, b: u64, c: u64, d: u64, e: u64, f: u64) {
             word(&text[from..i]);
             continue;
         }
-        if used < MOST {
+        if used < numbers.len() {
             decimal(numbers[used]);
             used += 1;
         }
     }
 }
 
-// A snapshot, with three places of its list.
-pub fn snapshot(s: Snapshot) {
-    let count = s.count as u64;
-    line(
-        b" xmin=# xmax=# count=# ids=#,#,#",
-        s.xmin,
-        s.xmax,
-        count,
-        s.ids[0],
-        s.ids[1],
-        s.ids[2],
-    );
-}
-
 // The end of a line: a table, with three of its slots.
 pub fn table(t: Table) {
+    let counters = t.counters;
     line(
-        b" | clock=# sample=# line=# slots=",
-        t.clock,
-        t.sampled_clock,
-        t.line,
-        0,
-        0,
-        0,
-    );
-    line(
-        b"#/#,#/#,#/#\n",
-        t.txids[0],
-        t.snapshot_xmins[0],
-        t.txids[1],
-        t.snapshot_xmins[1],
-        t.txids[2],
-        t.snapshot_xmins[2],
+        b" | clock=# sample=# line=# slots=#/#,#/#,#/#\n",
+        &[
+            counters.clock,
+            counters.sampled_clock,
+            counters.vacuum_line,
+            t.txids[0],
+            t.snapshot_xmins[0],
+            t.txids[1],
+            t.snapshot_xmins[1],
+            t.txids[2],
+            t.snapshot_xmins[2],
+        ],
     );
 }

@@ -1,6 +1,5 @@
 // The settled test, by value and on a snapshot's parts, lent. The first two snapshots are those of docs/DIFFERENCES.md,
 // D11: PostgreSQL's own example, 10:20:10,14,15, and 12:20:10, whose listed id is below xmin.
-use crate::answers;
 use crate::say;
 use kinds::SLOTS;
 use kinds::Txid;
@@ -28,7 +27,7 @@ fn number(answer: Settled) -> u64 {
         Settled::Yes => 1,
         Settled::No => 0,
         Settled::Refused(r) => {
-            let told = answers::refusal(r);
+            let told = kinds::tell(r);
             told.number
         }
     }
@@ -37,20 +36,15 @@ fn number(answer: Settled) -> u64 {
 fn ask(s: Snapshot, id: u64) {
     let by_value = number(settled::is_settled(s, Txid(id)));
     let lent = number(settled::is_settled_among(&s.ids, s.count, s.xmax, Txid(id)));
-    let count = s.count as u64;
     say::line(
         b"xmin=# count=# id=#: settled=# among=#\n",
-        s.xmin,
-        count,
-        id,
-        by_value,
-        lent,
-        0,
+        &[s.xmin, s.count as u64, id, by_value, lent],
     );
 }
 
-// 16 stands past the count.
-fn of_the_manual() {
+// Of the first snapshot 16 stands past the count. The last two have the largest count, and one more.
+pub fn vectors() {
+    say::word(b"part=settled\n");
     let s = to_20(10, 3);
     ask(s, 9);
     ask(s, 10);
@@ -61,12 +55,6 @@ fn of_the_manual() {
     ask(s, 16);
     ask(s, 19);
     ask(s, 20);
-}
-
-// The largest count, and one more.
-pub fn vectors() {
-    say::word(b"part=settled\n");
-    of_the_manual();
     let badly_formed = to_20(12, 1);
     ask(badly_formed, 10);
     ask(badly_formed, 11);

@@ -12,7 +12,7 @@ use borrow.Author.Tests.{ltb-true, leb-true, eqb-true, eqb-false, lt-ltb, le-leb
 use Rattle.settled.specs.Settled.{listed}
 use Rattle.settled.proofs.Listed.{place-listed, listed-place}
 use Rattle.model.specs.declared.Table.{Table}
-use Rattle.model.specs.Tables.{freshTable}
+use Rattle.model.specs.Tables.{freshTable, clockOf, sampleOf, lineOf}
 use Rattle.model.specs.Calls.{Call, after}
 use Rattle.model.specs.Check.{slotPasses, slotsPass, differ, numbersPass, passes, tablePasses}
 use Rattle.model.specs.Facts.{SlotGood, empty, taken, Good}
@@ -113,13 +113,13 @@ differ-from (x ∷ xs) d =
 pub passes-good : (n : ℕ) (t : Table) → tablePasses n t ≡ true → Good n t
 unfolding passes
 passes-good n t e =
-    let (a, b) = and-eq-true-iff (numbersPass n (length (t .txids)) (t .counters .clock) (t .counters .«sampled_clock») (t .counters .«vacuum_line»)) _ .0 e in
-    let (s, d) = and-eq-true-iff (slotsPass (t .counters .clock) (t .counters .«vacuum_line») (t .txids) (t .«snapshot_xmins»)) (differ (t .txids)) .0 b in
+    let (a, b) = and-eq-true-iff (numbersPass n (length (t .txids)) (clockOf t) (sampleOf t) (lineOf t)) _ .0 e in
+    let (s, d) = and-eq-true-iff (slotsPass (clockOf t) (lineOf t) (t .txids) (t .«snapshot_xmins»)) (differ (t .txids)) .0 b in
     let (a₁, r₁) = and-eq-true-iff (eqb (length (t .txids)) n) _ .0 a in
-    let (a₂, r₂) = and-eq-true-iff (leb 1 (t .counters .«sampled_clock»)) _ .0 r₁ in
-    let (a₃, r₃) = and-eq-true-iff (leb (t .counters .«sampled_clock») (t .counters .clock)) _ .0 r₂ in
-    let (a₄, a₅) = and-eq-true-iff (leb 1 (t .counters .«vacuum_line»)) (leb (t .counters .«vacuum_line») (t .counters .clock)) .0 r₃ in
-    let (l, f) = slots-to (t .counters .clock) (t .counters .«vacuum_line») (t .txids) (t .«snapshot_xmins») s in
+    let (a₂, r₂) = and-eq-true-iff (leb 1 (sampleOf t)) _ .0 r₁ in
+    let (a₃, r₃) = and-eq-true-iff (leb (sampleOf t) (clockOf t)) _ .0 r₂ in
+    let (a₄, a₅) = and-eq-true-iff (leb 1 (lineOf t)) (leb (lineOf t) (clockOf t)) .0 r₃ in
+    let (l, f) = slots-to (clockOf t) (lineOf t) (t .txids) (t .«snapshot_xmins») s in
     record {
       txid-column = eqb-true _ _ a₁;
       xmin-column = sym l ∙ eqb-true _ _ a₁;
@@ -136,11 +136,11 @@ unfolding passes
 good-passes n t g =
     rw (
       eq-eqb (length (t .txids)) n (g .txid-column),
-      le-leb 1 (t .counters .«sampled_clock») (g .sample-from-1),
-      le-leb (t .counters .«sampled_clock») (t .counters .clock) (g .sample-to-clock),
-      le-leb 1 (t .counters .«vacuum_line») (g .line-from-1),
-      le-leb (t .counters .«vacuum_line») (t .counters .clock) (g .line-to-clock),
-      slots-from (t .counters .clock) (t .counters .«vacuum_line») (t .txids) (t .«snapshot_xmins») (equally-long n t g) (g .each),
+      le-leb 1 (sampleOf t) (g .sample-from-1),
+      le-leb (sampleOf t) (clockOf t) (g .sample-to-clock),
+      le-leb 1 (lineOf t) (g .line-from-1),
+      le-leb (lineOf t) (clockOf t) (g .line-to-clock),
+      slots-from (clockOf t) (lineOf t) (t .txids) (t .«snapshot_xmins») (equally-long n t g) (g .each),
       differ-from (t .txids) (g .differ),
     )
 

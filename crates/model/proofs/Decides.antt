@@ -13,7 +13,8 @@ use Rattle.model.specs.declared.answer.Answer.the-variants.{Refused}
 use Rattle.model.specs.declared.answer.Decision.{Decision}
 use Rattle.model.specs.declared.answer.SnapshotDecision.{SnapshotDecision}
 use Rattle.model.specs.Changes.{change}
-use Rattle.model.specs.Calls.{Call, refusal, changeAccepted, spent, changeOf, answerAccepted, answer, shownAccepted, shown, decision, snapshotDecision}
+use Rattle.model.specs.Calls.{Call, refusal, changeAccepted, spent, changeOf, answerAccepted, answer, shownAccepted, shown}
+use Rattle.model.specs.Calls.{decision, snapshotDecision}
 use Rattle.model.specs.Deeds.{opens}
 use Rattle.model.proofs.Refused.{refused-kept}
 

@@ -17,7 +17,8 @@ use Rattle.model.specs.Tally.{active, retained, lowestEmpty, minimum, ma
 use Rattle.model.specs.declared.answer.Answer.the-variants.{Begun, Done, Oldest, Line, Stamped, Refused}
 use Rattle.model.specs.Answers.{tellsOf, xminTold, numbersOf, numbersBeside}
 use Rattle.model.specs.Tables.{freshTable}
-use Rattle.model.specs.Calls.{Call, begin, end, snap, own, vacuum, stamp, finish, refusal, changeAccepted, changeOf, spent, after, answerAccepted, answer, shownAccepted, shown}
+use Rattle.model.specs.Calls.{Call, begin, end, snap, own, vacuum, stamp, finish, refusal, changeAccepted, changeOf, spent, after}
+use Rattle.model.specs.Calls.{answerAccepted, answer, shownAccepted, shown}
 use Rattle.model.specs.Check.{slotsPass, differ, passes, tablePasses}
 use Rattle.model.specs.Accepted.{Registered}
 use Rattle.model.specs.History.{run, reached, Accepts, lastFrom, lastOwn}
@@ -68,7 +69,8 @@ pub replaced-snapshot :
     (lastOwn 2 (slot 1) (txid 2) untilFirst ≡ some firstSnapshot)
     × (lastOwn 2 (slot 1) (txid 2) untilSecond ≡ some secondSnapshot)
     × (lineAfter 2 untilSecond ≡ 2)
-unfolding freshTable run active retained lowestEmpty minimum maximum refusal changeAccepted changeOf after snapshotOf shownAccepted shown lastFrom
+unfolding freshTable run active retained lowestEmpty minimum maximum refusal changeAccepted changeOf after snapshotOf
+    shownAccepted shown lastFrom
 replaced-snapshot = (refl, refl, refl)
 
 pub replaced-not-covered : SettledBelow (lineAfter 2 untilSecond) firstSnapshot → ⊥
@@ -119,7 +121,8 @@ pub full-table :
     × (refusal 2 (reached 2 full) (begin (number 3)) ≡ Refuse (NoFreeSlot (txid 3)))
     × (reached 2 fullRefused .counters .clock ≡ 4)
     × (reservations 2 fullRefused ≡ 1 ∷ 2 ∷ 3 ∷ [])
-unfolding freshTable run active lowestEmpty refusal consumed changeAccepted changeOf spent after slotsPass differ listed passes reservationsFrom
+unfolding freshTable run active lowestEmpty refusal consumed changeAccepted changeOf spent after slotsPass differ listed passes
+    reservationsFrom
 full-table = (refl, refl, refl, refl, refl)
 
 pub full-next :

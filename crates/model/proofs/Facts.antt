@@ -20,7 +20,8 @@ use Rattle.model.proofs.Tally.{minimum-start, minimum-member, minimum-b
 use Rattle.model.proofs.Accepted.{accepted-acceptable}
 use Rattle.model.proofs.Transactions.{registered-taken}
 use Rattle.model.proofs.Calls.{afterAccepted, after-cases}
-use Rattle.model.proofs.Does.{Does, stands, enters, leaves, retakes, does, SampleMoves, sample-stays, sample-observed, LineMoves, line-stays, line-raised, Counts, counts-on}
+use Rattle.model.proofs.Does.{Does, stands, enters, leaves, retakes, does, SampleMoves, sample-stays, sample-observed, LineMoves}
+use Rattle.model.proofs.Does.{line-stays, line-raised, Counts, counts-on}
 use Rattle.model.proofs.Moves.{equally-long, is-taken, CountersFit, SlotFits, good-applied, good-fresh}
 
 -- an own xmin is from 1 to the owner's txid

@@ -21,7 +21,8 @@ use Rattle.model.specs.declared.Table.{Table}
 use Rattle.model.specs.declared.answer.Answer.the-variants.{Line}
 use Rattle.model.specs.Tables.{freshTable, lineOf}
 use Rattle.model.specs.Changes.{applied}
-use Rattle.model.specs.Calls.{Call, own, vacuum, refusal, changeAccepted, changeBy, changeOf, after, answerAccepted, answerBy, answer, shown}
+use Rattle.model.specs.Calls.{Call, own, vacuum, refusal, changeAccepted, changeBy, changeOf, after, answerAccepted, answerBy}
+use Rattle.model.specs.Calls.{answer, shown}
 use Rattle.model.specs.Deeds.{takesSnapshot}
 use Rattle.model.specs.Accepted.{Registered, Owns}
 use Rattle.model.specs.History.{run, reached, Accepts, lastFrom, lastOwn, IsLast}

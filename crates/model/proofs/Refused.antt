@@ -18,6 +18,7 @@ use Rattle.kinds.specs.Refusals.{consumed}
 use Rattle.kinds.specs.Verdicts.{then, zeroTest}
 use Rattle.kinds.proofs.Verdicts.{refuse-not-pass, same-refusal}
 use Rattle.model.specs.declared.Table.{Table}
+use Rattle.model.specs.Tables.{clockOf}
 use Rattle.model.specs.Tally.{lowestEmpty}
 use Rattle.model.specs.Tests.{slotTest, holderTest, ownerTest, reservationTest, fullTest, observationTest}
 use Rattle.model.specs.Calls.{Call, begin, end, snap, own, oldest, vacuum, stamp, finish, refusal, spent}
@@ -29,7 +30,7 @@ use Rattle.model.proofs.Tests.{reserves}
 pub data Declined (n : ℕ) (t : Table) (c : Call) (r : Refusal) : Type 0 where
   stays : consumed r ≡ [] → Declined n t c r
   spends :
-      (number : Stamp) → c ≡ begin number → r ≡ NoFreeSlot (txidOf number) → Reserves (t .counters .clock) (number .0) →
+      (number : Stamp) → c ≡ begin number → r ≡ NoFreeSlot (txidOf number) → Reserves (clockOf t) (number .0) →
       n ≤ lowestEmpty (t .txids) → Declined n t c r
 
 -- what a verdict consumes
@@ -66,40 +67,40 @@ observation-uses former clock sample =
 
 begin-declined :
     (n : ℕ) (t : Table) (number : Stamp) (r : Refusal) →
-    then (reservationTest (t .counters .clock) number) (fullTest n (t .txids) number) ≡ Refuse r → Declined n t (begin number) r
-begin-declined n t number r e = first (reservationTest (t .counters .clock) number) refl e
+    then (reservationTest (clockOf t) number) (fullTest n (t .txids) number) ≡ Refuse r → Declined n t (begin number) r
+begin-declined n t number r e = first (reservationTest (clockOf t) number) refl e
   where
     second :
-        reservationTest (t .counters .clock) number ≡ Pass → (b : Bool) → leb n (lowestEmpty (t .txids)) ≡ b →
+        reservationTest (clockOf t) number ≡ Pass → (b : Bool) → leb n (lowestEmpty (t .txids)) ≡ b →
         cond b (Refuse (NoFreeSlot (txidOf number))) Pass ≡ Refuse r → Declined n t (begin number) r
     second p true q h =
-        spends number refl (sym (same-refusal _ r h)) (reserves (t .counters .clock) number p) (leb-true n (lowestEmpty (t .txids)) q)
+        spends number refl (sym (same-refusal _ r h)) (reserves (clockOf t) number p) (leb-true n (lowestEmpty (t .txids)) q)
     second p false q h = absurd (refuse-not-pass r (sym h))
 
     first :
-        (v : Verdict) → reservationTest (t .counters .clock) number ≡ v → then v (fullTest n (t .txids) number) ≡ Refuse r →
+        (v : Verdict) → reservationTest (clockOf t) number ≡ v → then v (fullTest n (t .txids) number) ≡ Refuse r →
         Declined n t (begin number) r
     first Pass p h = second p (leb n (lowestEmpty (t .txids))) refl h
-    first (Refuse s) p h = stays (sym (ap uses h) ∙ sym (ap uses p) ∙ reservation-uses (t .counters .clock) number)
+    first (Refuse s) p h = stays (sym (ap uses h) ∙ sym (ap uses p) ∙ reservation-uses (clockOf t) number)
 
 pub declined : (n : ℕ) (t : Table) (c : Call) (r : Refusal) → refusal n t c ≡ Refuse r → Declined n t c r
 unfolding refusal
 declined n t (begin number) r e = begin-declined n t number r e
 declined n t (end slot id) r e = stays (sym (ap uses e) ∙ owner-uses n (t .txids) slot id)
-declined n t (snap clock sample) r e = stays (sym (ap uses e) ∙ observation-uses (t .counters .clock) clock sample)
+declined n t (snap clock sample) r e = stays (sym (ap uses e) ∙ observation-uses (clockOf t) clock sample)
 declined n t (own slot id clock sample) r e =
     stays
     (sym (ap uses e)
-    ∙ then-uses (ownerTest n (t .txids) slot id) (observationTest (t .counters .clock) clock sample)
-    (owner-uses n (t .txids) slot id) (observation-uses (t .counters .clock) clock sample))
-declined n t (oldest clock sample) r e = stays (sym (ap uses e) ∙ observation-uses (t .counters .clock) clock sample)
-declined n t (vacuum clock sample) r e = stays (sym (ap uses e) ∙ observation-uses (t .counters .clock) clock sample)
-declined n t (stamp number) r e = stays (sym (ap uses e) ∙ reservation-uses (t .counters .clock) number)
+    ∙ then-uses (ownerTest n (t .txids) slot id) (observationTest (clockOf t) clock sample)
+    (owner-uses n (t .txids) slot id) (observation-uses (clockOf t) clock sample))
+declined n t (oldest clock sample) r e = stays (sym (ap uses e) ∙ observation-uses (clockOf t) clock sample)
+declined n t (vacuum clock sample) r e = stays (sym (ap uses e) ∙ observation-uses (clockOf t) clock sample)
+declined n t (stamp number) r e = stays (sym (ap uses e) ∙ reservation-uses (clockOf t) number)
 declined n t (finish slot id number) r e =
     stays
     (sym (ap uses e)
-    ∙ then-uses (ownerTest n (t .txids) slot id) (reservationTest (t .counters .clock) number)
-    (owner-uses n (t .txids) slot id) (reservation-uses (t .counters .clock) number))
+    ∙ then-uses (ownerTest n (t .txids) slot id) (reservationTest (clockOf t) number)
+    (owner-uses n (t .txids) slot id) (reservation-uses (clockOf t) number))
 
 -- every refusal but a begin's leaves the counters
 pub refused-kept :

@@ -1,4 +1,5 @@
--- Texts written one after the other are one text.
+-- Texts written one after the other are one text. What an inner writer leaves is `Wrote` (specs/Wrote.antt); what stays around a text
+-- that is put into a buffer is of crate text (proofs/Splice).
 use Prim.Native.Nat.{ℕ, _+_, _-_, _*_, _≤_, _<_, _^_}
 use mathlib.Core.Path.{_≡_, refl, sym, ap, _∙_}
 use mathlib.Core.List.{List, [], _∷_, _++_, append-assoc, append-nil}

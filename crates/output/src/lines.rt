@@ -86,8 +86,12 @@ fn has_room(size: usize, at: usize, count: usize) -> bool
 
 // The eight lines and a line for each of the first `count` ids, where they have room.
 pub fn put_answer(buf: &mut [u8], at: usize, n: Numbers, ids: &[u64]) -> Put
-    ensures { λ r. do ⌜ r ≡ putText (← ⟦kinds::SLOTS⟧ .entry) (now (buf .entry)) at (n .count) (answerText n (take (n .count) (now (ids .entry)))) ⌝ }
-    ensures { λ _. do ⌜ now (buf .exit) ≡ leftText (← ⟦kinds::SLOTS⟧ .entry) (now (buf .entry)) at (n .count) (answerText n (take (n .count) (now (ids .entry)))) ⌝ }
+    ensures { λ r. do
+      slots ← ⟦kinds::SLOTS⟧ .entry
+      ⌜ r ≡ putText slots (now (buf .entry)) at (n .count) (answerText n (take (n .count) (now (ids .entry)))) ⌝ }
+    ensures { λ _. do
+      slots ← ⟦kinds::SLOTS⟧ .entry
+      ⌜ now (buf .exit) ≡ leftText slots (now (buf .entry)) at (n .count) (answerText n (take (n .count) (now (ids .entry)))) ⌝ }
 {
     let count = n.count;
     if has_room(buf.len(), at, count) {

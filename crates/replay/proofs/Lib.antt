@@ -7,3 +7,5 @@ pub mod Room
 pub mod Next
 pub mod Pieces
 pub mod Sending
+pub mod Tied
+pub mod Examples

@@ -1,4 +1,5 @@
--- What was put at a buffer's start: the last line has room in 29 bytes and refusal 9 in 33, whatever their numbers.
+-- What was put at a buffer's start: the last line has room in 29 bytes and refusal 9 in 33, whatever their numbers (the longest number
+-- has 20 digits: crate text, proofs/Decimal).
 use Prim.Native.Nat.{ℕ, _+_, _≤_, _<_, _^_}
 use mathlib.Core.Path.{_≡_, sym, ap, _∙_}
 use mathlib.Core.List.{List}

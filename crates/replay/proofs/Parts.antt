@@ -1,4 +1,5 @@
--- Parts of a run, one after the other, are the run; and a replay that went in whole is what the trace prints.
+-- Parts of a run, one after the other, are the run (by induction on the records); and a replay that went in whole is what the trace
+-- prints. What a part is stands in specs/Part.antt, what goes into a buffer in specs/Into.antt.
 use Prim.Native.Nat.{ℕ, _+_, _≤_}
 use mathlib.Core.Path.{_≡_, refl, sym, ap, _∙_}
 use mathlib.Core.Bool.{Bool, true, false, cond}

@@ -1,4 +1,5 @@
--- The pieces in which a text is handed on: one after the other they are the text, and there are no more than records and one.
+-- The pieces in which a text is handed on: one after the other they are the text, and there are no more than records and one. What
+-- pieces are stands in specs/Sent.antt; that a part leaves fewer records, in Room.antt.
 use Prim.Native.Nat.{ℕ, zero, suc, _+_, _≤_, _<_, _^_}
 use mathlib.Core.Path.{_≡_, refl, sym, ap, subst, _∙_}
 use mathlib.Core.Bool.{Bool, true, false}

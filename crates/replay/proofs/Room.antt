@@ -1,4 +1,5 @@
--- A record has room where a full table's ids would have it, so a part of a run in an empty buffer goes on.
+-- A record has room where a full table's ids would have it, so a part of a run in an empty buffer goes on. That no snapshot lists more
+-- ids than there are slots is of crate model (proofs/Tally).
 use Prim.Native.Nat.{ℕ, _+_, _-_, _≤_}
 use mathlib.Core.Path.{_≡_, refl}
 use mathlib.Core.Bool.{Bool, true, false, cond}

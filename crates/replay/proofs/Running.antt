@@ -1,4 +1,5 @@
--- Where a run of records stands: what it has printed, and that the rest of the run goes on from here.
+-- Where a run of records stands. The invariant of `run_part`, `Running`: what was printed stands at the buffer's start, and the part of
+-- all the records is that text and the part of the records left, from the table as it is now. What a part is stands in specs/Part.antt.
 use Prim.Native.Nat.{ℕ, _+_, _≤_}
 use mathlib.Core.Path.{_≡_, refl, sym, ap, _∙_}
 use mathlib.Core.Bool.{Bool, true, false}

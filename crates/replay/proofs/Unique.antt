@@ -1,4 +1,4 @@
--- At most one outcome fits what a replay into a buffer promises.
+-- At most one outcome fits what a replay into a buffer promises: both fields of `IntoFits` are equations (specs/Into.antt).
 use Prim.Native.Nat.{ℕ}
 use mathlib.Core.Path.{_≡_, sym, _∙_}
 use mathlib.Core.List.{List}

@@ -1,4 +1,5 @@
--- A whole replay into a buffer, by what was read and how far its records went.
+-- A whole replay into a buffer, by what was read and how far its records went: what `replay_into` promises, from what `run_part` did.
+-- The promise stands in specs/Into.antt; the loop's invariant is `Running`, in Running.antt.
 use Prim.Native.Nat.{ℕ, _+_}
 use mathlib.Core.Path.{_≡_, refl, sym, ap, _∙_}
 use mathlib.Core.Bool.{Bool, true, false}
@@ -29,7 +30,9 @@ use Rattle.replay.specs.declared.into.Replayed.the-variants.{Written, No
 
 module _ (n : ℕ) (s xs : List ℕ) where
   -- what is left at the buffer's start says all of it
-  fits-by : {ys : List ℕ} {r : Replayed} (i : Into) → intoOf n (length xs) s ≡ i → r ≡ replayed i → ys ≡ spliced xs 0 (textIn i) → IntoFits n s xs ys r
+  fits-by :
+      {ys : List ℕ} {r : Replayed} (i : Into) → intoOf n (length xs) s ≡ i → r ≡ replayed i → ys ≡ spliced xs 0 (textIn i) →
+      IntoFits n s xs ys r
   fits-by i e a b = record { says = rw e a; text = rw e b }
 
   pub into-broken : (line : ℕ) {ys : List ℕ} {r : Replayed} → reading s ≡ reads.Broken line → BrokenFits line xs ys r → IntoFits n s xs ys r
@@ -54,7 +57,9 @@ module _ (n : ℕ) (s xs : List ℕ) where
       unfolding intoOf part
       into-is = let b = opened s version count e in rw (b .records) (rw (b .many))
 
-      pub into-whole : {zs : List ℕ} {r : Replayed} → at ≡ length s → length ys ≡ length xs → EndFits count filled ys zs r → IntoFits n s xs zs r
+      pub into-whole :
+          {zs : List ℕ} {r : Replayed} → at ≡ length s → length ys ≡ length xs → EndFits count filled ys zs r →
+          IntoFits n s xs zs r
       unfolding written part
       into-whole {zs} {r} h k f = go (leb (length (part .text) + length (lineText recordsKey count)) (length xs)) refl
         where
@@ -68,9 +73,10 @@ module _ (n : ℕ) (s xs : List ℕ) where
           go true q =
               let says = rw (p .filled, k, q) at (f .says) in
               let text = rw (p .filled, k, q) at (f .text) in
-              fits-by (whole (part .text ++ lineText recordsKey count)) (ended ∙ rw q)
-              (says ∙ ap Written (sym (length-append (part .text) (lineText recordsKey count))))
-              (text ∙ rw (p .text) (rw (zero-add (length (part .text))) at (splice-append xs 0 (part .text) (lineText recordsKey count) (omega arith))))
+              let last = lineText recordsKey count in
+              let both = rw (zero-add (length (part .text))) at (splice-append xs 0 (part .text) last (omega arith)) in
+              fits-by (whole (part .text ++ last)) (ended ∙ rw q)
+              (says ∙ ap Written (sym (length-append (part .text) last))) (text ∙ rw (p .text) both)
           go false q =
               let says = rw (p .filled, k, q) at (f .says) in
               let text = rw (p .filled, k, q) at (f .text) in

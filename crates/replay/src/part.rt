@@ -14,7 +14,9 @@ pub struct Progress {
 
 // Runs the records from `from` on until none is left, or the next one has no room.
 pub fn run_part(s: &[u8], from: usize, table: Table, buf: &mut [u8]) -> Progress
-    ensures { λ r. do ⌜ (Boundary (now (s .entry)) from → PartFits (← ⟦kinds::SLOTS⟧ .entry) (now (s .entry)) from table (now (buf .entry)) (now (buf .exit)) r) ⌝ }
+    ensures { λ r. do
+      slots ← ⟦kinds::SLOTS⟧ .entry
+      ⌜ (Boundary (now (s .entry)) from → PartFits slots (now (s .entry)) from table (now (buf .entry)) (now (buf .exit)) r) ⌝ }
 {
     let mut t = table;
     let mut at = from;

@@ -1,4 +1,4 @@
--- The number is read off what the reading gave.
+-- The number is read off what the reading gave (crate's proofs/Answers.antt).
 use borrow.Author.Needs.{needs}
 use Rattle.exports.specs.Status.{all, failed}
 use Rattle.exports.proofs.Answers.{input-inside}

@@ -1,4 +1,4 @@
--- The buffer is the replay's; the number is read off its answer.
+-- The buffer is the replay's; the number is read off its answer (crate's proofs/Answers.antt).
 use borrow.Author.Needs.{needs}
 use Rattle.exports.proofs.Answers.{whole-answered, cut-answered}
 use Rattle.exports.proofs.sockhurdle_replay.Statement.{statement}

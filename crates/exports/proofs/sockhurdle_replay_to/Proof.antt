@@ -1,4 +1,4 @@
--- The number is read off how the replay ended.
+-- The number is read off how the replay ended (crate's proofs/Answers.antt).
 use borrow.Author.Needs.{needs}
 use Rattle.exports.specs.Status.{done, refused, unwritten}
 use Rattle.exports.proofs.Answers.{all-is-trace, refused-is-none}

@@ -1,4 +1,4 @@
--- What was read lies inside the buffer; the number is the replay's, or 2.
+-- What was read lies inside the buffer; the number is the replay's, or 2 (crate's proofs/Answers.antt).
 use mathlib.Core.Path.{sym}
 use native.Mathlib.Omega.{arith}
 use lib.Seq.{length-take-le}

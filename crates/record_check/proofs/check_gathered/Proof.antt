@@ -9,7 +9,8 @@ check-columns-requires c κs = search needs
 
 returns : tie.Need-returns
 returns c =
-    let s = c .before .before .before .before .before .before in
+    let lent = c .before .before .before in
+    let s = lent .before .before .before in
     by-length (s .args .t1) _ (s .good .0) (s .args .clock) (s .args .sample) (s .args .line) _ (c .check-columns .ensures)
 
 pub check-gathered-spec : {M : Type 1} → statement M

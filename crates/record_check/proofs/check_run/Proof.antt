@@ -5,9 +5,11 @@ use lib.Dec.{eqb→eq, lit<}
 use denote.Ask.Bracket.{ask-in}
 use denote.Ask.Quote.{gives}
 use denote.Plain.{Boolean}
-use Rattle.hand_proofs.proofs.Words.{_≡_, refl, sym, _∙_, ap, ℕ, _<_, _^_, List, [], _∷_, Bool, false, URA, Heap, Lfts, Shares, Lft, RefT, now}
+use Rattle.hand_proofs.proofs.Words.{_≡_, refl, sym, _∙_, ap, ℕ, _<_, _^_, List, [], _∷_, Bool, false, URA, Heap, Lfts, Shares, Lft, RefT}
+use Rattle.hand_proofs.proofs.Words.{now}
 use Rattle.hand_proofs.proofs.Words.{u64, w64, vint, vbool, Val, Room, sliceVal, Is, emp, via, ent, fact, factI, id⊢}
-use Rattle.hand_proofs.proofs.Words.{World, Promise, promise, Callee, Proved, Call, Tokens, Reached, Walk, world, known, proves, walks, ends, leaves, frame}
+use Rattle.hand_proofs.proofs.Words.{World, Promise, promise, Callee, Proved, Call, Tokens, Reached, Walk, world, known, proves, walks}
+use Rattle.hand_proofs.proofs.Words.{ends, leaves, frame}
 use Rattle.hand_proofs.proofs.Words.{number, lent, word, truth, owned, made, _$_, _∵_, !, raw, qed, by, drop, move, first-only, atRet, exec}
 use Rattle.hand_proofs.proofs.Words.{sets, sets-last, local, member, locals, of-opd, bin, constant, false-lit, no-more, first, branches}
 use Rattle.hand_proofs.proofs.Words.{hands, hands-none, calls, calls-last, lands, lands-last}

@@ -9,12 +9,16 @@ use prog.Wp.{afterTurn}
 use denote.Index.{row}
 use denote.Slice.{shr-slice-copy}
 use denote.Struct.Laws as LL
-use Rattle.hand_proofs.proofs.Words.{_≡_, refl, sym, _∙_, ap, subst, ℕ, _+_, _-_, _*_, _<_, _≤_, _^_, List, [], _∷_, _++_, Bool, true, false, not}
-use Rattle.hand_proofs.proofs.Words.{URA, Heap, Env, Lfts, Shares, RefT, now, u64, named, w64, vint, vbool, tyBool, tyPtr, Val, ShrSlice, Room, sliceVal}
-use Rattle.hand_proofs.proofs.Words.{Is, Fml, fat, froom, fullShare, emp, factI, id⊢, World, Promise, promise, Callee, Proved, Call, Tokens, Reached, Walk}
+use Rattle.hand_proofs.proofs.Words.{_≡_, refl, sym, _∙_, ap, subst, ℕ, _+_, _-_, _*_, _<_, _≤_, _^_, List, [], _∷_, _++_, Bool, true}
+use Rattle.hand_proofs.proofs.Words.{false, not}
+use Rattle.hand_proofs.proofs.Words.{URA, Heap, Env, Lfts, Shares, RefT, now, u64, named, w64, vint, vbool, tyBool, tyPtr, Val, ShrSlice}
+use Rattle.hand_proofs.proofs.Words.{Room, sliceVal}
+use Rattle.hand_proofs.proofs.Words.{Is, Fml, fat, froom, fullShare, emp, factI, id⊢, World, Promise, promise, Callee, Proved, Call}
+use Rattle.hand_proofs.proofs.Words.{Tokens, Reached, Walk}
 use Rattle.hand_proofs.proofs.Words.{world, known, proves, walks-if, ends, leaves, frame, deaths, cells, by-value, lent, word, owned, made}
 use Rattle.hand_proofs.proofs.Words.{Item, _$_, !, ‵, raw, _⊛_, by, move, drop, use1, split, rewrite, back, first-only, empties}
-use Rattle.hand_proofs.proofs.Words.{local, member, through, locals, sets, resets, resets-last, assigns, store-raw, of-opd, bin, lit, addr, agg, and-then}
+use Rattle.hand_proofs.proofs.Words.{local, member, through, locals, sets, resets, resets-last, assigns, store-raw, of-opd, bin, lit}
+use Rattle.hand_proofs.proofs.Words.{addr, agg, and-then}
 use Rattle.hand_proofs.proofs.Words.{no-more, from, stop, hands, calls, lands, spreads, gathers, takes, puts}
 use Rattle.hand_proofs.proofs.Words.{Turn, goes-on, rounds, stays, leaves-loop, exec, atRet}
 use Rattle.record_check.specs.Run.{emptySlot, txidsOf, xminsOf, columnsOf}

@@ -2,9 +2,11 @@
 -- The code has no check of the bound: the contract asks for it.
 use lib.ListN.{length, getD}
 use native.Mathlib.Omega.{arith}
-use Rattle.hand_proofs.proofs.Words.{refl, ℕ, _*_, _<_, _^_, List, [], _∷_, URA, Heap, Lfts, Shares, RefT, now, w64, vint, Val, Room, sliceVal}
+use Rattle.hand_proofs.proofs.Words.{refl, ℕ, _*_, _<_, _^_, List, [], _∷_, URA, Heap, Lfts, Shares, RefT, now, w64, vint, Val, Room}
+use Rattle.hand_proofs.proofs.Words.{sliceVal}
 use Rattle.hand_proofs.proofs.Words.{emp, id⊢, factI, World, Promise, promise, Proved, Call, Walk, world, proves, walks-if, ends, leaves}
-use Rattle.hand_proofs.proofs.Words.{number, lent, owned, _$_, !, by, first-only, sets, local, member, through, of-opd, bin, lit, load, look-raw, looks, shuts}
+use Rattle.hand_proofs.proofs.Words.{number, lent, owned, _$_, !, by, first-only, sets, local, member, through, of-opd, bin, lit, load}
+use Rattle.hand_proofs.proofs.Words.{look-raw, looks, shuts}
 use Rattle.record_check.specs.Run.{emptySlot}
 use Rattle.record_check.specs.declared.Slot.{Slot}
 use Rattle.record_check.proofs.Types.{slot}

@@ -1,3 +1,4 @@
+-- Both columns are zeros, and the three counters 1.
 use Rattle.model.specs.Tables.{freshTable}
 use borrow.Author.Needs.{needs}
 use Rattle.table.proofs.fresh.Statement.{statement}

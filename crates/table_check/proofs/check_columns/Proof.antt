@@ -1,3 +1,4 @@
+-- Three parts in order: the numbers, the slots, the txids. The first that fails decides.
 use Rattle.model.specs.Check.{passes}
 use borrow.Author.Needs.{needs}
 use Rattle.table_check.proofs.check_columns.Statement.{statement}

@@ -1,3 +1,4 @@
+-- Of the answers nothing is said. The loop ends: each turn leaves fewer rounds.
 use Prim.Native.Nat.{_≤_, _-_}
 use borrow.Author.Needs.{needs}
 use Rattle.bench.proofs.begin_end.by_value.Statement.{statement}
@@ -23,9 +24,6 @@ begin-transaction-requires c κs = search needs
 
 enum-known-begun : tie.Need-enum-known-begun Inv-loop μ-loop
 enum-known-begun c = search needs
-
-enum-told : tie.Need-enum-told Inv-loop μ-loop
-enum-told c = search needs
 
 loop-less : tie.Need-loop-less Inv-loop μ-loop
 loop-less c = search needs
@@ -59,7 +57,6 @@ by-value-spec =
     add-i
     begin-transaction-requires
     enum-known-begun
-    enum-told
     loop-less
     loop-again
     end-transaction-requires

@@ -1,3 +1,4 @@
+-- Of the answers nothing is said. The loop ends: each turn leaves fewer rounds, which its far end finds at the loop's test.
 use Prim.Native.Nat.{_≤_, _-_}
 use native.Mathlib.Omega.{arith}
 use borrow.Author.Needs.{needs}
@@ -22,17 +23,14 @@ add-i c = search needs
 decide-begin-requires : tie.Need-decide-begin-requires Inv-loop μ-loop
 decide-begin-requires c κs = search needs
 
-store-at-requires : tie.Need-store-at-requires Inv-loop μ-loop
-store-at-requires c κs = search needs
+store-txid-requires : tie.Need-store-txid-requires Inv-loop μ-loop
+store-txid-requires c κs = search needs
 
-store-at-requires-2 : tie.Need-store-at-requires-2 Inv-loop μ-loop
-store-at-requires-2 c κs = search needs
+store-xmin-requires : tie.Need-store-xmin-requires Inv-loop μ-loop
+store-xmin-requires c κs = search needs
 
 enum-known-begun : tie.Need-enum-known-begun Inv-loop μ-loop
 enum-known-begun c = search needs
-
-enum-told : tie.Need-enum-told Inv-loop μ-loop
-enum-told c = search needs
 
 loop-less : tie.Need-loop-less Inv-loop μ-loop
 loop-less c = search needs
@@ -43,20 +41,32 @@ loop-again c = search needs
 decide-end-requires : tie.Need-decide-end-requires Inv-loop μ-loop
 decide-end-requires c κs = search needs
 
-store-at-requires-3 : tie.Need-store-at-requires-3 Inv-loop μ-loop
-store-at-requires-3 c κs = search needs
+store-txid-requires-2 : tie.Need-store-txid-requires-2 Inv-loop μ-loop
+store-txid-requires-2 c κs = search needs
 
-store-at-requires-4 : tie.Need-store-at-requires-4 Inv-loop μ-loop
-store-at-requires-4 c κs = search needs
+store-xmin-requires-2 : tie.Need-store-xmin-requires-2 Inv-loop μ-loop
+store-xmin-requires-2 c κs = search needs
 
 marked-requires : tie.Need-marked-requires Inv-loop μ-loop
 marked-requires c κs = search needs
 
 loop-less-2 : tie.Need-loop-less-2 Inv-loop μ-loop
-loop-less-2 c = omega (arith, c .before .before .before .before .before .before .before .before .before .before .before .before .before .before .before .before .before .before .before .before .before .before .before .loop-test .taken)
+loop-less-2 c =
+    let decided = c .before .before .before .before .before in
+    let asked = decided .before .before .before .before .before in
+    let stored = asked .before .before .before .before .before in
+    let begun = stored .before .before .before .before .before in
+    let round = begun .before .before .before .before .before in
+    omega (arith, round .loop-test .taken)
 
 loop-again-2 : tie.Need-loop-again-2 Inv-loop μ-loop
-loop-again-2 c = omega (arith, c .before .before .before .before .before .before .before .before .before .before .before .before .before .before .before .before .before .before .before .before .before .before .before .loop-test .taken)
+loop-again-2 c =
+    let decided = c .before .before .before .before .before in
+    let asked = decided .before .before .before .before .before in
+    let stored = asked .before .before .before .before .before in
+    let begun = stored .before .before .before .before .before in
+    let round = begun .before .before .before .before .before in
+    omega (arith, round .loop-test .taken)
 
 returns : tie.Need-returns Inv-loop μ-loop
 returns c = search needs
@@ -71,15 +81,14 @@ lent-spec =
     loop-holds
     add-i
     decide-begin-requires
-    store-at-requires
-    store-at-requires-2
+    store-txid-requires
+    store-xmin-requires
     enum-known-begun
-    enum-told
     loop-less
     loop-again
     decide-end-requires
-    store-at-requires-3
-    store-at-requires-4
+    store-txid-requires-2
+    store-xmin-requires-2
     marked-requires
     loop-less-2
     loop-again-2

@@ -1,3 +1,4 @@
+-- The loop stays within the columns, and ends: each turn leaves fewer numbers above i.
 use Prim.Native.Nat.{_≤_, _-_}
 use borrow.Author.Needs.{needs}
 use Rattle.bench.proofs.fill.half_full.Statement.{statement}

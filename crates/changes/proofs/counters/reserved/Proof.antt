@@ -1,3 +1,4 @@
+-- The one number asked for is the one that the definition names.
 use borrow.Author.Needs.{needs}
 use Rattle.changes.proofs.counters.reserved.Statement.{statement}
 use Rattle.changes.proofs.counters.reserved.Tie as tie

@@ -6,10 +6,10 @@ use Rattle.host_demo.proofs.say.line.Statement.{statement}
 use Rattle.host_demo.proofs.say.line.Tie as tie
 
 abbrev Inv-loop : tie.InvT-loop
-Inv-loop text a b c d e f numbers used₀ i₀ used i = i ≤ length text
+Inv-loop text numbers used₀ i₀ used i = i ≤ length text
 
 abbrev μ-loop : tie.MeasureT-loop
-μ-loop text a b c d e f numbers used₀ i₀ used i = length text - i
+μ-loop text numbers used₀ i₀ used i = length text - i
 
 loop-holds : tie.Need-loop-holds Inv-loop μ-loop
 loop-holds c = search needs
@@ -41,8 +41,8 @@ loop-again c = search needs
 mul-decimal : tie.Need-mul-decimal Inv-loop μ-loop
 mul-decimal c = search needs
 
-array-read-decimal : tie.Need-array-read-decimal Inv-loop μ-loop
-array-read-decimal c = search needs
+shared-slice-read-decimal : tie.Need-shared-slice-read-decimal Inv-loop μ-loop
+shared-slice-read-decimal c = search needs
 
 decimal-requires : tie.Need-decimal-requires Inv-loop μ-loop
 decimal-requires c κs = search needs
@@ -81,7 +81,7 @@ line-spec =
     loop-less
     loop-again
     mul-decimal
-    array-read-decimal
+    shared-slice-read-decimal
     decimal-requires
     add-used
     loop-less-2

@@ -1,3 +1,4 @@
+-- Two tests and a comparison, which are those of `fits` (specs/Output.antt): a place past the end leaves no room.
 use Prim.Native.Nat.{_+_, _*_, _-_}
 use borrow.Author.Tests.{lt-leb, le-leb}
 use native.Mathlib.Omega.{arith}
@@ -10,7 +11,8 @@ returns c = rw (lt-leb _ _ (c .if1 .taken))
 
 returns-2 : tie.Need-returns-2
 returns-2 c =
-    let none = lt-leb (224 + 24 * c .before .before .args .count) (c .before .before .args .size - c .before .before .args .at) (omega arith) in
+    let a = c .before .before .args in
+    let none = lt-leb (224 + 24 * a .count) (a .size - a .at) (omega arith) in
     rw (le-leb _ _ (c .before .if1 .left), none)
 
 mul-result : tie.Need-mul-result

@@ -1,3 +1,5 @@
+-- Invariant: the lines of the first i ids stand from `at` on, and `past` is the place after them, at most 24 bytes for each (`Wrote`;
+-- its laws, and that one line more is one id more, stand in the crate's proofs/Wrote.antt).
 use Prim.Native.Nat.{ℕ, _≤_, _-_, _*_, min}
 use mathlib.Core.Path.{_≡_, sym, ap, _∙_}
 use native.Mathlib.Omega.{arith}
@@ -39,8 +41,10 @@ shared-slice-read-id c = search needs
 
 in-line-requires : tie.Need-in-line-requires Inv-loop μ-loop
 in-line-requires c κs =
-    let l = c .before .before .before .before .loop in
-    omega (arith, l .inv .1 .size, l .inv .1 .short, c .before .before .before .before .before .before .before .pre)
+    let looped = c .before .before .before .before in
+    let wrote = looped .loop .inv .1 in
+    let s = looped .before .before .before in
+    omega (arith, wrote .size, wrote .short, s .pre)
 
 add-i : tie.Need-add-i Inv-loop μ-loop
 add-i c = search needs
@@ -50,11 +54,14 @@ loop-less c = search needs
 
 loop-again : tie.Need-loop-again Inv-loop μ-loop
 loop-again c =
-    let l = c .before .before .before .before .before .before .before .loop in
-    let s = c .before .before .before .before .before .before .before .before .before .before in
+    let called = c .before .before in
+    let looped = called .before .before .before .before .before in
+    let l = looped .loop in
+    let s = looped .before .before .before in
     let a = s .args in
     let start : a .at ≤ length (a .buf .now) = omega (arith, s .pre) in
-    (omega arith, wrote-same (one-more-id (a .ids .now) (l .i) (omega arith)) (wrote-at-most (omega arith) (wrote-then start (l .inv .1) (c .before .before .in-line .ensures))))
+    let both = wrote-then start (l .inv .1) (called .in-line .ensures) in
+    (omega arith, wrote-same (one-more-id (a .ids .now) (l .i) (omega arith)) (wrote-at-most (omega arith) both))
 
 same-length-2 : tie.Need-same-length-2 Inv-loop μ-loop
 same-length-2 c = c .before .loop .inv .1 .size

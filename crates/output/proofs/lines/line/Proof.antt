@@ -1,3 +1,4 @@
+-- There is room for the longest number, so the line is put and the other arm is not reached (crate's proofs/Wrote.antt).
 use Rattle.output.proofs.Wrote.{line-wrote, line-put-there}
 use borrow.Author.Needs.{needs}
 use Rattle.output.proofs.lines.line.Statement.{statement}
@@ -17,18 +18,22 @@ same-length c = search needs
 
 returns : tie.Need-returns
 returns c =
-    let a = c .before .before .before .before .before .before .before .before .before .args in
-    let p = c .before .before .before .before .before .put-line in
-    line-wrote (a .buf .now) (a .at) (a .key .now) (a .n) (c .before .before .before .before .before .before .before .before .before .fits .n .fits) (c .before .before .before .before .before .before .before .before .before .pre) (p .ensures .0) (p .ensures .1) (c .before .put .given .1)
+    let called = c .before .before .before .before .before in
+    let s = called .before .before .before .before in
+    let a = s .args in
+    let put = called .put-line .ensures in
+    line-wrote (a .buf .now) (a .at) (a .key .now) (a .n) (s .fits .n .fits) (s .pre) (put .0) (put .1) (c .before .put .given .1)
 
 same-length-2 : tie.Need-same-length-2
 same-length-2 c = search needs
 
 returns-2 : tie.Need-returns-2
 returns-2 c =
-    let a = c .before .before .before .before .before .before .before .before .args in
-    let p = c .before .before .before .before .put-line in
-    absurd (line-put-there (a .buf .now) (a .at) (a .key .now) (a .n) (c .before .before .before .before .before .before .before .before .fits .n .fits) (c .before .before .before .before .before .before .before .before .pre) (p .ensures .0) (c .enum-told .given .1))
+    let called = c .before .before .before .before in
+    let s = called .before .before .before .before in
+    let a = s .args in
+    let put = called .put-line .ensures in
+    absurd (line-put-there (a .buf .now) (a .at) (a .key .now) (a .n) (s .fits .n .fits) (s .pre) (put .0) (c .enum-told .given .1))
 
 pub line-spec : {M : Type 1} → statement M
 line-spec =

@@ -14,8 +14,9 @@ has-room-requires c κs = search needs
 
 told-lines-requires : tie.Need-told-lines-requires
 told-lines-requires c κs =
-    let a = c .before .before .before .before .before .before .args in
-    let e = sym (c .before .before .before .has-room .ensures) ∙ c .before .before .if1 .taken in
+    let tested = c .before .before in
+    let a = tested .before .before .before .before .args in
+    let e = sym (tested .before .has-room .ensures) ∙ tested .if1 .taken in
     omega (arith, fits-room _ (a .buf .now) (a .at) (a .n .count) e)
 
 rest-lines-requires : tie.Need-rest-lines-requires

@@ -1,4 +1,4 @@
--- Two of the numbers are asked for; the others are handed on.
+-- Two of the numbers are asked for; the others are handed on: `numbersOf` (crate model, specs/Answers) opened.
 use Rattle.model.specs.Answers.{numbersOf}
 use borrow.Author.Needs.{needs}
 use Rattle.output.proofs.numbers.numbers_of.Statement.{statement}

@@ -1,4 +1,4 @@
--- Each case of an answer: what the case of `tellsOf` tells, by the arm that was taken.
+-- Each case of an answer: what the case of `tellsOf` (crate model, specs/Answers) tells, by the arm that was taken.
 use Rattle.model.specs.Answers.{tellsOf}
 use borrow.Author.Needs.{needs}
 use Rattle.output.proofs.numbers.tells_of.Statement.{statement}

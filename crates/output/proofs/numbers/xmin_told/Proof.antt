@@ -1,4 +1,4 @@
--- Each case of an answer, by the arm that was taken.
+-- Each case of an answer, by the arm that was taken: the cases of `xminTold` (crate model, specs/Answers).
 use Rattle.model.specs.Answers.{xminTold}
 use borrow.Author.Needs.{needs}
 use Rattle.output.proofs.numbers.xmin_told.Statement.{statement}

@@ -9,10 +9,14 @@ use denote.Ask.Asked.{asked}
 use denote.Memory.{pointee}
 use denote.Array.{Array}
 use borrow.Table.Elements.{length-take-le}
-use Rattle.hand_proofs.proofs.Words.{_≡_, refl, sym, subst, ℕ, _+_, _*_, _<_, _≤_, _^_, List, [], _∷_, Bool, URA, Heap, SProp, emp, fact, id⊢}
-use Rattle.hand_proofs.proofs.Words.{Ty, erased, u64, w64, vint, fat, fullShare, Room, sliceVal, sliceTy, Is, Plain, word, truth, row-of, owned, made}
-use Rattle.hand_proofs.proofs.Words.{World, Promise, promise, Callee, Proved, Call, Walk, world, known, proves, walks-if, ends-as, leaves, by-value, number}
-use Rattle.hand_proofs.proofs.Words.{_$_, !, ‵, by, move, keep, drop, rewrite, back, sets, local, locals, of-opd, agg, addr, and-then, no-more, from, stop}
+use Rattle.hand_proofs.proofs.Words.{_≡_, refl, sym, subst, ℕ, _+_, _*_, _<_, _≤_, _^_, List, [], _∷_, Bool, URA, Heap, SProp, emp, fact}
+use Rattle.hand_proofs.proofs.Words.{id⊢}
+use Rattle.hand_proofs.proofs.Words.{Ty, erased, u64, w64, vint, fat, fullShare, Room, sliceVal, sliceTy, Is, Plain, word, truth, row-of}
+use Rattle.hand_proofs.proofs.Words.{owned, made}
+use Rattle.hand_proofs.proofs.Words.{World, Promise, promise, Callee, Proved, Call, Walk, world, known, proves, walks-if, ends-as, leaves}
+use Rattle.hand_proofs.proofs.Words.{by-value, number}
+use Rattle.hand_proofs.proofs.Words.{_$_, !, ‵, by, move, keep, drop, rewrite, back, sets, local, locals, of-opd, agg, addr, and-then}
+use Rattle.hand_proofs.proofs.Words.{no-more, from, stop}
 use Rattle.hand_proofs.proofs.Words.{hands, calls-as, lands, spreads, gathers, cuts, joins, run, lends, returns}
 use Rattle.record_check.specs.Run.{runPasses}
 use Rattle.record_check.specs.declared.Slot.{Slot}

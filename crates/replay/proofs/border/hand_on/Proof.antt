@@ -1,4 +1,4 @@
--- A piece more is still a number: the pieces are fewer than 2^64, and one of them comes next.
+-- A piece more is still a number: the pieces are fewer than 2^64, and one of them comes next (`still`, in the crate's proofs/Pieces.antt).
 use mathlib.Core.Path.{sym}
 use native.Mathlib.Omega.{arith}
 use lib.Seq.{length-take-le}

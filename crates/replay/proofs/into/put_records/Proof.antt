@@ -1,3 +1,5 @@
+-- One line, put where it has room: what is put and where is `text::put_line`'s, and what it means here stands in the crate's
+-- proofs/Ends.antt.
 use Rattle.replay.proofs.Ends.{end-written, end-short}
 use borrow.Author.Needs.{needs}
 use Rattle.replay.proofs.into.put_records.Statement.{statement}
@@ -19,13 +21,21 @@ same-length : tie.Need-same-length
 same-length c = search needs
 
 returns : tie.Need-returns
-returns c = end-written (c .before .before .before .before .before .before .before .before .before .args .count) (c .before .before .before .before .before .before .before .before .before .args .filled) (c .before .before .before .before .before .before .before .before .before .args .buf .now) (c .before .before .before .before .before .put-line .ensures .0) (c .before .before .before .before .before .put-line .ensures .1) (c .before .put .given .1)
+returns c =
+    let called = c .before .before .before .before .before in
+    let a = called .before .before .before .before .args in
+    let put = called .put-line .ensures in
+    end-written (a .count) (a .filled) (a .buf .now) (put .0) (put .1) (c .before .put .given .1)
 
 same-length-2 : tie.Need-same-length-2
 same-length-2 c = search needs
 
 returns-2 : tie.Need-returns-2
-returns-2 c = end-short (c .before .before .before .before .before .before .before .before .args .count) (c .before .before .before .before .before .before .before .before .args .filled) (c .before .before .before .before .before .before .before .before .args .buf .now) (c .before .before .before .before .put-line .ensures .0) (c .before .before .before .before .put-line .ensures .1) (c .enum-told .given .1)
+returns-2 c =
+    let called = c .before .before .before .before in
+    let a = called .before .before .before .before .args in
+    let put = called .put-line .ensures in
+    end-short (a .count) (a .filled) (a .buf .now) (put .0) (put .1) (c .enum-told .given .1)
 
 pub put-records-spec : {M : Type 1} → statement M
 put-records-spec =

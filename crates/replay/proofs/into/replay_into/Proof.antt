@@ -1,3 +1,5 @@
+-- No loop of its own. The text is a trace or is not (`into-broken`); where it is, the part that `run_part` ran is all of its records
+-- (`into-whole`) or had no room for the next (`into-cut`). All three stand in the crate's proofs/Whole.antt.
 use mathlib.Core.Path.{sym, _∙_}
 use Rattle.trace.proofs.Grammar.{opened}
 use Rattle.replay.proofs.Whole.{into-broken, into-whole, into-cut}
@@ -34,31 +36,48 @@ same-length c = search needs
 
 returns : tie.Need-returns
 returns c =
-    let a = c .before .before .before .before .before .before .before .before .before .before .before .before .before .before .before .before .before .args in
-    let e = sym (c .before .before .before .before .before .before .before .before .before .before .before .before .before .before .read-trace .ensures) ∙ c .before .before .before .before .before .before .before .before .before .before .before .before .reading2 .given .1 in
-    let first = c .before .before .before .before .before .before .before .before .before .first-record .ensures in
-    let ran = c .before .before .before .before .before .before .before .run-part .ensures (rw first (opened _ _ _ e .boundary)) in
-    let p = rw (first, c .before .before .before .before .before .before .before .before .before .before .fresh .ensures) at ran in
-    into-whole _ (a .s .now) (a .out .now) _ _ e p (c .before .before .before .before .if1 .taken) (c .before .before .before .before .before .before .before .run-part .kept .1 .1 .1 .0) (c .before .before .put-records .ensures)
+    let put = c .before .before in
+    let tested = put .before .before in
+    let ran = tested .before .before .before in
+    let found = ran .before .before in
+    let made = found .before in
+    let read = made .before .before in
+    let asked = read .before .before in
+    let a = asked .before .before .before .args in
+    let e = sym (asked .read-trace .ensures) ∙ read .reading2 .given .1 in
+    let first = found .first-record .ensures in
+    let part = ran .run-part .ensures (rw first (opened _ _ _ e .boundary)) in
+    let p = rw (first, made .fresh .ensures) at part in
+    let kept = ran .run-part .kept .1 .1 .1 .0 in
+    into-whole _ (a .s .now) (a .out .now) _ _ e p (tested .if1 .taken) kept (put .put-records .ensures)
 
 same-length-2 : tie.Need-same-length-2
 same-length-2 c = search needs
 
 returns-2 : tie.Need-returns-2
 returns-2 c =
-    let a = c .before .before .before .before .before .before .before .before .before .before .args in
-    into-broken _ (a .s .now) (a .out .now) _ (sym (c .before .before .before .before .before .before .before .read-trace .ensures) ∙ c .before .before .before .before .before .reading .given .1) (c .before .before .put-broken .ensures)
+    let put = c .before .before in
+    let read = put .before .before .before in
+    let asked = read .before .before in
+    let a = asked .before .before .before .args in
+    let e = sym (asked .read-trace .ensures) ∙ read .reading .given .1 in
+    into-broken _ (a .s .now) (a .out .now) _ e (put .put-broken .ensures)
 
 same-length-3 : tie.Need-same-length-3
 same-length-3 c = search needs
 
 returns-3 : tie.Need-returns-3
 returns-3 c =
-    let a = c .before .before .before .before .before .before .before .before .before .before .before .before .before .args in
-    let e = sym (c .before .before .before .before .before .before .before .before .before .before .read-trace .ensures) ∙ c .before .before .before .before .before .before .before .before .reading2 .given .1 in
-    let first = c .before .before .before .before .before .first-record .ensures in
-    let ran = c .before .before .before .run-part .ensures (rw first (opened _ _ _ e .boundary)) in
-    let p = rw (first, c .before .before .before .before .before .before .fresh .ensures) at ran in
+    let ran = c .before .before .before in
+    let found = ran .before .before in
+    let made = found .before in
+    let read = made .before .before in
+    let asked = read .before .before in
+    let a = asked .before .before .before .args in
+    let e = sym (asked .read-trace .ensures) ∙ read .reading2 .given .1 in
+    let first = found .first-record .ensures in
+    let part = ran .run-part .ensures (rw first (opened _ _ _ e .boundary)) in
+    let p = rw (first, made .fresh .ensures) at part in
     into-cut _ (a .s .now) (a .out .now) _ _ e p (c .if1 .left)
 
 pub replay-into-spec : {M : Type 1} → statement M

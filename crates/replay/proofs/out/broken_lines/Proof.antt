@@ -1,4 +1,4 @@
--- The buffer has room, so the two lines were put there: the other arm is not reached.
+-- The buffer has room, so the two lines were put there: the other arm is not reached (crate's proofs/Next.antt).
 use borrow.Author.Needs.{needs}
 use Rattle.replay.proofs.Next.{broken-put, put-size, put-had-room}
 use Rattle.replay.proofs.out.broken_lines.Statement.{statement}

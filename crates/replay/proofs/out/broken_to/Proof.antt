@@ -1,4 +1,4 @@
--- Refusal 9 is the one piece of the text, and it stands at the buffer's start.
+-- Refusal 9 is the one piece of the text, and it stands at the buffer's start (crate's proofs/Sending.antt and Pieces.antt).
 use mathlib.Core.Path.{refl, ap, _∙_}
 use native.Mathlib.Omega.{arith}
 use lib.IntN.{ℤ}

@@ -1,4 +1,4 @@
--- The buffer has room, so the line was put there: the other arm is not reached.
+-- The buffer has room, so the line was put there: the other arm is not reached (crate's proofs/Next.antt).
 use borrow.Author.Needs.{needs}
 use Rattle.replay.proofs.Next.{end-put, put-size, put-had-room}
 use Rattle.replay.proofs.out.last_line.Statement.{statement}

@@ -1,4 +1,4 @@
--- Each callee's promise is the whole one; a descriptor is the same number after it was handed over.
+-- Each callee's promise is the whole one; a descriptor is the same number after it was handed over (`sent-to`, in Pieces.antt).
 use mathlib.Core.Path.{sym, _∙_}
 use mir.Facts.{toZ-ofZ}
 use borrow.Author.Needs.{needs}

@@ -1,3 +1,4 @@
+-- The invariant: whether x stands from the first place on is whether it stands from place i on (settled's proofs/Listed.antt).
 use Prim.Native.Nat.{_-_}
 use mathlib.Core.Path.{_≡_, refl, sym, _∙_}
 use native.Mathlib.Omega.{arith}

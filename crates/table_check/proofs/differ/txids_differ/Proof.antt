@@ -1,3 +1,4 @@
+-- The invariant: the txids differ exactly where those from place i on do (crate's proofs/Rest.antt).
 use Prim.Native.Nat.{_-_}
 use mathlib.Core.Path.{_≡_, refl, sym, _∙_}
 use native.Mathlib.Omega.{arith}
@@ -41,7 +42,8 @@ stands-from-requires c κs = search needs
 returns : tie.Need-returns Inv-loop μ-loop
 returns c =
     let l = c .before .before .before .before .before .loop in
-    let a = c .before .before .before .before .before .before .before .args in
+    let asked = c .before .before .before in
+    let a = asked .before .before .before .before .args in
     let again = sym (c .before .stands-from .ensures) ∙ c .if2 .taken in
     sym (l .inv ∙ differ-twice (a .txids .now) (l .i) (omega arith) (c .before .before .if1 .left) again)
 
@@ -51,7 +53,8 @@ loop-less-2 c = search needs
 loop-again-2 : tie.Need-loop-again-2 Inv-loop μ-loop
 loop-again-2 c =
     let l = c .before .before .before .before .before .loop in
-    let a = c .before .before .before .before .before .before .before .args in
+    let asked = c .before .before .before in
+    let a = asked .before .before .before .before .args in
     let alone = sym (c .before .stands-from .ensures) ∙ c .if2 .left in
     l .inv ∙ differ-once (a .txids .now) (l .i) (omega arith) (c .before .before .if1 .left) alone
 

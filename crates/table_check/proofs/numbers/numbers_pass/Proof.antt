@@ -1,3 +1,4 @@
+-- Each exit is one condition that fails, or the last.
 use borrow.Author.Tests.{le-leb, lt-leb, eq-eqb, ne-eqb}
 use Rattle.table_check.proofs.numbers.numbers_pass.Statement.{statement}
 use Rattle.table_check.proofs.numbers.numbers_pass.Tie as tie

@@ -1,3 +1,4 @@
+-- Each exit is one condition on a slot that fails, or the last.
 use borrow.Author.Tests.{lt-ltb, le-ltb, le-leb, lt-leb, eq-eqb, ne-eqb}
 use Rattle.table_check.proofs.slots.slot_passes.Statement.{statement}
 use Rattle.table_check.proofs.slots.slot_passes.Tie as tie

@@ -1,3 +1,4 @@
+-- The invariant: the slots pass exactly where those from place i on do (crate's proofs/Rest.antt).
 use Prim.Native.Nat.{_≤_, _-_}
 use mathlib.Core.Path.{_≡_, refl, sym, _∙_}
 use native.Mathlib.Omega.{arith}
@@ -47,16 +48,20 @@ loop-less c = search needs
 
 loop-again : tie.Need-loop-again Inv-loop μ-loop
 loop-again c =
-    let l = c .before .before .before .before .before .before .loop in
-    let a = c .before .before .before .before .before .before .before .before .before .args in
+    let read = c .before .before .before in
+    let looped = read .before .before .before in
+    let l = looped .loop in
+    let a = looped .before .before .before .args in
     let good = sym (c .before .slot-passes .ensures) ∙ c .if2 .taken in
     let step = slots-good (a .clock) (a .line) (a .txids .now) (a .xmins .now) (l .i) (omega arith) (omega arith) good in
     (omega arith, l .inv .1 ∙ step)
 
 returns-2 : tie.Need-returns-2 Inv-loop μ-loop
 returns-2 c =
-    let l = c .before .before .before .before .before .before .loop in
-    let a = c .before .before .before .before .before .before .before .before .before .args in
+    let read = c .before .before .before in
+    let looped = read .before .before .before in
+    let l = looped .loop in
+    let a = looped .before .before .before .args in
     let bad = sym (c .before .slot-passes .ensures) ∙ c .if2 .left in
     sym (l .inv .1 ∙ slots-bad (a .clock) (a .line) (a .txids .now) (a .xmins .now) (l .i) (omega arith) (omega arith) bad)
 
