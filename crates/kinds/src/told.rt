@@ -32,6 +32,8 @@ pub fn tell(r: Refusal) -> Told
         Refusal::BadTrace(line) => numbers(9, 0, 0, 0, line),
         Refusal::BadSnapshot => bare_number(10),
         Refusal::BadLength => bare_number(11),
+        Refusal::NoRoom => bare_number(12),
+        Refusal::BadRecord => bare_number(20),
     }
 }
 

@@ -6,6 +6,7 @@ mod write;
 pub use five_lines::fields_at;
 pub use read::bytes_at;
 pub use read::field_at;
+pub use write::digits_in;
 pub use write::put_line;
 
 // What stands at a place: a number, with the place past its newline, or none.

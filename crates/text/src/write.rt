@@ -8,7 +8,7 @@ ghost use Rattle.text.specs.Line.{lineText};
 ghost use Rattle.text.specs.Write.{spliced, putAt, written};
 
 // How many digits n has: 1, and one more for each power of ten that a tenth of n reaches.
-fn digits_in(n: u64) -> usize
+pub fn digits_in(n: u64) -> usize
     ensures { λ r. ⌜ r ≡ length (decimal n) ⌝ }
 {
     let tenth = n / 10;

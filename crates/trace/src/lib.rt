@@ -6,6 +6,7 @@ mod whole;
 
 pub use lines::record_at;
 pub use ops::reads_of;
+pub use versions::allows;
 pub use whole::LONGEST;
 pub use whole::first_record;
 pub use whole::read_trace;

@@ -23,3 +23,4 @@ pub mod table;
 pub mod text;
 pub mod tiles;
 pub mod trace;
+pub mod writer;

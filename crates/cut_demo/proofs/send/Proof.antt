@@ -1,0 +1,44 @@
+-- What is sent lies inside the buffer.
+use mathlib.Core.Path.{sym}
+use native.Mathlib.Omega.{arith}
+use lib.Seq.{length-take-le}
+use borrow.Author.Needs.{needs}
+use Rattle.cut_demo.proofs.send.Statement.{statement}
+use Rattle.cut_demo.proofs.send.Tie as tie
+
+enum-known-wrote : tie.Need-enum-known-wrote
+enum-known-wrote c = search needs
+
+slice-aggregate-write-all : tie.Need-slice-aggregate-write-all
+slice-aggregate-write-all c = sym (length-take-le _ _ (omega (arith, c .before .if1 .taken)))
+
+write-all-requires : tie.Need-write-all-requires
+write-all-requires c κs = search needs
+
+enum-known-wrote-2 : tie.Need-enum-known-wrote-2
+enum-known-wrote-2 c = search needs
+
+refuse-requires : tie.Need-refuse-requires
+refuse-requires c κs = search needs
+
+returns : tie.Need-returns
+returns c = search needs
+
+returns-2 : tie.Need-returns-2
+returns-2 c = search needs
+
+returns-3 : tie.Need-returns-3
+returns-3 c = search needs
+
+pub send-spec : {M : Type 1} → statement M
+send-spec =
+    tie.close
+    (tie.spec
+    enum-known-wrote
+    slice-aggregate-write-all
+    write-all-requires
+    enum-known-wrote-2
+    refuse-requires
+    returns
+    returns-2
+    returns-3)

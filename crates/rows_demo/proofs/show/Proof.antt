@@ -1,0 +1,22 @@
+-- A part inside the whole has the length that was asked for.
+use mathlib.Core.Path.{sym}
+use native.Mathlib.Omega.{arith}
+use lib.Seq.{length-take-le}
+use borrow.Author.Needs.{needs}
+use Rattle.rows_demo.proofs.show.Statement.{statement}
+use Rattle.rows_demo.proofs.show.Tie as tie
+
+slice-aggregate-write-all : tie.Need-slice-aggregate-write-all
+slice-aggregate-write-all c = sym (length-take-le _ _ (omega (arith, c .before .if1 .taken)))
+
+write-all-requires : tie.Need-write-all-requires
+write-all-requires c κs = search needs
+
+returns : tie.Need-returns
+returns c = search needs
+
+returns-2 : tie.Need-returns-2
+returns-2 c = search needs
+
+pub show-spec : {M : Type 1} → statement M
+show-spec = tie.close (tie.spec slice-aggregate-write-all write-all-requires returns returns-2)

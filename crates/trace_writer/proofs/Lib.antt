@@ -1,0 +1,6 @@
+pub mod Texts
+pub mod Judging
+pub mod Filling
+pub mod Answering
+pub mod Laws
+mod Examples

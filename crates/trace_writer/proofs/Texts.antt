@@ -1,0 +1,201 @@
+-- The text of a run, line by line, and texts that are placed one after the other.
+use Prim.Native.Nat.{ℕ, _+_, _≤_}
+use native.Mathlib.Omega.{arith}
+use mathlib.Core.Path.{_≡_, refl, sym, ap, _∙_}
+use mathlib.Core.List.{List, [], _∷_, _++_, append-assoc, append-nil}
+use lib.ListN.{length, length-append}
+use Rattle.text.specs.declared.Put.{Put}
+use Rattle.text.specs.declared.Put.the-variants.{Past, NoRoom}
+use Rattle.text.specs.Bytes.{bytes}
+use Rattle.text.specs.Keys.{opKey, slotKey, idKey, stampKey, clockKey, sampleKey}
+use Rattle.text.specs.Decimal.{decimal, decimalIn, numberText}
+use Rattle.text.specs.Line.{lineText, lineTexts, joined}
+use Rattle.text.specs.FiveLines.{fieldRules, fiveLines}
+use Rattle.text.specs.Write.{spliced, putAt, written}
+use Rattle.text.proofs.Splice.{splice-length, splice-none, splice-append, room, line-length}
+use Rattle.grammar.specs.Names.{nameLine}
+use Rattle.grammar.specs.Items.{itemText, linesOf}
+use Rattle.grammar.specs.Named.{sixLines}
+use Rattle.grammar.specs.Texts.{firstLine, textLines, wholeText}
+use Rattle.grammar.proofs.Grammar.{lines-first}
+use Rattle.trace.specs.Op.{opName, opNames}
+use Rattle.trace.specs.Version.{headerOf}
+use Rattle.trace.specs.Record.{recordForm, anyForm, recordText}
+use Rattle.trace.specs.Trace.{firstRecord, traceText}
+use Rattle.trace.specs.declared.Op.{Op}
+use Rattle.trace.specs.declared.Op.the-variants.{Begin, End, Snap, Own, Oldest, Vacuum, Stamp, Finish}
+use Rattle.trace.specs.declared.Record.{Record}
+use Rattle.trace.specs.declared.Version.{Version}
+use Rattle.trace.specs.declared.Version.the-variants.{Proc1}
+use Rattle.trace.proofs.Shape.{header-length, any-facts}
+use Rattle.trace_writer.specs.Writing.{recordsText}
+use Rattle.trace_writer.specs.Placed.{Placed, twoLines}
+
+-- a line that was put where it has room, and was put
+pub line-placed : (xs : List ℕ) (at : ℕ) (key : List ℕ) (n : ℕ) {ys : List ℕ} {put : Put} {past : ℕ}
+    → at + length (lineText key n) ≤ length xs → put ≡ putAt xs at (lineText key n) → ys ≡ written xs at (lineText key n)
+    → put ≡ Past past → Placed xs at (lineText key n) ys past
+line-placed xs at key n {ys} {put} {past} h p w e =
+    let r = room xs at (lineText key n) h in
+    let same : past ≡ at + length (lineText key n) = cc in
+    let left : ys ≡ spliced xs at (lineText key n) = w ∙ sym (r .1) in
+    record { left = left; size = ap length left ∙ splice-length xs at (lineText key n) h; end = same }
+
+pub line-there : (xs : List ℕ) (at : ℕ) (key : List ℕ) (n : ℕ) {put : Put} → at + length (lineText key n) ≤ length xs
+    → put ≡ putAt xs at (lineText key n) → put ≡ NoRoom → ⊥
+line-there xs at key n h p e =
+    let r = room xs at (lineText key n) h in
+    let z : _≡_ {A = ℕ} 0 1 = cc in
+    omega arith
+
+pub placed-then : {xs ys zs t u : List ℕ} {at p q : ℕ} → at ≤ length xs → Placed xs at t ys p → Placed ys p u zs q
+    → Placed xs at (t ++ u) zs q
+placed-then {xs} {ys} {zs} {t} {u} {at} {p} h f g = record {
+  left = g .left ∙ rw (f .left, f .end) (splice-append xs at t u h);
+  size = g .size ∙ f .size;
+  end = omega (arith, length-append t u, f .end, g .end);
+}
+
+pub placed-same : {xs ys t u : List ℕ} {at p : ℕ} → t ≡ u → Placed xs at t ys p → Placed xs at u ys p
+placed-same e f = rw (← e) f
+
+-- the header is the line of a key and a number
+pub header-line : (v : Version) → lineText (bytes "trace=proc-") 1 ≡ headerOf v
+unfolding lineText numberText decimal decimalIn nameLine
+header-line Proc1 = refl
+
+pub header-room : (v : Version) (xs : List ℕ) → length (headerOf v) ≤ length xs → 0 + length (lineText (bytes "trace=proc-") 1) ≤ length xs
+header-room v xs h = omega (arith, ap length (header-line v))
+
+-- so are the lines of an op and its slot
+abbrev pub opSlotKey : Op → List ℕ
+opSlotKey o = opKey ++ opName o ++ slotKey
+
+pub two-lines : (o : Op) (n : ℕ) → lineText (opSlotKey o) n ≡ twoLines o n
+unfolding lineText twoLines nameLine
+two-lines o n = append-assoc (opKey ++ opName o) slotKey (numberText n)
+
+-- where op is o, the key of both lines is known
+pub two-room : (op o : Op) (slot at size : ℕ) → op ≡ o → at + length (twoLines op slot) ≤ size → at + length (lineText (opSlotKey o) slot) ≤ size
+two-room op o slot at size e h =
+    let same = ap length (two-lines o slot) ∙ ap (λ (x : Op). length (twoLines x slot)) (sym e) in
+    omega (arith, same)
+
+pub two-placed : {xs ys : List ℕ} {at p : ℕ} (op o : Op) (slot : ℕ) → op ≡ o → Placed xs at (lineText (opSlotKey o) slot) ys p
+    → Placed xs at (twoLines op slot) ys p
+two-placed op o slot e p = placed-same (two-lines o slot ∙ ap (λ (x : Op). twoLines x slot) (sym e)) p
+
+-- the six lines of a record
+pub record-lines : (r : Record)
+    → twoLines (r .op) (r .slot)
+    ++ lineText idKey (r .id)
+    ++ lineText stampKey (r .stamp)
+    ++ lineText clockKey (r .clock)
+    ++ lineText sampleKey (r .sample)
+    ≡ recordText r
+unfolding twoLines itemText sixLines fiveLines lineTexts fieldRules joined
+record-lines r = simp (append-assoc, append-nil)
+
+pub record-length : (r : Record)
+    → length (recordText r)
+    ≡ 35
+    + length (opName (r .op))
+    + length (decimal (r .slot))
+    + length (decimal (r .id))
+    + length (decimal (r .stamp))
+    + length (decimal (r .clock))
+    + length (decimal (r .sample))
+unfolding twoLines nameLine
+record-length r =
+    ap length (sym (record-lines r))
+    ∙ simp (length-append, line-length)
+    (omega arith)
+
+-- a record that has room: so has each of its lines, and together they are its text
+room-after : {xs ys t : List ℕ} {at p : ℕ} (n : ℕ) → Placed xs at t ys p → at + (length t + n) ≤ length xs → p + n ≤ length ys
+room-after n p h = omega (arith, p .size, p .end)
+
+first-fits : (p a b n : ℕ) → p + (a + b) ≤ n → p + a ≤ n
+first-fits p a b n h = omega arith
+
+module _ (r : Record) (xs : List ℕ) (at : ℕ) (h : at + length (recordText r) ≤ length xs) where
+  abbrev two : List ℕ
+  two = twoLines (r .op) (r .slot)
+
+  abbrev id : List ℕ
+  id = lineText idKey (r .id)
+
+  abbrev stamp : List ℕ
+  stamp = lineText stampKey (r .stamp)
+
+  abbrev clock : List ℕ
+  clock = lineText clockKey (r .clock)
+
+  abbrev sample : List ℕ
+  sample = lineText sampleKey (r .sample)
+
+  sizes : at + (length two + (length id + (length stamp + (length clock + length sample)))) ≤ length xs
+  sizes =
+      let e = ap length (record-lines r) in
+      let f = length-append (two ++ id ++ stamp ++ clock) sample in
+      let g = length-append (two ++ id ++ stamp) clock in
+      omega (arith, e, f, g, length-append (two ++ id) stamp, length-append two id)
+
+  pub two-fits : at + length two ≤ length xs
+  two-fits = first-fits _ _ _ _ sizes
+
+  module _ {ys : List ℕ} {p : ℕ} (a : Placed xs at two ys p) where
+    after-two : p + (length id + (length stamp + (length clock + length sample))) ≤ length ys
+    after-two = room-after _ a sizes
+
+    pub id-fits : p + length id ≤ length ys
+    id-fits = first-fits _ _ _ _ after-two
+
+    module _ {zs : List ℕ} {q : ℕ} (b : Placed ys p id zs q) where
+      after-id : q + (length stamp + (length clock + length sample)) ≤ length zs
+      after-id = room-after _ b after-two
+
+      pub stamp-fits : q + length stamp ≤ length zs
+      stamp-fits = first-fits _ _ _ _ after-id
+
+      module _ {us : List ℕ} {e : ℕ} (c : Placed zs q stamp us e) where
+        after-stamp : e + (length clock + length sample) ≤ length us
+        after-stamp = room-after _ c after-id
+
+        pub clock-fits : e + length clock ≤ length us
+        clock-fits = first-fits _ _ _ _ after-stamp
+
+        module _ {vs : List ℕ} {f : ℕ} (d : Placed us e clock vs f) where
+          pub sample-fits : f + length sample ≤ length vs
+          sample-fits = room-after _ d after-stamp
+
+          pub record-placed : {ws : List ℕ} {g : ℕ} → Placed vs f sample ws g → Placed xs at (recordText r) ws g
+          record-placed last =
+              let start : at ≤ length xs = omega arith in
+              let three = placed-then start a b in
+              let five = placed-then start (placed-then start three c) d in
+              placed-same (record-lines r) (placed-then start five last)
+
+-- the text of some records, one record at a time, and of a whole trace
+pub records-none : recordsText [] ≡ []
+unfolding recordsText linesOf joined
+records-none = refl
+
+pub records-first : (r : Record) (rs : List Record) → recordsText (r ∷ rs) ≡ recordText r ++ recordsText rs
+unfolding recordsText
+records-first r rs = lines-first anyForm any-facts r rs
+
+same-lines : (v : Version) (rs : List Record) → linesOf (recordForm v) rs ≡ linesOf anyForm rs
+unfolding linesOf
+same-lines v [] = refl
+same-lines v (r ∷ rs) = ap (λ (ls : List (List ℕ)). anyForm .lines r ++ ls) (same-lines v rs)
+
+pub trace-text : (v : Version) (rs : List Record) → traceText v rs ≡ headerOf v ++ recordsText rs
+unfolding wholeText textLines firstLine joined recordsText
+trace-text v rs = ap (λ (ls : List (List ℕ)). headerOf v ++ joined ls) (same-lines v rs)
+
+pub trace-length : (v : Version) (rs : List Record) → length (traceText v rs) ≡ firstRecord + length (recordsText rs)
+trace-length v rs = ap length (trace-text v rs) ∙ length-append (headerOf v) (recordsText rs) ∙ ap (λ (n : ℕ). n + length (recordsText rs)) (header-length v)
+
+pub header-fits : (v : Version) (rs : List Record) (xs : List ℕ) → length (traceText v rs) ≤ length xs → length (headerOf v) ≤ length xs
+header-fits v rs xs h = omega (arith, trace-length v rs, header-length v)

@@ -1,0 +1,3 @@
+pub mod Writing
+pub mod Placed
+pub mod Reading
