@@ -34,7 +34,7 @@ pub data ReadFits (most : ℕ) : ℕ → Type 0 where
   all : {size : ℕ} → size ≤ most → ReadFits most size
   failed : ReadFits most (2 ^ 64 - 1)
 
--- 0 for a trace, 3 for a text that is none, and for either 1 where a write failed
+-- 0 for a trace, 3 for a text that is none, and 1 for either; that a write failed then is not stated
 pub data StatusFits (s : List ℕ) : ℤ → Type 0 where
   done : isTrace (traceOf s) ≡ true → StatusFits s (pos 0)
   refused : isTrace (traceOf s) ≡ false → StatusFits s (pos 3)

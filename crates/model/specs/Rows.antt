@@ -147,17 +147,37 @@ rows n any =
 abbrev mismatch : Answer
 mismatch = Refused (SlotOwnershipMismatch (slot 0) (txid 6) (txid 9))
 
+-- a slot number that no slot has
+abbrev nowhere : ℕ → ℕ → Seen
+nowhere n clock = seen n (Refused (InvalidSlot (slot n))) clock 1
+
+-- slot 0 holds 9, and the clock is at its end
+abbrev exhausted : ℕ → Table
+exhausted n = holding (9 ∷ replicate (n - 1) 0) top
+
 -- a call that earns two refusals is given the one that its order has first; the clock of `three` is 12
 unfoldable pub orders : ℕ → List Row
 orders n =
-    -- 2 before 4, and before 3, by every call that names a registration
-    one (three n) (end (slot n) (txid 6)) (seen n (Refused (InvalidSlot (slot n))) 12 1)
-    ∷ one (three n) (own (slot n) (txid 0) 12 1) (seen n (Refused (InvalidSlot (slot n))) 12 1)
-    ∷ one (three n) (finish (slot n) (txid 0) (number 12)) (seen n (Refused (InvalidSlot (slot n))) 12 1)
+    -- 2 before 4, by every call that names a registration; before 3; before 7 and 8, and before 5 and 6
+    one (three n) (end (slot n) (txid 0)) (nowhere n 12)
+    ∷ one (three n) (own (slot n) (txid 0) 12 1) (nowhere n 12)
+    ∷ one (three n) (finish (slot n) (txid 0) (number 12)) (nowhere n 12)
+    ∷ one (three n) (end (slot n) (txid 6)) (nowhere n 12)
+    ∷ one (three n) (own (slot n) (txid 6) 12 1) (nowhere n 12)
+    ∷ one (three n) (finish (slot n) (txid 6) (number 12)) (nowhere n 12)
+    ∷ one (three n) (own (slot n) (txid 9) 11 1) (nowhere n 12)
+    ∷ one (three n) (own (slot n) (txid 9) 12 0) (nowhere n 12)
+    ∷ one (exhausted n) (finish (slot n) (txid 9) (number 1)) (nowhere n top)
+    ∷ one (three n) (finish (slot n) (txid 9) (number 0)) (nowhere n 12)
     -- 4 before 3
     ∷ one (three n) (end (slot 0) (txid 0)) (seen n (Refused ZeroTxid) 12 1)
     ∷ one (three n) (own (slot 0) (txid 0) 12 1) (seen n (Refused ZeroTxid) 12 1)
     ∷ one (three n) (finish (slot 0) (txid 0) (number 12)) (seen n (Refused ZeroTxid) 12 1)
+    -- 4 before 7 and 8, and before 5 and 6
+    ∷ one (three n) (own (slot 0) (txid 0) 11 1) (seen n (Refused ZeroTxid) 12 1)
+    ∷ one (three n) (own (slot 0) (txid 0) 12 0) (seen n (Refused ZeroTxid) 12 1)
+    ∷ one (exhausted n) (finish (slot 0) (txid 0) (number 1)) (seen n (Refused ZeroTxid) top 1)
+    ∷ one (three n) (finish (slot 0) (txid 0) (number 0)) (seen n (Refused ZeroTxid) 12 1)
     -- 3 before 7 and 8
     ∷ one (three n) (own (slot 0) (txid 6) 11 1) (seen n mismatch 12 1)
     ∷ one (three n) (own (slot 0) (txid 6) 12 0) (seen n mismatch 12 1)
@@ -170,12 +190,12 @@ orders n =
     ∷ one (three n) (snap 12 0) (seen n (Refused BadSample) 12 1)
     ∷ one (three n) (own (slot 0) (txid 9) 12 13) (seen n (Refused BadSample) 12 1)
     -- 3 before 5 and 6
-    ∷ one (holding (9 ∷ replicate (n - 1) 0) top) (finish (slot 0) (txid 6) (number 1)) (seen n mismatch top 1)
+    ∷ one (exhausted n) (finish (slot 0) (txid 6) (number 1)) (seen n mismatch top 1)
     ∷ one (three n) (finish (slot 0) (txid 6) (number 0)) (seen n mismatch 12 1)
     -- 5 before 6, and 6 at a number below the clock, by every call that reserves
     ∷ one (empty n top) (begin (number 0)) (seen n (Refused ClockExhausted) top 1)
     ∷ one (empty n top) (stamp (number 0)) (seen n (Refused ClockExhausted) top 1)
-    ∷ one (holding (9 ∷ replicate (n - 1) 0) top) (finish (slot 0) (txid 9) (number 0)) (seen n (Refused ClockExhausted) top 1)
+    ∷ one (exhausted n) (finish (slot 0) (txid 9) (number 0)) (seen n (Refused ClockExhausted) top 1)
     ∷ one (three n) (stamp (number 11)) (seen n (Refused BadReservation) 12 1)
     ∷ one (three n) (finish (slot 0) (txid 9) (number 11)) (seen n (Refused BadReservation) 12 1)
     -- 5 and 6 before 1

@@ -5,12 +5,12 @@ use mathlib.Core.Bool.{Bool, true, false, cond}
 use lib.Dec.{eqb, ltb}
 use Rattle.upstream.specs.States.{Slot, at, push}
 
--- x pushed, consUnless the slot is empty
+-- x pushed, unless the slot is empty
 abbrev pub pushed : Bool → ℕ → List ℕ → List ℕ
 pushed true x ids = ids
 pushed false x ids = push ids x
 
--- x where it is below m, consUnless the slot is empty
+-- x where it is below m, unless the slot is empty
 abbrev pub lowered : Bool → ℕ → ℕ → ℕ
 lowered true x m = m
 lowered false x m = cond (ltb x m) x m

@@ -255,7 +255,7 @@ impl Trust<'_> {
             ("public functions with a `requires`", named(functions(true, |f| !f.requires.is_empty()))),
             ("public functions whose `ensures` has a condition", named(functions(true, condition))),
             ("public functions with no `ensures`", named(functions(true, |f| f.ensures.is_empty()))),
-            ("public functions that no program of the gate runs", named(unrun)),
+            ("public functions that no program in Rattle runs", named(unrun)),
             ("inner functions with a `requires`", named(functions(false, |f| !f.requires.is_empty()))),
             ("inner functions whose `ensures` has a condition", named(functions(false, condition))),
             ("inner functions with no `ensures`", named(functions(false, |f| f.ensures.is_empty()))),
