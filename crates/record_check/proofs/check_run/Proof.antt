@@ -56,9 +56,16 @@ module _ {M : Type 1} {𝓤 : URA M} {H : Heap 𝓤} (w : World 𝓤 H) where
       v = sliceVal (x .ptr) (length ys)
 
       abbrev y : Call w P
-      y =
-          ((κs, qs, tt, (x, (clock, (sample, (line, tt)))),
-          (v ∷ [], (vint w64 clock ∷ [], (vint w64 sample ∷ [], (vint w64 line ∷ [], tt))))), tt)
+      y = (
+        (
+          κs,
+          qs,
+          tt,
+          (x, (clock, (sample, (line, tt)))),
+          (v ∷ [], (vint w64 clock ∷ [], (vint w64 sample ∷ [], (vint w64 line ∷ [], tt)))),
+        ),
+        tt,
+      )
 
       -- what the callees are passed
       abbrev to-none : Call w None
@@ -68,9 +75,16 @@ module _ {M : Type 1} {𝓤 : URA M} {H : Heap 𝓤} (w : World 𝓤 H) where
       to-gather t u = ((κs, qs, tt, (x, (t, tt)), (v ∷ [], (u ∷ [], tt))), tt)
 
       abbrev to-core : Columns → Val → Call w Core
-      to-core t u =
-          ((tt, tt, tt, (t, (clock, (sample, (line, tt)))),
-          (u ∷ [], (vint w64 clock ∷ [], (vint w64 sample ∷ [], (vint w64 line ∷ [], tt))))), tt)
+      to-core t u = (
+        (
+          tt,
+          tt,
+          tt,
+          (t, (clock, (sample, (line, tt)))),
+          (u ∷ [], (vint w64 clock ∷ [], (vint w64 sample ∷ [], (vint w64 line ∷ [], tt)))),
+        ),
+        tt,
+      )
 
       -- what the core says of gathered columns, and of the run
       abbrev Passed : Columns → Bool → Type 0
