@@ -13,7 +13,8 @@ use Rattle.trace.specs.declared.Version.{Version}
 use Rattle.trace.specs.declared.Reading.the-variants as read
 use Rattle.trace.proofs.Grammar.{Opened, opened}
 use Rattle.trace.proofs.Refusal.{trace-breaks}
-use Rattle.trace_writer.specs.Writing.{Records, Are, BadRow, recordsOf, listed, recordsText, tooLong, sized, measured, wroteOf, leftOf}
+use Rattle.trace_writer.specs.Writing.{Records, Are, BadRow, recordsOf, listed, recordsText, tooLong, sized, measured}
+use Rattle.trace_writer.specs.Writing.{wroteOf, leftOf}
 use Rattle.trace_writer.specs.Reading.{rowsOf, inFront, readOf, rowsLeft}
 use Rattle.trace_writer.specs.declared.Wrote.the-variants as wrote
 use Rattle.trace_writer.specs.declared.RowsRead.the-variants.{Rows, Refused}

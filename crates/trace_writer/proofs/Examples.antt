@@ -25,10 +25,12 @@ record Answers : Type 0 where
   -- a row of zeros, and 20 before 12
   zeros : wroteOf Proc1 ((0 ∷ 0 ∷ 0 ∷ 0 ∷ 0 ∷ 0 ∷ []) ∷ []) 0 ≡ Refused refusal.BadRecord
   -- begin with the stamp 5, in a buffer of one byte more, which stays
-  begins : leftOf Proc1 ((1 ∷ 0 ∷ 0 ∷ 5 ∷ 0 ∷ 0 ∷ []) ∷ []) (bytes "..........................................................." ++ bytes "!")
+  begins : leftOf Proc1 ((1 ∷ 0 ∷ 0 ∷ 5 ∷ 0 ∷ 0 ∷ []) ∷ [])
+      (bytes "..........................................................." ++ bytes "!")
       ≡ bytes "trace=proc-1\nop=begin\nslot=0\nid=0\nstamp=5\nclock=0\nsample=0\n" ++ bytes "!"
 
 answers : Answers
 unfolding wroteOf leftOf recordsOf rowUnder recordRow opNumbered tryNumber ofOp allowedBy mayBe allowed
-    wholeText textLines firstLine nameLine linesOf sixLines fiveLines fieldRules lineTexts joined lineText numberText decimal decimalIn spliced
+    wholeText textLines firstLine nameLine linesOf sixLines fiveLines fieldRules lineTexts joined lineText numberText decimal
+    decimalIn spliced
 answers = record { header-alone = refl; one-short = refl; zeros = refl; begins = refl }

@@ -1,6 +1,6 @@
 -- A run of rows as a loop walks it: from row i on. While the text is measured, the whole run's measure is that of the rows left past the
--- bytes counted so far (`sized`). While it is written, every row left is a record, and the whole text is theirs at the place that was reached
--- (`Left`).
+-- bytes counted so far (`sized`). While it is written, every row left is a record, and the whole text is theirs at the place that was
+-- reached (`Left`).
 use Prim.Native.Nat.{ℕ, _+_, _≤_, _<_, min}
 use native.Mathlib.Omega.{arith}
 use native.Mathlib.Numerals.{add-one}
@@ -16,7 +16,8 @@ use Rattle.trace.specs.Version.{headerOf}
 use Rattle.trace.specs.Trace.{traceText}
 use Rattle.trace.specs.declared.Record.{Record}
 use Rattle.trace.specs.declared.Version.{Version}
-use Rattle.trace_writer.specs.Writing.{Records, Are, BadRow, withFirst, onJudged, rowUnder, recordsOf, listed, recordsText, tooLong, sized}
+use Rattle.trace_writer.specs.Writing.{Records, Are, BadRow, withFirst, onJudged, rowUnder, recordsOf, listed}
+use Rattle.trace_writer.specs.Writing.{recordsText, tooLong, sized}
 use Rattle.trace_writer.specs.Placed.{Placed}
 use Rattle.trace_writer.specs.declared.measure.Judged.{Judged}
 use Rattle.trace_writer.specs.declared.measure.Judged.the-variants.{Good, Bad}
@@ -84,7 +85,8 @@ module _ (v : Version) (rows : List (List ℕ)) where
         here : (x : Records) → recordsOf v (drop (i + 1) rows) ≡ x → recordsOf v (drop i rows) ≡ withFirst r x
         here x q = rows-here v rows i h ∙ rw (← e, q)
 
-        go : (x : Records) → recordsOf v (drop (i + 1) rows) ≡ x → (listed (recordsOf v (drop i rows)) ≡ r ∷ listed x) × (x ≡ Are (listed x))
+        go : (x : Records) → recordsOf v (drop (i + 1) rows) ≡ x
+            → (listed (recordsOf v (drop i rows)) ≡ r ∷ listed x) × (x ≡ Are (listed x))
         go BadRow q = absurd (bad-run _ (sym (here BadRow q) ∙ l .good))
         go (Are rs) q = (ap listed (here (Are rs) q), refl)
 
@@ -96,7 +98,8 @@ module _ (v : Version) (rows : List (List ℕ)) where
         let size = ap (λ (x : List Record). length (recordsText x)) f ∙ ap length (records-first r rest) in
         omega (arith, l .room, size, length-append (recordText r) (recordsText rest))
 
-    pub left-next : {ys : List ℕ} {past : ℕ} (r : Record) → i < length rows → Good r ≡ rowUnder v (getD rows i []) → Left v rows whole buf at i
+    pub left-next : {ys : List ℕ} {past : ℕ} (r : Record) → i < length rows → Good r ≡ rowUnder v (getD rows i [])
+        → Left v rows whole buf at i
         → Placed buf at (recordText r) ys past → Left v rows whole ys past (i + 1)
     left-next {ys} {past} r h e l p =
         let f = first-left r h e l in
@@ -114,5 +117,6 @@ module _ (v : Version) (rows : List (List ℕ)) where
 
     pub left-over : length rows ≤ i → Left v rows whole buf at i → buf ≡ whole
     left-over h l =
-        let none : recordsText (listed (recordsOf v (drop i rows))) ≡ [] = ap (λ (x : Records). recordsText (listed x)) (rows-over v rows i h) ∙ records-none in
+        let over = ap (λ (x : Records). recordsText (listed x)) (rows-over v rows i h) in
+        let none : recordsText (listed (recordsOf v (drop i rows))) ≡ [] = over ∙ records-none in
         sym (l .text ∙ ap (spliced buf at) none ∙ sym (splice-none buf at))

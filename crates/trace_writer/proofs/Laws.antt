@@ -232,7 +232,9 @@ unfolding wroteOf
 refused-12 v rows rs size q (over h) = rw (q, lt-leb (length (traceText v rs)) longest h)
 refused-12 v rows rs size q (longer h) = rw (q) (go (leb (length (traceText v rs)) longest))
   where
-    go : (b : Bool) → cond (b && leb (length (traceText v rs)) size) (Length (length (traceText v rs))) (Refused refusal.NoRoom) ≡ Refused refusal.NoRoom
+    go : (b : Bool)
+        → cond (b && leb (length (traceText v rs)) size) (Length (length (traceText v rs))) (Refused refusal.NoRoom)
+        ≡ Refused refusal.NoRoom
     go false = refl
     go true = rw (lt-leb (length (traceText v rs)) size h)
 

@@ -76,7 +76,8 @@ unfolding lineText twoLines nameLine
 two-lines o n = append-assoc (opKey ++ opName o) slotKey (numberText n)
 
 -- where op is o, the key of both lines is known
-pub two-room : (op o : Op) (slot at size : ℕ) → op ≡ o → at + length (twoLines op slot) ≤ size → at + length (lineText (opSlotKey o) slot) ≤ size
+pub two-room : (op o : Op) (slot at size : ℕ) → op ≡ o → at + length (twoLines op slot) ≤ size
+    → at + length (lineText (opSlotKey o) slot) ≤ size
 two-room op o slot at size e h =
     let same = ap length (two-lines o slot) ∙ ap (λ (x : Op). length (twoLines x slot)) (sym e) in
     omega (arith, same)
@@ -195,7 +196,10 @@ unfolding wholeText textLines firstLine joined recordsText
 trace-text v rs = ap (λ (ls : List (List ℕ)). headerOf v ++ joined ls) (same-lines v rs)
 
 pub trace-length : (v : Version) (rs : List Record) → length (traceText v rs) ≡ firstRecord + length (recordsText rs)
-trace-length v rs = ap length (trace-text v rs) ∙ length-append (headerOf v) (recordsText rs) ∙ ap (λ (n : ℕ). n + length (recordsText rs)) (header-length v)
+trace-length v rs =
+    ap length (trace-text v rs)
+    ∙ length-append (headerOf v) (recordsText rs)
+    ∙ ap (λ (n : ℕ). n + length (recordsText rs)) (header-length v)
 
 pub header-fits : (v : Version) (rs : List Record) (xs : List ℕ) → length (traceText v rs) ≤ length xs → length (headerOf v) ≤ length xs
 header-fits v rs xs h = omega (arith, trace-length v rs, header-length v)

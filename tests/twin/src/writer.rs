@@ -13,7 +13,11 @@ pub const MOST: usize = 1_600;
 
 /// The op that a number names: 1 to 8.
 fn op_of(number: u64) -> Option<Op> {
-    Op::ALL.into_iter().zip(1..).find(|&(_, n)| n == number).map(|(op, _)| op)
+    Op::ALL
+        .into_iter()
+        .zip(1..)
+        .find(|&(_, n)| n == number)
+        .map(|(op, _)| op)
 }
 
 /// The six lines of a row, or none where no text can express it.
@@ -31,7 +35,9 @@ fn record_text(row: &Row) -> Option<String> {
         return None;
     }
     let name = op.name();
-    Some(format!("op={name}\nslot={slot}\nid={id}\nstamp={stamp}\nclock={clock}\nsample={sample}\n"))
+    Some(format!(
+        "op={name}\nslot={slot}\nid={id}\nstamp={stamp}\nclock={clock}\nsample={sample}\n"
+    ))
 }
 
 /// The text of a run of rows for a buffer of `size` bytes, or the number of its refusal.
@@ -58,8 +64,13 @@ pub fn expected(rows: &[Row], size: usize) -> Vec<u8> {
 
 /// What the program under test is given.
 pub fn input(rows: &[Row], size: usize) -> Vec<u8> {
-    let numbers = [size as u64, rows.len() as u64].into_iter().chain(rows.iter().flatten().copied());
-    numbers.map(|n| format!("n={n}\n")).collect::<String>().into_bytes()
+    let numbers = [size as u64, rows.len() as u64]
+        .into_iter()
+        .chain(rows.iter().flatten().copied());
+    numbers
+        .map(|n| format!("n={n}\n"))
+        .collect::<String>()
+        .into_bytes()
 }
 
 /// A number: small, at some border, or any.
@@ -104,7 +115,11 @@ fn any_row(random: &mut Random) -> Row {
 pub fn generate(seed: u64) -> (Vec<Row>, usize) {
     let mut random = Random::new(seed ^ 0x7772_6974_6572);
     let long = random.once_in(8);
-    let count = if long { random.between(600, MOST as u64) } else { random.below(30) };
+    let count = if long {
+        random.between(600, MOST as u64)
+    } else {
+        random.below(30)
+    };
     let mut rows: Vec<Row> = (0..count).map(|_| good_row(&mut random)).collect();
     if random.once_in(3) && !rows.is_empty() {
         for _ in 0..random.between(1, 2) {
@@ -156,6 +171,10 @@ pub fn borders() -> Vec<(&'static str, Vec<Row>, usize)> {
         ("zeros", vec![[0; 6]], ROOM),
         ("slot 65,535", vec![[2, 65_535, 1, 0, 0, 0]], ROOM),
         ("slot 65,536", vec![[2, 65_536, 1, 0, 0, 0]], ROOM),
-        ("all at the top", vec![[4, 65_535, u64::MAX, 0, u64::MAX, u64::MAX]], ROOM),
+        (
+            "all at the top",
+            vec![[4, 65_535, u64::MAX, 0, u64::MAX, u64::MAX]],
+            ROOM,
+        ),
     ]
 }

@@ -43,7 +43,10 @@ impl Counts {
             Err(_) => self.no_room += 1,
         }
         let printed = program.run(&writer::input(rows, size));
-        self.count(printed.is_ok_and(|p| p == writer::expected(rows, size)), name);
+        self.count(
+            printed.is_ok_and(|p| p == writer::expected(rows, size)),
+            name,
+        );
     }
 
     /// A trace is written again byte for byte, anything else is not.
@@ -79,10 +82,24 @@ fn main() -> ExitCode {
     for seed in from..from + count {
         let (rows, size) = writer::generate(seed);
         counts.rows(&of_rows, &format!("rows of seed {seed}"), &rows, size);
-        counts.again(&again, &format!("trace of seed {seed}"), &generate::generate(seed));
+        counts.again(
+            &again,
+            &format!("trace of seed {seed}"),
+            &generate::generate(seed),
+        );
     }
-    let Counts { passed, failed, accepted, bad, no_room } = counts;
+    let Counts {
+        passed,
+        failed,
+        accepted,
+        bad,
+        no_room,
+    } = counts;
     println!("runs of rows: {accepted} accepted, {bad} refused by 20, {no_room} by 12");
     println!("{passed} passed, {failed} failed");
-    if failed == 0 && passed > 0 { ExitCode::SUCCESS } else { ExitCode::FAILURE }
+    if failed == 0 && passed > 0 {
+        ExitCode::SUCCESS
+    } else {
+        ExitCode::FAILURE
+    }
 }

@@ -56,7 +56,8 @@ line-requires-4 c κs =
     let op = id .before .before .before .before .before in
     let start = op .before .before .before .before in
     let a = start .args in
-    sample-fits (a .r) (a .buf .now) (a .at) (start .pre) (op .op-and-slot .ensures) (id .line .ensures) (stamp .line2 .ensures) (clock .line3 .ensures)
+    sample-fits (a .r) (a .buf .now) (a .at) (start .pre) (op .op-and-slot .ensures) (id .line .ensures) (stamp .line2 .ensures)
+    (clock .line3 .ensures)
 
 same-length : tie.Need-same-length
 same-length c = search needs
