@@ -22,29 +22,44 @@ fn send(out: &[u8], wrote: Wrote) {
     match wrote {
         Wrote::Length(n) => {
             if n <= out.len() {
-                io::write_all(STDOUT_FILENO, &out[..n]);
+                let went = io::write_all(STDOUT_FILENO, &out[..n]);
+                if !went {
+                    io::write_all(STDERR_FILENO, b"cut: the output could not be written\n");
+                }
             }
         }
         Wrote::Refused(r) => refuse(r),
     }
 }
 
-fn main() {
-    let mut input = [0u8; ROOM];
+fn cut(s: &[u8]) {
     let mut out = [0u8; ROOM];
     let mut rows = [[0u64; 6]; MOST];
-    let size = io::read_full(STDIN_FILENO, &mut input);
-    let got = trace_writer::read_rows(&input[..size], &mut rows);
+    let got = trace_writer::read_rows(s, &mut rows);
     match got {
         RowsRead::Rows(version, n) => {
             if 7 <= n {
-                let cut = [rows[2], rows[3], rows[4], rows[5], rows[6]];
-                let wrote = trace_writer::write_trace(version, &cut, &mut out);
+                let kept = [rows[2], rows[3], rows[4], rows[5], rows[6]];
+                let wrote = trace_writer::write_trace(version, &kept, &mut out);
                 send(&out, wrote);
             } else {
                 io::write_all(STDERR_FILENO, b"cut: fewer than 7 records\n");
             }
         }
         RowsRead::Refused(r) => refuse(r),
+    }
+}
+
+// A read that fails is not the end of the input.
+fn main() {
+    let mut input = [0u8; ROOM];
+    let size = exports::sockhurdle_read(STDIN_FILENO, &mut input);
+    if size <= ROOM {
+        cut(&input[..size]);
+    } else {
+        io::write_all(
+            STDERR_FILENO,
+            b"cut: the input could not be read; nothing was written\n",
+        );
     }
 }

@@ -20,17 +20,36 @@ fn refuse(r: Refusal) {
     io::write_all(STDERR_FILENO, b"; nothing was written\n");
 }
 
-fn main() {
-    let mut input = [0u8; ROOM];
+// Writes a trace again, or says why not.
+fn send(s: &[u8]) {
     let mut out = [0u8; ROOM];
-    let size = io::read_full(STDIN_FILENO, &mut input);
-    let wrote = again::rewrite(&input[..size], &mut out);
+    let wrote = again::rewrite(s, &mut out);
     match wrote {
         Wrote::Length(n) => {
             if n <= ROOM {
-                io::write_all(STDOUT_FILENO, &out[..n]);
+                let went = io::write_all(STDOUT_FILENO, &out[..n]);
+                if !went {
+                    io::write_all(
+                        STDERR_FILENO,
+                        b"rewrite: the output could not be written; what arrived is a beginning of it\n",
+                    );
+                }
             }
         }
         Wrote::Refused(r) => refuse(r),
+    }
+}
+
+// A read that fails is not the end of the input.
+fn main() {
+    let mut input = [0u8; ROOM];
+    let size = exports::sockhurdle_read(STDIN_FILENO, &mut input);
+    if size <= ROOM {
+        send(&input[..size]);
+    } else {
+        io::write_all(
+            STDERR_FILENO,
+            b"rewrite: the input could not be read; nothing was written\n",
+        );
     }
 }

@@ -1,6 +1,7 @@
 //! Compares the writer of traces with the twin's: rows put to one program, texts to another that writes them again.
 
-use std::process::ExitCode;
+use std::fs::File;
+use std::process::{Command, ExitCode, Stdio};
 use std::time::Duration;
 use twin::program::{Failure, Program};
 use twin::{generate, trace, writer};
@@ -59,6 +60,20 @@ impl Counts {
         };
         self.count(equal, name);
     }
+
+    /// A read or a write that fails is told, and nothing is written beside it.
+    fn fails(&mut self, path: &str, input: &str, output: Option<&str>, words: &str) {
+        let name = format!("{input} to {}: {words}", output.unwrap_or("a pipe"));
+        let told = File::open(input).and_then(|from| {
+            let to = match output {
+                Some(to) => Stdio::from(File::options().write(true).open(to)?),
+                None => Stdio::piped(),
+            };
+            Command::new(path).stdin(from).stdout(to).output()
+        });
+        let told = told.is_ok_and(|o| o.stdout.is_empty() && String::from_utf8_lossy(&o.stderr).contains(words));
+        self.count(told, &name);
+    }
 }
 
 fn main() -> ExitCode {
@@ -88,6 +103,13 @@ fn main() -> ExitCode {
             &generate::generate(seed),
         );
     }
+    counts.fails(again_path, "/", None, "the input could not be read");
+    counts.fails(
+        again_path,
+        "examples/day.trace",
+        Some("/dev/full"),
+        "the output could not be written",
+    );
     let Counts {
         passed,
         failed,
