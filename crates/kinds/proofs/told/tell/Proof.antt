@@ -76,6 +76,18 @@ enum-told-7 c = search needs
 bare-number-requires-7 : tie.Need-bare-number-requires-7
 bare-number-requires-7 c κs = search needs
 
+enum-told-8 : tie.Need-enum-told-8
+enum-told-8 c = search needs
+
+bare-number-requires-8 : tie.Need-bare-number-requires-8
+bare-number-requires-8 c κs = search needs
+
+enum-known-r-5 : tie.Need-enum-known-r-5
+enum-known-r-5 c = search needs
+
+numbers-requires-5 : tie.Need-numbers-requires-5
+numbers-requires-5 c κs = search needs
+
 returns : tie.Need-returns
 unfolding told
 returns c = rw (c .before .before .r .given .1) (c .numbers .ensures)
@@ -120,6 +132,14 @@ returns-11 : tie.Need-returns-11
 unfolding told
 returns-11 c = rw (c .before .enum-told7 .given .1) (c .bare-number7 .ensures)
 
+returns-12 : tie.Need-returns-12
+unfolding told
+returns-12 c = rw (c .before .enum-told8 .given .1) (c .bare-number8 .ensures)
+
+returns-13 : tie.Need-returns-13
+unfolding told
+returns-13 c = rw (c .before .before .r5 .given .1) (c .numbers5 .ensures)
+
 pub tell-spec : {M : Type 1} → statement M
 tell-spec =
     tie.close
@@ -148,6 +168,10 @@ tell-spec =
     bare-number-requires-6
     enum-told-7
     bare-number-requires-7
+    enum-told-8
+    bare-number-requires-8
+    enum-known-r-5
+    numbers-requires-5
     returns
     returns-2
     returns-3
@@ -158,4 +182,6 @@ tell-spec =
     returns-8
     returns-9
     returns-10
-    returns-11)
+    returns-11
+    returns-12
+    returns-13)
