@@ -28,7 +28,7 @@ use Rattle.events.specs.declared.Kind.the-variants.{Register, End, Horizon, Res
 use Rattle.events.specs.declared.Event.{Event}
 use Rattle.wait.specs.declared.Owner.{Owner}
 use Rattle.wait.specs.declared.Owner.the-variants.{Holds}
-use Rattle.wait.specs.Steps.{mayName, isEmpty, leastActive, passed, ruleOf, eventTest, changeBy, eventChange, eventAfter}
+use Rattle.wait.specs.Steps.{mayName, isEmpty, leastActive, passed, registerRule, endRule, horizonRule, ruleOf, eventTest, changeBy, eventChange, eventAfter}
 
 pub passed-pass : (v : Verdict) → passed v ≡ true → v ≡ Pass
 passed-pass Pass e = refl
@@ -71,10 +71,10 @@ module _ (n : ℕ) (t : Table) (g : Good n t) where
 
   -- the facts of the check are kept
   good-by : (owner : Owner) (e : Event) (k : Kind) → ruleOf k n t owner e ≡ true → Good n (applied t (changeBy k t e))
-  unfolding ruleOf changeBy
+  unfolding ruleOf registerRule endRule horizonRule changeBy
   good-by owner e Register h =
       let b = and-eq-true-iff (mayName n owner (e .slot)) _ .0 h .1 in
-      let d = and-eq-true-iff (isEmpty t (e .slot)) _ .0 b .1 in
+      let d = and-eq-true-iff (isEmpty (t .txids) (e .slot)) _ .0 b .1 in
       let r = reserves (clockOf t) (number (e .id)) (passed-pass _ d) in
       good-applied n t (pastNumber (e .id) (t .counters)) g (counters-past (e .id) (r .from-clock)) (Enters (slot (e .slot)) (txid (e .id)))
       (record {
@@ -86,13 +86,13 @@ module _ (n : ℕ) (t : Table) (g : Good n t) where
   good-by owner e End h = good-applied n t (t .counters) g counters-stay (Leaves (slot (e .slot))) tt
   good-by owner e Horizon h =
       let b = and-eq-true-iff (mayName n owner (e .slot)) _ .0 h .1 in
-      let (c, d) = and-eq-true-iff (not (isEmpty t (e .slot))) _ .0 b in
+      let (c, d) = and-eq-true-iff (not (isEmpty (t .txids) (e .slot))) _ .0 b in
       let (l, u) = and-eq-true-iff (leb 1 (e .xmin)) _ .0 d in
       good-applied n t (t .counters) g counters-stay (Retains (slot (e .slot)) (e .xmin))
       (record {
         holds = eqb-false (txidAt t (e .slot)) 0 (not-true _ c);
         low = leb-true 1 (e .xmin) l;
-        under = omega (arith, leb-true (e .xmin) (leastActive t (e .slot)) u, minimum-start (txidAt t (e .slot)) (active (t .txids)));
+        under = omega (arith, leb-true (e .xmin) (leastActive (t .txids) (e .slot)) u, minimum-start (txidAt t (e .slot)) (active (t .txids)));
       })
   good-by owner e Reserve h =
       let r = reserves (clockOf t) (number (e .id)) (passed-pass _ h) in
@@ -116,7 +116,7 @@ module _ (n : ℕ) (t : Table) (mine : SlotNo) (id : Txid) (e : Event) where
   other-slot h q = eqb-false (e .slot) (mine .0) (not-true _ (and-eq-true-iff (ltb (e .slot) n) _ .0 h .1)) (sym q)
 
   stays-by : (k : Kind) → ruleOf k n t (Holds mine id) e ≡ true → SlotStays t (applied t (changeBy k t e)) (mine .0)
-  unfolding ruleOf changeBy
+  unfolding ruleOf registerRule endRule horizonRule changeBy
   stays-by Register h =
       let d = other-slot (and-eq-true-iff (mayName n (Holds mine id) (e .slot)) _ .0 h .0) in
       record {

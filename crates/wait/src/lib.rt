@@ -1,4 +1,8 @@
-// The check of what happened while one waited for the lock. Only its words stand here: an owner, and an answer.
+// The check of what happened while one waited for the lock: an entry table, an owner or none, and events as text go in; an
+// answer comes back.
+mod change;
+mod rules;
+
 use kinds::SlotNo;
 use kinds::Txid;
 use kinds::Verdict;
