@@ -1,3 +1,4 @@
 pub mod Steps
 pub mod Kept
 pub mod Waits
+pub mod Running

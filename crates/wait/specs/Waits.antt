@@ -46,6 +46,10 @@ abbrev pub answered : Verdict → Table → List Event → WaitAnswer
 answered Pass t es = record { table = ended t es; verdict = Pass }
 answered (Refuse r) t es = record { table = t; verdict = Refuse r }
 
+-- the answer to the steps alone
+abbrev pub steppedOf : ℕ → Owner → Table → List Event → WaitAnswer
+steppedOf n owner t es = answered (stepsFrom n owner t 1 es) t es
+
 -- 9, with its line, comes before every other
 abbrev pub onText : ℕ → Table → Owner → Read Header Event → WaitAnswer
 onText n t owner (Whole h es) = answered (verdictOn n t owner es) t es

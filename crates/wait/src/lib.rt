@@ -1,8 +1,11 @@
 // The check of what happened while one waited for the lock: an entry table, an owner or none, and events as text go in; an
 // answer comes back.
 mod change;
+mod check;
 mod rules;
+mod run;
 
+pub use check::check_wait;
 use kinds::SlotNo;
 use kinds::Txid;
 use kinds::Verdict;
