@@ -1,7 +1,7 @@
 -- What the code finds, said in the words of the rules.
 use Prim.Native.Nat.{ℕ}
 use mathlib.Core.Path.{_≡_, refl, ap}
-use mathlib.Core.Bool.{true}
+use mathlib.Core.Bool.{true, and-eq-true-iff}
 use mathlib.Core.List.{List, [], _∷_}
 use lib.Dec.{eqb}
 use Rattle.kinds.specs.Kinds.{slot, txid, number}
@@ -17,7 +17,6 @@ use Rattle.events.specs.declared.Kind.the-variants.{Register, End, Horizon, Res
 use Rattle.events.specs.declared.Event.{Event}
 use Rattle.wait.specs.declared.Owner.{Owner}
 use Rattle.wait.specs.Steps.{mayName, isEmpty, registerRule, ruleOf, eventTest, changeBy, eventChange, heldBy, heldChange}
-use mathlib.Core.Bool.{and-eq-true-iff}
 use Rattle.wait.proofs.Steps.{passed-pass}
 
 -- the txids of taken slots, read as xmins, are the active ids

@@ -2,3 +2,4 @@ pub mod Steps
 pub mod Kept
 pub mod Waits
 pub mod Running
+mod Examples

@@ -28,7 +28,8 @@ use Rattle.events.specs.declared.Kind.the-variants.{Register, End, Horizon, Res
 use Rattle.events.specs.declared.Event.{Event}
 use Rattle.wait.specs.declared.Owner.{Owner}
 use Rattle.wait.specs.declared.Owner.the-variants.{Holds}
-use Rattle.wait.specs.Steps.{mayName, isEmpty, leastActive, passed, registerRule, endRule, horizonRule, ruleOf, eventTest, changeBy, eventChange, eventAfter}
+use Rattle.wait.specs.Steps.{mayName, isEmpty, leastActive, passed, registerRule, endRule, horizonRule, ruleOf, eventTest}
+use Rattle.wait.specs.Steps.{changeBy, eventChange, eventAfter}
 
 pub passed-pass : (v : Verdict) → passed v ≡ true → v ≡ Pass
 passed-pass Pass e = refl
@@ -88,11 +89,12 @@ module _ (n : ℕ) (t : Table) (g : Good n t) where
       let b = and-eq-true-iff (mayName n owner (e .slot)) _ .0 h .1 in
       let (c, d) = and-eq-true-iff (not (isEmpty (t .txids) (e .slot))) _ .0 b in
       let (l, u) = and-eq-true-iff (leb 1 (e .xmin)) _ .0 d in
+      let below = leb-true (e .xmin) (leastActive (t .txids) (e .slot)) u in
       good-applied n t (t .counters) g counters-stay (Retains (slot (e .slot)) (e .xmin))
       (record {
         holds = eqb-false (txidAt t (e .slot)) 0 (not-true _ c);
         low = leb-true 1 (e .xmin) l;
-        under = omega (arith, leb-true (e .xmin) (leastActive (t .txids) (e .slot)) u, minimum-start (txidAt t (e .slot)) (active (t .txids)));
+        under = omega (arith, below, minimum-start (txidAt t (e .slot)) (active (t .txids)));
       })
   good-by owner e Reserve h =
       let r = reserves (clockOf t) (number (e .id)) (passed-pass _ h) in

@@ -8,13 +8,12 @@ use lib.ListN.{length}
 use Rattle.kinds.specs.declared.SlotNo.{SlotNo}
 use Rattle.kinds.specs.declared.Txid.{Txid}
 use Rattle.kinds.specs.declared.refusal.Refusal.{Refusal}
-use Rattle.kinds.specs.declared.refusal.Refusal.the-variants.{BadTrace, BadEntry, BadStep}
+use Rattle.kinds.specs.declared.refusal.Refusal.the-variants.{BadTrace, BadStep}
 use Rattle.kinds.specs.declared.refusal.Verdict.{Verdict}
 use Rattle.kinds.specs.declared.refusal.Verdict.the-variants.{Pass, Refuse}
-use Rattle.kinds.specs.Verdicts.{then}
 use Rattle.kinds.proofs.Verdicts.{refuse-not-pass, passed-by, then-pass}
 use Rattle.model.specs.declared.Table.{Table}
-use Rattle.model.specs.Tables.{txidAt, xminAt, clockOf, lineOf}
+use Rattle.model.specs.Tables.{clockOf, lineOf}
 use Rattle.model.specs.Tests.{observationTest}
 use Rattle.model.specs.Calls.{end, own, refusal}
 use Rattle.model.specs.Check.{tablePasses}
