@@ -2,4 +2,5 @@ pub mod Steps
 pub mod Kept
 pub mod Waits
 pub mod Running
+pub mod Told
 mod Examples
