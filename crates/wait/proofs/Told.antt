@@ -1,31 +1,37 @@
 -- The calls as events: what an accepted call of another did is told by events that keep their rules. A vacuum is not: it moves the
 -- line. A full begin, which consumes its number, is a reserve.
-use Prim.Native.Nat.{ℕ, _+_, _≤_, _<_}
+use Prim.Native.Nat.{ℕ, _≤_, _<_}
 use native.Mathlib.Omega.{arith}
 use mathlib.Core.Path.{_≡_, refl, ap}
 use mathlib.Core.Logic.{_≢_}
-use mathlib.Core.Bool.{true, not, and-eq-true-iff, _&&_}
+use mathlib.Core.Bool.{true, and-eq-true-iff}
 use mathlib.Core.List.{List, [], _∷_}
-use lib.Dec.{eqb, ltb, leb}
+use lib.Dec.{ltb}
+use lib.ListN.{length}
 use borrow.Author.Tests.{lt-ltb, le-leb, eq-eqb, ne-eqb}
 use Rattle.kinds.specs.declared.SlotNo.{SlotNo}
 use Rattle.kinds.specs.declared.Stamp.{Stamp}
 use Rattle.kinds.specs.declared.Txid.{Txid}
-use Rattle.kinds.specs.declared.refusal.Verdict.the-variants.{Pass}
+use Rattle.kinds.specs.declared.refusal.Refusal.the-variants.{NoFreeSlot}
+use Rattle.kinds.specs.declared.refusal.Verdict.the-variants.{Pass, Refuse}
+use Rattle.kinds.specs.Kinds.{txidOf}
+use Rattle.kinds.specs.Refusals.{consumed}
 use Rattle.model.specs.declared.Table.{Table}
 use Rattle.model.specs.Tally.{active, minimum, lowestEmpty, xminOf}
 use Rattle.model.specs.Tables.{txidAt, clockOf}
 use Rattle.model.specs.Calls.{Call, begin, end, snap, own, oldest, stamp, finish, refusal, changeAccepted, changeOf, after}
-use Rattle.model.specs.Accepted.{Owns, Free, Reserves, Observes, Acceptable}
+use Rattle.model.specs.Calls.{spent}
+use Rattle.model.specs.Accepted.{Owns, Reserves}
 use Rattle.model.specs.History.{Accepts}
 use Rattle.model.proofs.Tally.{minimum-member, minimum-bound, taken-active, active-taken, lowest-empty}
 use Rattle.model.proofs.Tests.{free-lowest, reservation-passes, observation-passes}
 use Rattle.model.proofs.Accepted.{accepted-acceptable}
+use Rattle.model.proofs.Refused.{Declined, stays, spends, declined}
 use Rattle.model.proofs.Transactions.{registered-taken}
 use Rattle.events.specs.declared.Kind.the-variants.{Register, End, Horizon, Reserve, Observe}
 use Rattle.events.specs.declared.Event.{Event}
 use Rattle.wait.specs.declared.Owner.{Owner}
-use Rattle.wait.specs.Steps.{notOwned, mayName, isEmpty, registerRule, endRule, horizonRule, ruleOf, eventTest, changeBy, eventChange}
+use Rattle.wait.specs.Steps.{notOwned, mayName, registerRule, endRule, horizonRule, ruleOf, eventTest, changeBy, eventChange}
 use Rattle.wait.specs.Waits.{stepsFrom, ended}
 
 abbrev pub registers : ℕ → ℕ → Event
@@ -67,6 +73,19 @@ module _ (n : ℕ) (owner : Owner) (t : Table) where
         );
         leave = rw a;
       }
+
+  -- a begin on a full table consumes its number: refusal 1
+  pub full-told : (number : Stamp) → refusal n t (begin number) ≡ Refuse (NoFreeSlot (txidOf number))
+      → Tells n owner t (begin number) (reservesNumber (number .0) ∷ [])
+  unfolding stepsFrom ended eventTest ruleOf eventChange changeBy after changeOf consumed spent
+  full-told number a = go (declined n t (begin number) (NoFreeSlot (txidOf number)) a)
+    where
+      told : Reserves (clockOf t) (number .0) → Tells n owner t (begin number) (reservesNumber (number .0) ∷ [])
+      told r = record { keep = λ step. rw (reservation-passes (clockOf t) number r); leave = rw a }
+
+      go : Declined n t (begin number) (NoFreeSlot (txidOf number)) → Tells n owner t (begin number) (reservesNumber (number .0) ∷ [])
+      go (stays p) = absurd (let z = ap length p in omega arith)
+      go (spends m p q r f) = let same : m ≡ number = cc in told (rw same at r)
 
   pub end-told : (slot : SlotNo) (id : Txid) → Accepts n t (end slot id) → notOwned owner (slot .0) ≡ true
       → Tells n owner t (end slot id) (ends (slot .0) ∷ [])
