@@ -106,7 +106,8 @@ module _ (n : ℕ) (owner : Owner) (t : Table) where
       let r = accepted-acceptable n t (stamp number) a in
       record { keep = λ step. rw (reservation-passes (clockOf t) number r); leave = rw a }
 
-  pub snap-told : (clock sample : ℕ) → Accepts n t (snap clock sample) → Tells n owner t (snap clock sample) (observesClock clock sample ∷ [])
+  pub snap-told : (clock sample : ℕ) → Accepts n t (snap clock sample)
+      → Tells n owner t (snap clock sample) (observesClock clock sample ∷ [])
   unfolding stepsFrom ended eventTest ruleOf eventChange changeBy after changeOf changeAccepted
   snap-told clock sample a =
       let o = accepted-acceptable n t (snap clock sample) a in
