@@ -232,7 +232,7 @@ pub fn check(tree: &Tree, code: &Code, edits: &[Edit], wrong: &[String], report:
 }
 
 /// What a check says where a fact does not hold. Nothing else counts.
-const FACTS: [&str; 12] = [
+const FACTS: [&str; 11] = [
     "it is not proved that ",
     "the two types ",
     "the two values ",
@@ -243,7 +243,6 @@ const FACTS: [&str; 12] = [
     "`search`: no proof of `",
     "`rw`: no occurrence of the path's ",
     "`rw`: no part of the goal ",
-    "  does not hold (this comparison, made at this position, had to wait for a metavariable; it turned out false ",
     "`rw` has no last argument, so what it leaves must be a path whose two ends are equal",
 ];
 

@@ -30,7 +30,7 @@ returns c =
 returns-2 : tie.Need-returns-2
 returns-2 c =
     let said = rw (c .before .enum-told2 .given .1) at (c .before .before .before .is-usable .ensures) in
-    choice-no _ _ _ _ _ _ _ _ _ said (c .fitting2 .ensures)
+    search (choice-no, said, c .fitting2 .ensures)
 
 returns-3 : tie.Need-returns-3
 returns-3 c =
