@@ -1,7 +1,8 @@
 //! Runs the replay program, the operator's command and the shortest host at their border: inputs and outputs that are
 //! slow, short, cut or not there.
 //!
-//! border PROGRAM COMMAND BARE SHIM CASES, with the folder of the stored cases; the last line is 'N passed, M failed'.
+//! border PROGRAM COMMAND BARE CARELESS SHIM CASES, with the folder of the stored cases; the last line is
+//! 'N passed, M failed'. CARELESS is a host with a fault at its border, which has to be seen.
 
 use std::fs::{self, File};
 use std::io::{Read, Write};
@@ -58,27 +59,39 @@ struct Border {
     program: String,
     command: String,
     bare: String,
+    /// What the shortest host is told: the fault that it has, where it is the careless one.
+    told: Option<String>,
     shim: String,
+    /// Who is run.
+    all: Vec<Who>,
     passed: usize,
     failed: usize,
 }
 
-const ALL: [Who; 3] = [Who::Program, Who::Command, Who::Bare];
+/// What every host is run on.
+struct Texts {
+    small: Vec<u8>,
+    large: Vec<u8>,
+    broken: Vec<u8>,
+}
+
 const SIGPIPE: i32 = 13;
 const EIO: i32 = 5;
 const EAGAIN: i32 = 11;
 
 fn main() {
     let arguments: Vec<String> = std::env::args().skip(1).collect();
-    let [program, command, bare, shim, cases] = arguments.as_slice() else {
-        eprintln!("usage: border PROGRAM COMMAND BARE SHIM CASES");
+    let [program, command, bare, careless, shim, cases] = arguments.as_slice() else {
+        eprintln!("usage: border PROGRAM COMMAND BARE CARELESS SHIM CASES");
         std::process::exit(2);
     };
     let mut border = Border {
         program: program.clone(),
         command: command.clone(),
         bare: bare.clone(),
+        told: None,
         shim: shim.clone(),
+        all: vec![Who::Program, Who::Command, Who::Bare],
         passed: 0,
         failed: 0,
     };
@@ -94,15 +107,15 @@ fn main() {
     let large = large.expect("the race has such a trace").text;
     let mut broken = small.clone();
     broken.truncate(small.len() - 3);
+    let texts = Texts {
+        small,
+        large,
+        broken,
+    };
 
-    border.plain(&small, &large, &broken);
-    border.slow(&[&small, &broken]);
-    border.short(&[(&small, 1), (&broken, 1), (&small, 7), (&large, 1000)]);
-    border.reads_fail(&small);
-    border.writes_fail(&small, &large);
-    border.no_input(&small);
-    border.no_output(&large);
+    border.everywhere(&texts);
     border.words(Path::new(cases));
+    border.sees_faults(careless, &texts);
     println!("{} passed, {} failed", border.passed, border.failed);
     if border.failed > 0 || border.passed == 0 {
         std::process::exit(1);
@@ -131,16 +144,61 @@ impl Border {
             self.passed += 1;
         } else {
             self.failed += 1;
-            println!("FAILED {what}: {otherwise}");
+            // of a careless host only the number of its failures counts
+            if self.told.is_none() {
+                println!("FAILED {what}: {otherwise}");
+            }
+        }
+    }
+
+    fn everywhere(&mut self, texts: &Texts) {
+        let Texts {
+            small,
+            large,
+            broken,
+        } = texts;
+        self.plain(small, large, broken);
+        self.slow(&[small, broken]);
+        self.short(&[(small, 1), (broken, 1), (small, 7), (large, 1000)]);
+        self.reads_fail(small);
+        self.writes_fail(small, large);
+        self.no_input(small);
+        self.no_output(large);
+    }
+
+    /// That these tests can fail: a host with a fault fails some of them, and the same host without one fails none.
+    fn sees_faults(&mut self, careless: &str, texts: &Texts) {
+        let list = Command::new(careless).arg("--list").output();
+        let list = String::from_utf8(list.expect("a host that runs").stdout).expect("names");
+        self.is("faults", list.lines().count() > 5, "there are few");
+        for fault in list.lines().chain(["none"]) {
+            let mut other = Border {
+                program: self.program.clone(),
+                command: self.command.clone(),
+                bare: careless.to_string(),
+                told: Some(fault.to_string()),
+                shim: self.shim.clone(),
+                all: vec![Who::Bare],
+                passed: 0,
+                failed: 0,
+            };
+            other.everywhere(texts);
+            self.is(
+                &format!("a host with the fault '{fault}'"),
+                (other.failed > 0) == (fault != "none"),
+                &format!("{} passed, {} failed", other.passed, other.failed),
+            );
         }
     }
 
     fn call(&self, who: Who) -> Command {
-        Command::new(match who {
+        let mut call = Command::new(match who {
             Who::Program => &self.program,
             Who::Command => &self.command,
             Who::Bare => &self.bare,
-        })
+        });
+        call.args(&self.told);
+        call
     }
 
     /// The same with a C library that moves few bytes, or fails.
@@ -193,7 +251,7 @@ impl Border {
     }
 
     fn plain(&mut self, small: &[u8], large: &[u8], broken: &[u8]) {
-        for who in ALL {
+        for who in self.all.clone() {
             for (text, end) in [
                 (small, End::Done),
                 (large, End::Done),
@@ -208,7 +266,7 @@ impl Border {
 
     /// Byte by byte, each some time after the last.
     fn slow(&mut self, texts: &[&[u8]]) {
-        for who in ALL {
+        for who in self.all.clone() {
             for text in texts {
                 let ran = fed(
                     self.call(who),
@@ -222,7 +280,7 @@ impl Border {
 
     /// Reads and writes that move few bytes each.
     fn short(&mut self, texts: &[(&[u8], usize)]) {
-        for who in ALL {
+        for who in self.all.clone() {
             for (text, most) in texts {
                 let ran = fed(self.shimmed(who, &[("SHORT", *most)]), text.to_vec(), None);
                 self.held("short counts", who, &ran, &right(text), ended(text));
@@ -232,7 +290,7 @@ impl Border {
 
     /// A read that fails, after any number of bytes: record boundaries are among them.
     fn reads_fail(&mut self, text: &[u8]) {
-        for who in ALL {
+        for who in self.all.clone() {
             for turn in 1..=text.len() + 1 {
                 let error = [EIO, EAGAIN][turn % 2] as usize;
                 let settings = [("SHORT", 1), ("FAIL_READ", turn), ("ERROR", error)];
@@ -245,7 +303,7 @@ impl Border {
     /// A write that fails, after any number of bytes, and after each piece of a long output.
     fn writes_fail(&mut self, text: &[u8], large: &[u8]) {
         let out = right(text);
-        for who in ALL {
+        for who in self.all.clone() {
             for turn in 1..=out.len() {
                 let settings = [("SHORT", 1), ("FAIL_WRITE", turn)];
                 let ran = fed(self.shimmed(who, &settings), text.to_vec(), None);
@@ -275,7 +333,7 @@ impl Border {
     fn no_input(&mut self, text: &[u8]) {
         // a whole trace of one record, whose second has not come yet
         let one = &text[..first_record(text)];
-        for who in ALL {
+        for who in self.all.clone() {
             let ran = in_shell(self.call(who), "<&-", Stdio::null());
             self.held("closed input", who, &ran, b"", End::Unread);
             let mut call = self.call(who);
@@ -310,7 +368,7 @@ impl Border {
     /// Outputs that can't be written: closed, full, not taken, a pipe whose reader leaves.
     fn no_output(&mut self, text: &[u8]) {
         let all = right(text);
-        for who in ALL {
+        for who in self.all.clone() {
             for to in [">&-", ">/dev/full"] {
                 let ran = in_shell(self.call(who), to, Stdio::piped());
                 self.held(to, who, &ran, b"", End::Unwritten);
@@ -528,8 +586,9 @@ fn fed(mut call: Command, text: Vec<u8>, pause: Option<Duration>) -> Ran {
 fn in_shell(call: Command, redirected: &str, input: Stdio) -> Ran {
     let mut shell = Command::new("sh");
     shell
-        .args(["-c", &format!("exec \"$0\" {redirected}")])
+        .args(["-c", &format!("exec \"$0\" \"$@\" {redirected}")])
         .arg(call.get_program())
+        .args(call.get_args())
         .stdin(input);
     let mut child = spawned(&mut shell);
     if child.stdin.is_some() {

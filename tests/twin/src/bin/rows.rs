@@ -71,7 +71,9 @@ impl Counts {
             };
             Command::new(path).stdin(from).stdout(to).output()
         });
-        let told = told.is_ok_and(|o| o.stdout.is_empty() && String::from_utf8_lossy(&o.stderr).contains(words));
+        let told = told.is_ok_and(|o| {
+            o.stdout.is_empty() && String::from_utf8_lossy(&o.stderr).contains(words)
+        });
         self.count(told, &name);
     }
 }
