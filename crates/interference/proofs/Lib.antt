@@ -1,2 +1,4 @@
+pub mod Formed
+pub mod Onward
 pub mod Steps
 pub mod Witnesses

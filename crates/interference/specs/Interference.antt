@@ -1,9 +1,9 @@
--- Upstream's waits (I:448-494), and how an event of ours is one of its events. The flag `lifecycle_held` is left out, as of its state.
+-- Upstream's waits (I:438-494), and how an event of ours is one of its events. The flag `lifecycle_held` is left out, as of its state.
 use Prim.Native.Nat.{ℕ, _+_, _<_, _≤_}
 use mathlib.Core.Path.{_≡_}
 use mathlib.Core.Logic.{_≢_}
 use mathlib.Core.List.{List, [], _∷_}
-use lib.ListN.{length, set}
+use lib.ListN.{length, getD, set}
 use Rattle.kinds.specs.Kinds.{top}
 use Rattle.upstream.specs.States.{State, slot, at, push}
 use Rattle.upstream.specs.Relations.{Observation, Reservation}
@@ -12,6 +12,17 @@ use Rattle.events.specs.declared.Kind.the-variants as kind
 use Rattle.events.specs.declared.Event.{Event}
 use Rattle.wait.specs.declared.Owner.{Owner}
 use Rattle.wait.specs.declared.Owner.the-variants.{Nobody, Holds}
+
+-- `live_owner`: the registration of slot i holds it
+pub record LiveOwner (s : State) (i id : ℕ) : Type 0 where
+  pub positive : 0 < id
+  pub inside : i < length (s .slots)
+  pub holds : at (s .slots) i .txid ≡ id
+
+-- `extends`: the later history begins with the earlier one
+pub record Extends (earlier later : List ℕ) : Type 0 where
+  pub longer : length earlier ≤ length later
+  pub same : (i : ℕ) → i < length earlier → getD later i 0 ≡ getD earlier i 0
 
 pub data WaitEvent : Type 0 where
   Register : ℕ → ℕ → WaitEvent
