@@ -7,6 +7,8 @@ use lib.ListN.{length, getD, set}
 use Rattle.kinds.specs.Kinds.{top}
 use Rattle.upstream.specs.States.{State, slot, at, push}
 use Rattle.upstream.specs.Relations.{Observation, Reservation}
+use Rattle.grammar.specs.Texts.{Read, Whole, Broken}
+use Rattle.events.specs.Wait.{Header, eventsOf}
 use Rattle.events.specs.declared.Kind.{Kind}
 use Rattle.events.specs.declared.Kind.the-variants as kind
 use Rattle.events.specs.declared.Event.{Event}
@@ -108,3 +110,11 @@ eventsToldBy (e ∷ es) = eventBy (e .kind) e ∷ eventsToldBy es
 unfoldable pub historyAfter : List ℕ → List Event → List ℕ
 historyAfter h [] = h
 historyAfter h (e ∷ es) = historyAfter (historyBy (e .kind) h e) es
+
+-- the history at the end of a wait that is told by the text s
+abbrev pub eventsRead : Read Header Event → List Event
+eventsRead (Whole header es) = es
+eventsRead (Broken line) = []
+
+abbrev pub historyTold : List ℕ → List ℕ → List ℕ
+historyTold h s = historyAfter h (eventsRead (eventsOf s))

@@ -1,1 +1,2 @@
 pub mod Interference
+pub mod AfterWait
