@@ -150,7 +150,7 @@ went-on : (b : Bool) (v : Verdict) (r : Refusal) → cond b v (Refuse r) ≡ Pas
 went-on true v r e = (refl, e)
 went-on false v r e = absurd (refuse-not-pass r e)
 
-steps-valid : (n : ℕ) (owner : Owner) (t : Table) (step : ℕ) (h : List ℕ) (es : List Event) → Good n t
+pub steps-valid : (n : ℕ) (owner : Owner) (t : Table) (step : ℕ) (h : List ℕ) (es : List Event) → Good n t
     → stepsFrom n owner t step es ≡ Pass → Valid owner (stateOf t h) (stateOf (ended t es) (historyAfter h es)) (eventsToldBy es)
 unfolding stepsFrom ended historyAfter eventsToldBy
 steps-valid n owner t step h [] g q = none
