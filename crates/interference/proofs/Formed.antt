@@ -4,14 +4,14 @@ use Prim.Native.Nat.{ℕ, _+_, _<_, _≤_}
 use native.Mathlib.Nat.{le-refl, le-trans}
 use native.Mathlib.Decide.{ℕ-discrete, decLt}
 use native.Mathlib.Omega.{arith}
-use mathlib.Core.Path.{_≡_, refl, sym, ap, _∙_}
+use mathlib.Core.Path.{_≡_, refl, sym, _∙_}
 use mathlib.Core.Logic.{_≢_}
 use mathlib.Core.List.{List, [], _∷_}
 use lib.ListN.{length, set, length-set}
 use lib.Seq.{getD-set-same, getD-set-other}
 use Rattle.model.proofs.Reservations.{nothing}
-use Rattle.upstream.specs.States.{Slot, State, slot, at, push, pushes}
-use Rattle.upstream.specs.Relations.{Contains, TablePart, HistoryPart, WellFormed}
+use Rattle.upstream.specs.States.{Slot, State, slot, at, push}
+use Rattle.upstream.specs.Relations.{Contains, TablePart, WellFormed}
 use Rattle.upstream.proofs.Histories.{contains-pushes, contains-last, history-push, history-step}
 use Rattle.wait.specs.declared.Owner.{Owner}
 use Rattle.interference.specs.Interference.{WaitEvent, Register, End, Horizon, Reserve, Observe, WaitStep, Valid, none, also}

@@ -1,20 +1,17 @@
 -- Waits and calls that meet the hypotheses of the theorems beside this file, so that none of them speaks of nothing. All are computed:
 -- three slots, of which 0 and 1 were begun with 4 and 7 on a fresh table; who waits is the transaction 4 in slot 0.
 use Prim.Native.Nat.{ℕ}
-use native.Mathlib.Omega.{arith}
 use mathlib.Core.Path.{_≡_, refl}
-use mathlib.Core.Bool.{true}
 use mathlib.Core.List.{List, [], _∷_, _++_}
 use Rattle.kinds.specs.Kinds.{number, slot, txid}
 use Rattle.kinds.specs.declared.refusal.Verdict.the-variants.{Pass}
 use Rattle.settled.specs.Settled.{listed}
 use Rattle.model.specs.declared.Table.{Table}
-use Rattle.model.specs.Tally.{active, minimum, lowestEmpty}
+use Rattle.model.specs.Tally.{active, retained, minimum, lowestEmpty}
 use Rattle.model.specs.Tables.{counted, lent, freshTable}
-use Rattle.model.specs.Answers.{tellsOf}
-use Rattle.model.specs.Calls.{Call, begin, end, snap, own, oldest, stamp, finish, refusal, changeAccepted, changeOf, after, answer, shown}
+use Rattle.model.specs.Calls.{Call, begin, end, snap, own, oldest, vacuum, stamp, finish, refusal, changeAccepted, changeOf, after}
 use Rattle.model.specs.History.{run, reached}
-use Rattle.model.specs.Reservations.{reservationsFrom, reservations}
+use Rattle.model.specs.Reservations.{reservationsFrom}
 use Rattle.model.specs.Check.{slotsPass, differ, passes}
 use Rattle.text.specs.Decimal.{numberTail, numberFrom, numberAt}
 use Rattle.text.specs.Bytes.{bytes, starts}
@@ -24,17 +21,17 @@ use Rattle.grammar.specs.Names.{nameLine, firstNamed, nameAt}
 use Rattle.grammar.specs.Items.{foundIn, foundFrom}
 use Rattle.grammar.specs.Named.{itemAt}
 use Rattle.grammar.specs.Texts.{readText}
-use Rattle.upstream.specs.States.{stateOf, stateAfter}
+use Rattle.upstream.specs.States.{stateOf}
 use Rattle.upstream.specs.Relations.{HistoryOf}
 use Rattle.upstream.proofs.Fresh.{from-fresh}
 use Rattle.events.specs.Wait.{header, eventsOf}
 use Rattle.wait.specs.declared.Owner.{Owner}
 use Rattle.wait.specs.declared.Owner.the-variants.{Nobody, Holds}
-use Rattle.wait.specs.Steps.{registerRule, endRule, horizonRule, ruleOf, eventTest, changeBy, eventChange}
-use Rattle.wait.specs.Waits.{stepsFrom, ended, verdictOn, waitOf}
+use Rattle.wait.specs.Steps.{registerRule, endRule, ruleOf, eventTest, changeBy, eventChange}
+use Rattle.wait.specs.Waits.{holderTest, stepsFrom, ended, verdictOn, waitOf}
 use Rattle.wait.proofs.Told.{Tells, begin-told, full-told, end-told, own-told, stamp-told, finish-told, snap-told, oldest-told}
 use Rattle.wait.proofs.Told.{registers, ends, retains, reservesNumber, observesClock}
-use Rattle.interference.specs.Interference.{historyTold}
+use Rattle.interference.specs.Meanwhile.{Meanwhile, nothing, then}
 
 abbrev twoBegins : List Call
 twoBegins = begin (number 4) ∷ begin (number 7) ∷ []
@@ -118,3 +115,12 @@ each-told =
       seen = snap-told 3 first entry 9 3 refl;
       asked = oldest-told 3 first entry 9 3 refl;
     }
+
+-- a wait of 4 in which others ended 7, began 9 and 12, and looked: calls that a wait can tell
+pub meanwhile :
+    Meanwhile 3 first entry (end (slot 1) (txid 7) ∷ begin (number 9) ∷ begin (number 12) ∷ vacuum 13 1 ∷ [])
+unfolding after changeOf refusal changeAccepted lowestEmpty retained minimum
+meanwhile = then (λ a. refl) (then (λ a. tt) (then (λ a. tt) (then (λ a. refl) nothing)))
+
+pub owner-holds : holderTest 3 entry first ≡ Pass
+owner-holds = refl

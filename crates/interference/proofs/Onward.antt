@@ -1,6 +1,6 @@
 -- What a valid wait of upstream's leaves: a history that goes on the former one, and the owner's slot as it was, so that the owner
 -- is still live.
-use Prim.Native.Nat.{ℕ, _<_}
+use Prim.Native.Nat.{ℕ}
 use native.Mathlib.Nat.{le-refl, le-trans}
 use native.Mathlib.Omega.{arith}
 use mathlib.Core.Path.{_≡_, refl, sym, ap, _∙_}

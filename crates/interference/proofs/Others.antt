@@ -1,6 +1,6 @@
 -- What our calls do during a wait is upstream's trace too; and a vacuum that raises the line is told by no events at all.
 use Prim.Native.Nat.{ℕ}
-use mathlib.Core.Path.{_≡_, refl, sym, ap, _∙_}
+use mathlib.Core.Path.{_≡_, sym, ap, _∙_}
 use mathlib.Core.Logic.{_≢_}
 use mathlib.Core.List.{List}
 use Rattle.model.specs.declared.Table.{Table}
@@ -8,7 +8,7 @@ use Rattle.model.specs.Tables.{lineOf}
 use Rattle.model.specs.Calls.{Call, vacuum, raisedLine, changeAccepted, changeOf, after}
 use Rattle.model.specs.Facts.{Good}
 use Rattle.model.specs.History.{Accepts}
-use Rattle.upstream.specs.States.{State, stateOf}
+use Rattle.upstream.specs.States.{stateOf}
 use Rattle.events.specs.declared.Event.{Event}
 use Rattle.wait.specs.declared.Owner.{Owner}
 use Rattle.wait.specs.Waits.{ended}

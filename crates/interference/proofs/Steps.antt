@@ -1,12 +1,12 @@
 -- Each event that keeps its rule, on a table that passes the check, is a step of upstream's; so an accepted wait is a valid trace.
-use Prim.Native.Nat.{ℕ, _+_, _≤_, _<_}
+use Prim.Native.Nat.{ℕ, _+_, _<_}
 use native.Mathlib.Nat.{le-refl}
 use native.Mathlib.Omega.{arith}
 use mathlib.Core.Path.{_≡_, refl, sym, ap, _∙_}
 use mathlib.Core.Logic.{_≢_}
 use mathlib.Core.Bool.{Bool, true, false, cond, not, and-eq-true-iff}
 use mathlib.Core.List.{List, [], _∷_}
-use lib.Dec.{ltb, leb, eqb}
+use lib.Dec.{ltb, leb}
 use lib.ListN.{length, set}
 use borrow.Author.Tests.{ltb-true, leb-true, eqb-true, eqb-false, not-true}
 use Rattle.kinds.specs.declared.refusal.Refusal.{Refusal}
@@ -36,7 +36,7 @@ use Rattle.wait.specs.Steps.{notOwned, mayName, isEmpty, leastActive, registerR
 use Rattle.wait.specs.Steps.{changeBy, eventChange, eventAfter}
 use Rattle.wait.specs.Waits.{stepsFrom, ended, waitOf}
 use Rattle.wait.proofs.Steps.{passed-pass, good-event}
-use Rattle.wait.proofs.Waits.{Heard, accepts, heard}
+use Rattle.wait.proofs.Waits.{accepts, heard}
 use Rattle.interference.specs.Interference.{WaitEvent, Register, End, Horizon, WaitStep, Names, Allowed, Valid, none, also}
 use Rattle.interference.specs.Interference.{eventBy, historyBy, eventsToldBy, historyAfter}
 
@@ -146,7 +146,7 @@ module _ (n : ℕ) (owner : Owner) (t : Table) (h : List ℕ) (g : Good n t) (e 
   unfolding eventTest eventChange
   step-is q = step-by (e .kind) q
 
-went-on : (b : Bool) (v : Verdict) (r : Refusal) → cond b v (Refuse r) ≡ Pass → (b ≡ true) × (v ≡ Pass)
+pub went-on : (b : Bool) (v : Verdict) (r : Refusal) → cond b v (Refuse r) ≡ Pass → (b ≡ true) × (v ≡ Pass)
 went-on true v r e = (refl, e)
 went-on false v r e = absurd (refuse-not-pass r e)
 

@@ -1,15 +1,15 @@
 -- Where our rules differ from upstream's (docs/DIFFERENCES.md, D10): states and tables that show it, computed.
 use Prim.Native.Nat.{ℕ}
 use native.Mathlib.Omega.{arith}
-use mathlib.Core.Path.{_≡_, refl, ap}
+use mathlib.Core.Path.{_≡_, refl}
 use mathlib.Core.Logic.{_≢_}
-use mathlib.Core.Bool.{true, false}
+use mathlib.Core.Bool.{false}
 use mathlib.Core.List.{List, [], _∷_}
 use Rattle.settled.specs.Settled.{listed}
 use Rattle.model.specs.declared.Table.{Table}
 use Rattle.model.specs.Tally.{active, minimum, retained}
 use Rattle.model.specs.Tables.{counted, lent}
-use Rattle.model.specs.Calls.{vacuum, raisedLine, refusal, after}
+use Rattle.model.specs.Calls.{vacuum, refusal, after}
 use Rattle.model.specs.Check.{slotsPass, differ, passes, tablePasses}
 use Rattle.upstream.specs.States.{State, stateOf}
 use Rattle.upstream.specs.Relations.{TableOf}

@@ -1,7 +1,6 @@
 -- Upstream's waits (I:438-494), and how an event of ours is one of its events. The flag `lifecycle_held` is left out, as of its state.
 use Prim.Native.Nat.{ℕ, _+_, _<_, _≤_}
 use mathlib.Core.Path.{_≡_}
-use mathlib.Core.Logic.{_≢_}
 use mathlib.Core.List.{List, [], _∷_}
 use lib.ListN.{length, getD, set}
 use Rattle.kinds.specs.Kinds.{top}

@@ -1,2 +1,3 @@
 pub mod Interference
 pub mod AfterWait
+pub mod Meanwhile

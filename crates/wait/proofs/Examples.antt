@@ -72,6 +72,9 @@ record Answers : Type 0 where
   nobody-waits : answer entry Nobody endOfSlot0 ≡ accepted (lent (0 ∷ 7 ∷ 0 ∷ []) (0 ∷ 5 ∷ 0 ∷ []) (counted 8 6 2))
   -- a slot that the table doesn't have breaks a step
   no-such-slot : answer entry Nobody (bytes "event=end\nslot=3\nid=0\nxmin=0\nclock=0\nsample=0\n") ≡ refused entry (Refuse (BadStep 1))
+  -- .. but one above 65,535 breaks the text, at its line
+  slot-too-large :
+      answer entry Nobody (bytes "event=end\nslot=70000\nid=0\nxmin=0\nclock=0\nsample=0\n") ≡ refused entry (Refuse (BadTrace 3))
   -- the order: 9 before 21, 21 before the owner, 2 before 4, 4 before 3, the owner before a step
   text-first : answer torn (Holds (slot 3) (txid 0)) (bytes "event=fork\n") ≡ refused torn (Refuse (BadTrace 2))
   entry-next : answer torn (Holds (slot 3) (txid 0)) [] ≡ refused torn (Refuse BadEntry)
@@ -92,6 +95,7 @@ answers = record {
   owner-named = refl;
   nobody-waits = refl;
   no-such-slot = refl;
+  slot-too-large = refl;
   text-first = refl;
   entry-next = refl;
   slot-next = refl;

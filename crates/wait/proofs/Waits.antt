@@ -44,7 +44,7 @@ good-ended n owner t step (e ∷ es) g h =
     good-ended n owner (eventAfter t e) (step + 1) es (good-event n t g owner e a) b
 
 -- .. the owner's slot as it was ..
-stays-ended : (n : ℕ) (slot : SlotNo) (id : Txid) (t : Table) (step : ℕ) (es : List Event)
+pub stays-ended : (n : ℕ) (slot : SlotNo) (id : Txid) (t : Table) (step : ℕ) (es : List Event)
     → stepsFrom n (Holds slot id) t step es ≡ Pass → SlotStays t (ended t es) (slot .0)
 unfolding stepsFrom ended
 stays-ended n slot id t step [] h = record { txid-stays = refl; xmin-stays = refl }
