@@ -90,14 +90,15 @@ module _ (n : ℕ) (t : Table) (owner : Owner) (s h : List ℕ) (q : waitOf n t 
 
       begun : BeginOk n acquired new result → BegunAfterWait acquired new result
       begun o =
+          let entered = slot (result .id) (result .id) in
           let inside : result .slot < length (slotsOf u) = omega (arith, slots-length n u shaped, o .l-begin-e5a) in
           record {
             i-begin-wait-e9a =
                 rw (o .l-begin-e5e)
                 (record {
                   positive = omega (arith, y .sample-positive, y .sample-within, o .l-begin-e5b);
-                  inside = omega (arith, length-set (slotsOf u) (result .slot) (slot (result .id) (result .id)), inside);
-                  holds = ap (λ (x : Slot). x .txid) (getD-set-same (slotsOf u) (result .slot) (slot (result .id) (result .id)) (slot 0 0) inside);
+                  inside = omega (arith, length-set (slotsOf u) (result .slot) entered, inside);
+                  holds = ap (λ (x : Slot). x .txid) (getD-set-same (slotsOf u) (result .slot) entered (slot 0 0) inside);
                 });
             i-begin-wait-e9c = o .l-begin-e5d;
             i-begin-wait-e9d = o .l-begin-e5b;

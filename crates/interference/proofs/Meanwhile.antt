@@ -28,7 +28,8 @@ use Rattle.wait.specs.declared.Owner.the-variants.{Nobody, Holds}
 use Rattle.wait.specs.Steps.{notOwned, ruleOf, eventTest, eventAfter, changeBy, eventChange}
 use Rattle.wait.specs.Waits.{holderTest, stepsFrom, ended, waitOf}
 use Rattle.wait.proofs.Waits.{stays-ended, accepts}
-use Rattle.wait.proofs.Told.{Tells, begin-told, full-told, end-told, own-told, stamp-told, finish-told, snap-told, oldest-told, observesClock}
+use Rattle.wait.proofs.Told.{Tells, begin-told, full-told, end-told, own-told, stamp-told, finish-told, snap-told, oldest-told}
+use Rattle.wait.proofs.Told.{observesClock}
 use Rattle.interference.specs.Meanwhile.{Elsewhere, Meanwhile, nothing, then}
 use Rattle.interference.proofs.Steps.{went-on}
 
