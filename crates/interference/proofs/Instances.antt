@@ -7,7 +7,7 @@ use Rattle.kinds.specs.Kinds.{number, slot, txid}
 use Rattle.kinds.specs.declared.refusal.Verdict.the-variants.{Pass}
 use Rattle.settled.specs.Settled.{listed}
 use Rattle.model.specs.declared.Table.{Table}
-use Rattle.model.specs.Tally.{active, retained, minimum, lowestEmpty}
+use Rattle.model.specs.Tally.{active, minimum, lowestEmpty}
 use Rattle.model.specs.Tables.{counted, lent, freshTable}
 use Rattle.model.specs.Calls.{Call, begin, end, snap, own, oldest, vacuum, stamp, finish, refusal, changeAccepted, changeOf, after}
 use Rattle.model.specs.History.{run, reached}
@@ -116,10 +116,9 @@ each-told =
       asked = oldest-told 3 first entry 9 3 refl;
     }
 
--- a wait of 4 in which others ended 7, began 9 and 12, and looked: calls that a wait can tell
+-- a wait of 4 in which others ended 7, began 9, raised the line and asked for an end that was refused
 pub meanwhile :
-    Meanwhile 3 first entry (end (slot 1) (txid 7) ∷ begin (number 9) ∷ begin (number 12) ∷ vacuum 13 1 ∷ [])
-unfolding after changeOf refusal changeAccepted lowestEmpty retained minimum
+    Meanwhile 3 first entry (end (slot 1) (txid 7) ∷ begin (number 9) ∷ vacuum 13 13 ∷ end (slot 1) (txid 7) ∷ [])
 meanwhile = then (λ a. refl) (then (λ a. tt) (then (λ a. tt) (then (λ a. refl) nothing)))
 
 pub owner-holds : holderTest 3 entry first ≡ Pass
