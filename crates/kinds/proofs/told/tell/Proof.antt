@@ -88,6 +88,12 @@ enum-told-9 c = search needs
 bare-number-requires-9 : tie.Need-bare-number-requires-9
 bare-number-requires-9 c κs = search needs
 
+enum-told-10 : tie.Need-enum-told-10
+enum-told-10 c = search needs
+
+bare-number-requires-10 : tie.Need-bare-number-requires-10
+bare-number-requires-10 c κs = search needs
+
 returns : tie.Need-returns
 unfolding told
 returns c = rw (c .before .before .r .given .1) (c .numbers .ensures)
@@ -140,6 +146,10 @@ returns-13 : tie.Need-returns-13
 unfolding told
 returns-13 c = rw (c .before .enum-told9 .given .1) (c .bare-number9 .ensures)
 
+returns-14 : tie.Need-returns-14
+unfolding told
+returns-14 c = rw (c .before .enum-told10 .given .1) (c .bare-number10 .ensures)
+
 pub tell-spec : {M : Type 1} → statement M
 tell-spec =
     tie.close
@@ -172,6 +182,8 @@ tell-spec =
     bare-number-requires-8
     enum-told-9
     bare-number-requires-9
+    enum-told-10
+    bare-number-requires-10
     returns
     returns-2
     returns-3
@@ -184,4 +196,5 @@ tell-spec =
     returns-10
     returns-11
     returns-12
-    returns-13)
+    returns-13
+    returns-14)
