@@ -2,6 +2,7 @@
 // number of slots is in its type.
 use crate::say;
 use crate::tables::begun;
+use crate::tables::observed;
 use crate::tables::one;
 use crate::tables::three;
 use table::Table;
@@ -29,7 +30,8 @@ pub fn conditions() {
     check(fresh, 1, 1, 0, 0);
     check(t, 3, 3, 0, 0);
     check(three(), 1, 1, 4, 4);
-    check(begun(fresh, u64::MAX - 1), 1, 1, 0, 0);
+    let last = begun(observed(fresh, u64::MAX - 1), u64::MAX - 1);
+    check(last, 1, 1, 0, 0);
     check(t, 9, 5, 8, 8);
     check(t, 0, 3, 0, 0);
     check(t, 10, 3, 0, 0);

@@ -7,6 +7,7 @@ use crate::calls::vacuum;
 use crate::say::line;
 use crate::say::word;
 use crate::tables::full;
+use crate::tables::observed;
 use crate::tables::three;
 use kinds::SLOTS;
 
@@ -30,9 +31,9 @@ pub fn snapshots_and_begins() {
     row(5);
     begin(full(), 400);
     row(6);
-    let exhausted = begin(fresh, u64::MAX - 1);
+    begin(fresh, u64::MAX - 1);
     row(7);
-    begin(exhausted, 7);
+    begin(observed(fresh, u64::MAX), 7);
     row(8);
     begin(fresh, u64::MAX);
 }

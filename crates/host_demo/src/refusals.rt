@@ -11,27 +11,33 @@ use crate::calls::vacuum;
 use crate::say::word;
 use crate::tables::begun;
 use crate::tables::full;
+use crate::tables::observed;
 use crate::tables::one;
 use kinds::SLOTS;
 
-// 5, 6, 1, and 5, 6. The first line takes the last number of a full table. 5 is never alone: no number is good then.
+// 5, 6, 13, 1, and 5, 6, 13. The first line takes the last number of a full table. 5 is never alone, since no number is good
+// then, and never with 13, since none is above the clock. The last stamp is 2^32 above the clock, where 13 is not yet given.
 pub fn of_begin_and_stamp() {
     word(b"part=refusals\n");
     let taken = full();
-    let last = stamp(taken, u64::MAX - 1);
+    let last = stamp(observed(taken, u64::MAX - 1), u64::MAX - 1);
     begin(last, 0);
-    begin(taken, 0);
+    begin(taken, u64::MAX);
+    begin(taken, 4294967597);
     begin(taken, 300);
     let t = one();
+    begin(t, 0);
     begin(t, 8);
-    begin(t, u64::MAX);
+    begin(t, 4294967306);
     stamp(last, 0);
+    stamp(t, u64::MAX);
+    stamp(t, 4294967306);
     stamp(t, 0);
     stamp(t, 8);
-    stamp(t, u64::MAX);
+    stamp(t, 4294967305);
 }
 
-// 2, 4, 3; of finish then 5, 6.
+// 2, 4, 3; of finish then 5, 6, 13.
 pub fn of_end_and_finish() {
     let t = one();
     end(t, SLOTS as u16, 0);
@@ -40,14 +46,16 @@ pub fn of_end_and_finish() {
     end(t, 1, 5);
     end(t, SLOTS as u16, 5);
     end(t, 65535, 5);
-    let last = begun(table::fresh(), u64::MAX - 1);
+    let last = begun(observed(table::fresh(), u64::MAX - 1), u64::MAX - 1);
     finish(last, SLOTS as u16, 0, 0);
     finish(last, 0, 0, 0);
     finish(last, 0, 7, 0);
     finish(last, 0, u64::MAX - 1, 0);
+    finish(t, 0, 5, u64::MAX);
+    finish(t, 0, 5, 4294967306);
     finish(t, 0, 5, 0);
     finish(t, 0, 5, 8);
-    finish(t, 0, 5, u64::MAX);
+    finish(t, 0, 7, 4294967306);
     finish(t, 1, 5, 9);
     finish(t, SLOTS as u16, 5, 9);
 }

@@ -10,6 +10,12 @@ pub fn begun(t: Table, id: u64) -> Table {
     called.table
 }
 
+// The clock as given: an observation takes it there, however far that is. The sample is 1.
+pub fn observed(t: Table, clock: u64) -> Table {
+    let called = table::oldest_snapshot_xmin(t, clock, 1);
+    called.table
+}
+
 // Slot 0 holds 5 and retains 3; clock 9, sample 3, line 3.
 pub fn one() -> Table {
     let registered = begun(table::fresh(), 5);

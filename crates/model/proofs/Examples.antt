@@ -5,7 +5,7 @@ use mathlib.Core.Bool.{true, true≢false}
 use mathlib.Core.List.{List, [], _∷_, _++_}
 use mathlib.Core.Option.{some}
 use native.Mathlib.Omega.{arith}
-use Rattle.kinds.specs.Kinds.{number, slot, txid}
+use Rattle.kinds.specs.Kinds.{top, number, slot, txid}
 use Rattle.kinds.specs.declared.Stamp.{Stamp}
 use Rattle.kinds.specs.declared.told.Told.{Told}
 use Rattle.kinds.specs.declared.refusal.Refusal.the-variants.{NoFreeSlot, SlotOwnershipMismatch, BadReservation}
@@ -16,16 +16,18 @@ use Rattle.kinds.specs.Refusals.{told, consumed}
 use Rattle.model.specs.Tally.{active, retained, lowestEmpty, minimum, maximum, snapshotOf}
 use Rattle.model.specs.declared.answer.Answer.the-variants.{Begun, Done, Oldest, Line, Stamped, Refused}
 use Rattle.model.specs.Answers.{tellsOf, xminTold, numbersOf, numbersBeside}
-use Rattle.model.specs.Tables.{freshTable}
+use Rattle.model.specs.Tables.{freshTable, clockOf}
 use Rattle.model.specs.Calls.{Call, begin, end, snap, own, vacuum, stamp, finish, refusal, changeAccepted, changeOf, spent, after}
 use Rattle.model.specs.Calls.{answerAccepted, answer, shownAccepted, shown}
 use Rattle.model.specs.Check.{slotsPass, differ, passes, tablePasses}
 use Rattle.model.specs.Accepted.{Registered}
-use Rattle.model.specs.History.{run, reached, Accepts, lastFrom, lastOwn}
+use Rattle.model.specs.History.{run, reached, Accepts, Never, lastFrom, lastOwn}
+use Rattle.model.specs.Observing.{observing}
 use Rattle.model.specs.Reservations.{reservationsFrom, reservations}
 use Rattle.model.specs.Counts.{acceptedFrom, begins, endsAndFinishes, takenSlots}
 use Rattle.model.specs.Rows.{seenFrom, seenIn, said, RowsHold, rows, orders, AllRowsHold}
 use Rattle.model.specs.Promise.{SettledBelow, lineAfter, Covered, of-transaction, Gives}
+use Rattle.model.proofs.Never.{never-nil, never-cons}
 use Rattle.model.proofs.Promise.{covered-settled, own-covered}
 
 -- a snapshot at two slots
@@ -156,6 +158,25 @@ pub vacuums :
     × Gives 2 untilSecond 3 1 2
 unfolding freshTable run active retained lowestEmpty minimum maximum refusal changeAccepted changeOf after answerAccepted answer
 vacuums = (refl, refl, refl)
+
+-- The bound on the clock is reached: two stamps, each at the farthest number, take it to 1 + 2·(2^32 + 1). An observation may
+-- take it to its end in one call
+
+abbrev farthestStamps : List Call
+farthestStamps = stamp (number 4294967297) ∷ stamp (number 8589934594) ∷ []
+
+pub farthest-stamps : clockOf (reached 2 farthestStamps) ≡ 8589934595
+unfolding freshTable run refusal changeAccepted changeOf after
+farthest-stamps = refl
+
+pub farthest-unobserved : Never 2 (freshTable 2) observing farthestStamps
+farthest-unobserved =
+    never-cons 2 _ observing _ _ (λ a. refl) (never-cons 2 _ observing _ _ (λ a. refl) (never-nil 2 _ observing))
+
+pub observation-jumps :
+    Accepts 2 (reached 2 []) (snap top 1) × (clockOf (reached 2 (snap top 1 ∷ [])) ≡ 18446744073709551615)
+unfolding freshTable run refusal changeAccepted changeOf after
+observation-jumps = (refl, refl)
 
 -- The twelve rows, and the orders, at four slots, so that a wrong row is refused here
 

@@ -1,5 +1,5 @@
 -- What a refused call leaves: the table as it was, or, where a begin met a full table, the clock past its number.
-use Prim.Native.Nat.{ℕ, _≤_}
+use Prim.Native.Nat.{ℕ, _+_, _≤_}
 use mathlib.Core.Path.{_≡_, refl, sym, ap, _∙_}
 use mathlib.Core.Bool.{Bool, true, false, cond, _||_, false≢true}
 use mathlib.Core.List.{List, []}
@@ -20,7 +20,7 @@ use Rattle.kinds.proofs.Verdicts.{refuse-not-pass, same-refusal}
 use Rattle.model.specs.declared.Table.{Table}
 use Rattle.model.specs.Tables.{clockOf}
 use Rattle.model.specs.Tally.{lowestEmpty}
-use Rattle.model.specs.Tests.{slotTest, holderTest, ownerTest, reservationTest, fullTest, observationTest}
+use Rattle.model.specs.Tests.{slotTest, holderTest, ownerTest, farthest, reservationTest, fullTest, observationTest}
 use Rattle.model.specs.Calls.{Call, begin, end, snap, own, oldest, vacuum, stamp, finish, refusal, spent}
 use Rattle.model.specs.Accepted.{Reserves}
 use Rattle.model.specs.Deeds.{opens}
@@ -58,7 +58,8 @@ reservation-uses : (clock : ℕ) (number : Stamp) → uses (reservationTest cloc
 unfolding consumed
 reservation-uses clock number =
     cond-uses (leb top clock) _ _ refl
-    (cond-uses (eqb (number .0) 0 || (ltb (number .0) clock || leb top (number .0))) _ _ refl refl)
+    (cond-uses (eqb (number .0) 0 || (ltb (number .0) clock || leb top (number .0))) _ _ refl
+    (cond-uses (ltb (clock + farthest) (number .0)) _ _ refl refl))
 
 observation-uses : (former clock sample : ℕ) → uses (observationTest former clock sample) ≡ []
 unfolding consumed

@@ -1,5 +1,5 @@
 -- What each test asks for: it passes exactly there.
-use Prim.Native.Nat.{ℕ, _<_}
+use Prim.Native.Nat.{ℕ, _+_, _<_}
 use mathlib.Core.Path.{_≡_}
 use mathlib.Core.Logic.{_≢_}
 use mathlib.Core.Bool.{_||_}
@@ -18,7 +18,7 @@ use Rattle.kinds.proofs.Verdicts.{not-refused, passed-by, then-pass}
 use Rattle.model.specs.declared.Table.{Table}
 use Rattle.model.specs.Tally.{lowestEmpty}
 use Rattle.model.specs.Tables.{txidAt}
-use Rattle.model.specs.Tests.{slotTest, holderTest, ownerTest, reservationTest, fullTest, observationTest}
+use Rattle.model.specs.Tests.{slotTest, holderTest, ownerTest, farthest, reservationTest, fullTest, observationTest}
 use Rattle.model.specs.Accepted.{Owns, Free, Reserves, Observes}
 use Rattle.model.proofs.Tally.{lowest-empty, below-lowest}
 
@@ -38,7 +38,8 @@ owns n t slot id e =
 pub reserves : (clock : ℕ) (number : Stamp) → reservationTest clock number ≡ Pass → Reserves clock (number .0)
 reserves clock number e =
     let (a, e₁) = not-refused (leb top clock) _ _ e in
-    let (b, e₂) = not-refused (eqb (number .0) 0 || (ltb (number .0) clock || leb top (number .0))) _ Pass e₁ in
+    let (b, e₂) = not-refused (eqb (number .0) 0 || (ltb (number .0) clock || leb top (number .0))) _ _ e₁ in
+    let (c, e₃) = not-refused (ltb (clock + farthest) (number .0)) _ Pass e₂ in
     let (b₀, b′) = neither (eqb (number .0) 0) _ .0 b in
     let (b₁, b₂) = neither (ltb (number .0) clock) (leb top (number .0)) .0 b′ in
     let nz : number .0 ≢ 0 = eqb-false (number .0) 0 b₀ in
@@ -46,6 +47,7 @@ reserves clock number e =
       positive = omega arith;
       from-clock = ltb-false (number .0) clock b₁;
       below-top = leb-false top (number .0) b₂;
+      near = ltb-false (clock + farthest) (number .0) c;
     }
 
 pub observes : (former clock sample : ℕ) → observationTest former clock sample ≡ Pass → Observes former clock sample
@@ -88,6 +90,7 @@ reservation-passes clock number r =
       ne-eqb (number .0) 0 (λ z. omega arith),
       le-ltb (number .0) clock (r .from-clock),
       lt-leb top (number .0) (r .below-top),
+      le-ltb (clock + farthest) (number .0) (r .near),
     )
 
 pub observation-passes : (former clock sample : ℕ) → Observes former clock sample → observationTest former clock sample ≡ Pass

@@ -1,5 +1,5 @@
 -- When a call is accepted, said of its arguments without an order of checks.
-use Prim.Native.Nat.{ℕ, _≤_, _<_}
+use Prim.Native.Nat.{ℕ, _+_, _≤_, _<_}
 use mathlib.Core.Path.{_≡_}
 use mathlib.Core.Logic.{_≢_}
 use Rattle.kinds.specs.declared.SlotNo.{SlotNo}
@@ -7,6 +7,7 @@ use Rattle.kinds.specs.declared.Txid.{Txid}
 use Rattle.kinds.specs.Kinds.{top}
 use Rattle.model.specs.declared.Table.{Table}
 use Rattle.model.specs.Tables.{txidAt, clockOf}
+use Rattle.model.specs.Tests.{farthest}
 use Rattle.model.specs.Calls.{Call, begin, end, snap, own, oldest, vacuum, stamp, finish}
 
 -- the transaction (slot, id) is registered: the slot holds that txid
@@ -30,6 +31,7 @@ pub record Reserves (clock number : ℕ) : Type 0 where
   pub positive : 1 ≤ number
   pub from-clock : clock ≤ number
   pub below-top : number < top
+  pub near : number ≤ clock + farthest
 
 -- a clock and a sample of it that may be observed after the former clock
 pub record Observes (former clock sample : ℕ) : Type 0 where

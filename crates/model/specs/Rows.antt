@@ -5,7 +5,7 @@ use mathlib.Core.List.{List, [], _∷_}
 use lib.ListN.{length, replicate}
 use Rattle.kinds.specs.declared.Stamp.{Stamp}
 use Rattle.kinds.specs.declared.refusal.Refusal.the-variants.{NoFreeSlot, InvalidSlot, SlotOwnershipMismatch, ZeroTxid, ClockExhausted}
-use Rattle.kinds.specs.declared.refusal.Refusal.the-variants.{BadReservation, BadClock, BadSample}
+use Rattle.kinds.specs.declared.refusal.Refusal.the-variants.{BadReservation, WildJump, BadClock, BadSample}
 use Rattle.kinds.specs.Kinds.{top, number, slot, txid}
 use Rattle.settled.specs.declared.Snapshot.{Snapshot}
 use Rattle.settled.specs.Snapshots.{noSnapshot}
@@ -103,18 +103,10 @@ rows n any =
     ∷ one (three n) (snap 12 12) (snapped n 4 12 (9 ∷ 4 ∷ 7 ∷ []) 12)
     -- P5 full with ids from 1 on, clock 300, begin 400: refusal 1 with 400, clock 401
     ∷ one (full n 300) (begin (number 400)) (seen n (Refused (NoFreeSlot (txid 400))) 401 1)
-    -- P6 clock 1, begin 2^64 − 2: accepted, clock 2^64 − 1
-    ∷ one (freshTable n) (begin (number 18446744073709551614))
-    (seen n (Begun (slot 0) (txid 18446744073709551614)) 18446744073709551615 1)
-    -- P7 any begin then: 5
-    ∷ record {
-      start = freshTable n;
-      calls = begin (number 18446744073709551614) ∷ begin any ∷ [];
-      sees =
-          seen n (Begun (slot 0) (txid 18446744073709551614)) 18446744073709551615 1
-          ∷ seen n (Refused ClockExhausted) 18446744073709551615 1
-          ∷ [];
-    }
+    -- P6 clock 1, begin 2^64 − 2: 13
+    ∷ one (freshTable n) (begin (number 18446744073709551614)) (seen n (Refused WildJump) 1 1)
+    -- P7 clock 2^64 − 1, any begin: 5
+    ∷ one (empty n top) (begin any) (seen n (Refused ClockExhausted) top 1)
     -- P8 clock 1, begin 2^64 − 1: 6
     ∷ one (freshTable n) (begin (number 18446744073709551615)) (seen n (Refused BadReservation) 1 1)
     -- P9 end, the first slot number that no slot has, id 0: 2
@@ -155,10 +147,11 @@ nowhere n clock = seen n (Refused (InvalidSlot (slot n))) clock 1
 abbrev exhausted : ℕ → Table
 exhausted n = holding (9 ∷ replicate (n - 1) 0) top
 
--- a call that earns two refusals is given the one that its order has first; the clock of `three` is 12
+-- a call that earns two refusals is given the one that its order has first; the clock of `three` is 12, so that 4294967308 is the
+-- farthest number there. 5 and 13 are never earned together: no number is above 2^64 − 1
 unfoldable pub orders : ℕ → List Row
 orders n =
-    -- 2 before 4, by every call that names a registration; before 3; before 7 and 8, and before 5 and 6
+    -- 2 before 4, by every call that names a registration; before 3; before 7 and 8, and before 5, 6 and 13
     one (three n) (end (slot n) (txid 0)) (nowhere n 12)
     ∷ one (three n) (own (slot n) (txid 0) 12 1) (nowhere n 12)
     ∷ one (three n) (finish (slot n) (txid 0) (number 12)) (nowhere n 12)
@@ -169,15 +162,17 @@ orders n =
     ∷ one (three n) (own (slot n) (txid 9) 12 0) (nowhere n 12)
     ∷ one (exhausted n) (finish (slot n) (txid 9) (number 1)) (nowhere n top)
     ∷ one (three n) (finish (slot n) (txid 9) (number 0)) (nowhere n 12)
+    ∷ one (three n) (finish (slot n) (txid 9) (number 4294967309)) (nowhere n 12)
     -- 4 before 3
     ∷ one (three n) (end (slot 0) (txid 0)) (seen n (Refused ZeroTxid) 12 1)
     ∷ one (three n) (own (slot 0) (txid 0) 12 1) (seen n (Refused ZeroTxid) 12 1)
     ∷ one (three n) (finish (slot 0) (txid 0) (number 12)) (seen n (Refused ZeroTxid) 12 1)
-    -- 4 before 7 and 8, and before 5 and 6
+    -- 4 before 7 and 8, and before 5, 6 and 13
     ∷ one (three n) (own (slot 0) (txid 0) 11 1) (seen n (Refused ZeroTxid) 12 1)
     ∷ one (three n) (own (slot 0) (txid 0) 12 0) (seen n (Refused ZeroTxid) 12 1)
     ∷ one (exhausted n) (finish (slot 0) (txid 0) (number 1)) (seen n (Refused ZeroTxid) top 1)
     ∷ one (three n) (finish (slot 0) (txid 0) (number 0)) (seen n (Refused ZeroTxid) 12 1)
+    ∷ one (three n) (finish (slot 0) (txid 0) (number 4294967309)) (seen n (Refused ZeroTxid) 12 1)
     -- 3 before 7 and 8
     ∷ one (three n) (own (slot 0) (txid 6) 11 1) (seen n mismatch 12 1)
     ∷ one (three n) (own (slot 0) (txid 6) 12 0) (seen n mismatch 12 1)
@@ -189,18 +184,34 @@ orders n =
     -- 8: the sample is 0, or above the given clock
     ∷ one (three n) (snap 12 0) (seen n (Refused BadSample) 12 1)
     ∷ one (three n) (own (slot 0) (txid 9) 12 13) (seen n (Refused BadSample) 12 1)
-    -- 3 before 5 and 6
+    -- 3 before 5, 6 and 13
     ∷ one (exhausted n) (finish (slot 0) (txid 6) (number 1)) (seen n mismatch top 1)
     ∷ one (three n) (finish (slot 0) (txid 6) (number 0)) (seen n mismatch 12 1)
+    ∷ one (three n) (finish (slot 0) (txid 6) (number 4294967309)) (seen n mismatch 12 1)
     -- 5 before 6, and 6 at a number below the clock, by every call that reserves
     ∷ one (empty n top) (begin (number 0)) (seen n (Refused ClockExhausted) top 1)
     ∷ one (empty n top) (stamp (number 0)) (seen n (Refused ClockExhausted) top 1)
     ∷ one (exhausted n) (finish (slot 0) (txid 9) (number 0)) (seen n (Refused ClockExhausted) top 1)
     ∷ one (three n) (stamp (number 11)) (seen n (Refused BadReservation) 12 1)
     ∷ one (three n) (finish (slot 0) (txid 9) (number 11)) (seen n (Refused BadReservation) 12 1)
-    -- 5 and 6 before 1
+    -- 6 before 13, and 13 one past the farthest number, by every call that reserves; the farthest itself is accepted
+    ∷ one (three n) (begin (number top)) (seen n (Refused BadReservation) 12 1)
+    ∷ one (three n) (stamp (number top)) (seen n (Refused BadReservation) 12 1)
+    ∷ one (three n) (finish (slot 0) (txid 9) (number top)) (seen n (Refused BadReservation) 12 1)
+    ∷ one (three n) (begin (number 4294967309)) (seen n (Refused WildJump) 12 1)
+    ∷ one (three n) (stamp (number 4294967309)) (seen n (Refused WildJump) 12 1)
+    ∷ one (three n) (finish (slot 0) (txid 9) (number 4294967309)) (seen n (Refused WildJump) 12 1)
+    ∷ one (empty n 12) (begin (number 4294967308)) (seen n (Begun (slot 0) (txid 4294967308)) 4294967309 1)
+    ∷ one (three n) (stamp (number 4294967308)) (seen n (Stamped (number 4294967308)) 4294967309 1)
+    ∷ one (three n) (finish (slot 0) (txid 9) (number 4294967308)) (seen n (Stamped (number 4294967308)) 4294967309 1)
+    -- near the end of the clock nothing wraps: 2^64 − 2 is still reserved there
+    ∷ one (empty n 18446744073709551614) (stamp (number 18446744073709551614))
+    (seen n (Stamped (number 18446744073709551614)) top 1)
+    -- 5, 6 and 13 before 1
     ∷ one (full n top) (begin (number 1)) (seen n (Refused ClockExhausted) top 1)
     ∷ one (full n 300) (begin (number 299)) (seen n (Refused BadReservation) 300 1)
+    ∷ one (full n 300) (begin (number 4294967597)) (seen n (Refused WildJump) 300 1)
+    ∷ one (full n 300) (begin (number 4294967596)) (seen n (Refused (NoFreeSlot (txid 4294967596))) 4294967597 1)
     ∷ []
 
 -- every row holds, P7 whatever its number, and every order

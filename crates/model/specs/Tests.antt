@@ -1,5 +1,5 @@
 -- When a call is refused, and by what: each test on the numbers that it reads. An earlier refusal of a call's order hides the later ones.
-use Prim.Native.Nat.{ℕ}
+use Prim.Native.Nat.{ℕ, _+_}
 use mathlib.Core.List.{List}
 use mathlib.Core.Bool.{cond, _||_}
 use lib.Dec.{eqb, ltb, leb}
@@ -8,7 +8,7 @@ use Rattle.kinds.specs.declared.Stamp.{Stamp}
 use Rattle.kinds.specs.declared.SlotNo.{SlotNo}
 use Rattle.kinds.specs.declared.Txid.{Txid}
 use Rattle.kinds.specs.declared.refusal.Refusal.the-variants.{NoFreeSlot, InvalidSlot, SlotOwnershipMismatch, ClockExhausted}
-use Rattle.kinds.specs.declared.refusal.Refusal.the-variants.{BadReservation, BadClock, BadSample}
+use Rattle.kinds.specs.declared.refusal.Refusal.the-variants.{BadReservation, WildJump, BadClock, BadSample}
 use Rattle.kinds.specs.declared.refusal.Verdict.{Verdict}
 use Rattle.kinds.specs.declared.refusal.Verdict.the-variants.{Pass, Refuse}
 use Rattle.kinds.specs.Kinds.{top, txid, txidOf}
@@ -29,12 +29,17 @@ holderTest txids slot id =
 abbrev pub ownerTest : ℕ → List ℕ → SlotNo → Txid → Verdict
 ownerTest n txids slot id = then (slotTest n slot) (then (zeroTest id) (holderTest txids slot id))
 
--- 5: the clock is at its end. 6: the number is 0, below the clock, or 2^64 − 1. By ≤, which is the same on 64-bit numbers: the
--- theorems then need no ranges
+-- how far above the clock a reserved number may lie: 2^32
+abbrev pub farthest : ℕ
+farthest = 4294967296
+
+-- 5: the clock is at its end. 6: the number is 0, below the clock, or 2^64 − 1. 13: it lies farther above the clock. By ≤ and <,
+-- which is the same on 64-bit numbers: the theorems then need no ranges, and no sum has an end
 abbrev pub reservationTest : ℕ → Stamp → Verdict
 reservationTest clock number =
     cond (leb top clock) (Refuse ClockExhausted)
-    (cond (eqb (number .0) 0 || (ltb (number .0) clock || leb top (number .0))) (Refuse BadReservation) Pass)
+    (cond (eqb (number .0) 0 || (ltb (number .0) clock || leb top (number .0))) (Refuse BadReservation)
+    (cond (ltb (clock + farthest) (number .0)) (Refuse WildJump) Pass))
 
 -- 1: all slots are taken
 abbrev pub fullTest : ℕ → List ℕ → Stamp → Verdict

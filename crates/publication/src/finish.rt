@@ -16,7 +16,7 @@ ghost use Rattle.model.specs.Tables.{lentTxids};
 ghost use Rattle.model.specs.Tests.{ownerTest, reservationTest};
 ghost use Rattle.model.specs.Calls.{finish, decision, outcome};
 
-// Refusals 2, 4, 3, 5, 6, in this order.
+// Refusals 2, 4, 3, 5, 6, 13, in this order.
 fn finish_test(txids: &[u64], clock: u64, slot: SlotNo, id: Txid, number: Stamp) -> Verdict
     ensures { λ r. do
       ⌜ r ≡ then (ownerTest (← ⟦kinds::SLOTS⟧ .entry) (now (txids .entry)) slot id) (reservationTest clock number) ⌝ }

@@ -13,8 +13,8 @@ ghost use mathlib.Core.List.{[]};
 ghost use Rattle.model.specs.Tables.{lentTxids};
 ghost use Rattle.model.specs.Calls.{stamp, decision, outcome};
 
-// What a stamp decides, for who owns the table in place and so makes the change there; it reads no slot. Refusals 5, 6, in
-// this order.
+// What a stamp decides, for who owns the table in place and so makes the change there; it reads no slot. Refusals 5, 6, 13,
+// in this order.
 pub fn decide_stamp(was: Counters, number: Stamp) -> Decision
     ensures { λ r. do ⌜ r ≡ decision (← ⟦kinds::SLOTS⟧ .entry) (lentTxids [] was) (stamp number) ⌝ }
 {

@@ -24,7 +24,7 @@ use Rattle.changes.specs.Reserved.{reservedFrom}
 use Rattle.changes.proofs.Past.{reserved-past}
 
 module _ (n : ℕ) (t : Table) (number : Stamp) where
-  -- 5, 6: as a stamp's, such a refusal consumes nothing
+  -- 5, 6, 13: as a stamp's, such a refusal consumes nothing
   pub begin-refused :
       {r : Refusal} → reservationTest (clockOf t) number ≡ Refuse r → refusedDecision (t .counters) r ≡ decision n t (begin number)
   unfolding refusal changeOf answer decision

@@ -15,7 +15,7 @@ ghost use mathlib.Core.Path.{_≡_};
 ghost use Rattle.model.specs.Tables.{lentTxids};
 ghost use Rattle.model.specs.Calls.{begin, decision, outcome};
 
-// What begin decides, for who owns the table in place and so makes the change there. Refusals 5, 6, 1, in this order;
+// What begin decides, for who owns the table in place and so makes the change there. Refusals 5, 6, 13, 1, in this order;
 // refusal 1 still consumes the txid.
 pub fn decide_begin(txids: &[u64], was: Counters, number: Stamp) -> Decision
     ensures { λ r. do ⌜ r ≡ decision (← ⟦kinds::SLOTS⟧ .entry) (lentTxids (now (txids .entry)) was) (begin number) ⌝ }

@@ -38,6 +38,9 @@ everyRefusal =
     -- 6 before 1: 0, and all slots are taken
     ∷ row "op=begin\nslot=0\nid=0\nstamp=0\nclock=0\nsample=0\n"
     "answer=6\nslot=0\nid=0\nseen=0\nxmin=0\nxmax=0\nvacuum=1\ncount=0\n"
+    -- 13 before 1: one more than 2^32 above the clock, which is 9
+    ∷ row "op=begin\nslot=0\nid=0\nstamp=4294967306\nclock=0\nsample=0\n"
+    "answer=13\nslot=0\nid=0\nseen=0\nxmin=0\nxmax=0\nvacuum=1\ncount=0\n"
     -- 1: all slots are taken; the number is consumed ..
     ∷ row "op=begin\nslot=0\nid=0\nstamp=10\nclock=0\nsample=0\n"
     "answer=1\nslot=0\nid=10\nseen=0\nxmin=0\nxmax=0\nvacuum=1\ncount=0\n"
@@ -119,11 +122,27 @@ everyRefusal =
     -- no id is active
     ∷ row "op=snap\nslot=0\nid=0\nstamp=0\nclock=21\nsample=21\n"
     "answer=0\nslot=0\nid=0\nseen=0\nxmin=21\nxmax=21\nvacuum=5\ncount=0\n"
-    -- 6: 2^64 − 1
+    -- 6 before 13: 2^64 − 1
     ∷ row "op=begin\nslot=0\nid=0\nstamp=18446744073709551615\nclock=0\nsample=0\n"
     "answer=6\nslot=0\nid=0\nseen=0\nxmin=0\nxmax=0\nvacuum=5\ncount=0\n"
     ∷ row "op=begin\nslot=0\nid=0\nstamp=22\nclock=0\nsample=0\n"
     "answer=0\nslot=0\nid=22\nseen=0\nxmin=0\nxmax=0\nvacuum=5\ncount=0\n"
+    -- 13: one more than 2^32 above the clock, which is 23; the transaction stays registered
+    ∷ row "op=begin\nslot=0\nid=0\nstamp=4294967320\nclock=0\nsample=0\n"
+    "answer=13\nslot=0\nid=0\nseen=0\nxmin=0\nxmax=0\nvacuum=5\ncount=0\n"
+    ∷ row "op=stamp\nslot=0\nid=0\nstamp=4294967320\nclock=0\nsample=0\n"
+    "answer=13\nslot=0\nid=0\nseen=0\nxmin=0\nxmax=0\nvacuum=5\ncount=0\n"
+    ∷ row "op=finish\nslot=0\nid=22\nstamp=4294967320\nclock=0\nsample=0\n"
+    "answer=13\nslot=0\nid=0\nseen=0\nxmin=0\nxmax=0\nvacuum=5\ncount=0\n"
+    -- 3 before 13
+    ∷ row "op=finish\nslot=0\nid=1\nstamp=4294967320\nclock=0\nsample=0\n"
+    "answer=3\nslot=0\nid=1\nseen=22\nxmin=0\nxmax=0\nvacuum=5\ncount=0\n"
+    -- 2^32 above the clock is accepted
+    ∷ row "op=stamp\nslot=0\nid=0\nstamp=4294967319\nclock=0\nsample=0\n"
+    "answer=0\nslot=0\nid=4294967319\nseen=0\nxmin=0\nxmax=0\nvacuum=5\ncount=0\n"
+    -- a given clock may lie as far as it likes
+    ∷ row "op=snap\nslot=0\nid=0\nstamp=0\nclock=18446744073709551614\nsample=21\n"
+    "answer=0\nslot=0\nid=0\nseen=0\nxmin=21\nxmax=23\nvacuum=5\ncount=1\nin=22\n"
     -- the last number: the clock is 2^64 − 1
     ∷ row "op=begin\nslot=0\nid=0\nstamp=18446744073709551614\nclock=0\nsample=0\n"
     "answer=0\nslot=1\nid=18446744073709551614\nseen=0\nxmin=0\nxmax=0\nvacuum=5\ncount=0\n"
@@ -167,7 +186,7 @@ pub record Examples : Type 0 where
       ≡ bytes "answer=0\nslot=0\nid=5\nseen=0\nxmin=0\nxmax=0\nvacuum=1\ncount=0\n"
       ++ bytes "answer=0\nslot=0\nid=0\nseen=0\nxmin=3\nxmax=6\nvacuum=1\ncount=1\nin=5\n"
       ++ bytes "records=2\n"
-  pub every-refusal : replayOf 2 (bytes "trace=proc-1\n" ++ readsOf everyRefusal) ≡ printsOf everyRefusal ++ bytes "records=45\n"
+  pub every-refusal : replayOf 2 (bytes "trace=proc-1\n" ++ readsOf everyRefusal) ≡ printsOf everyRefusal ++ bytes "records=52\n"
   -- the header alone (SPEC 10.3)
   pub no-record : replayOf 2 (bytes "trace=proc-1\n") ≡ bytes "records=0\n"
   -- refusal 9 prints two lines, whatever stands before the broken one (SPEC 9.3, 10.4)

@@ -1,6 +1,7 @@
 -- What upstream required of a call, and what its trait promised of numbers, clocks and samples (`Asked`), keeps refusals 4 to 8
--- away: the tests for 4, for 5 and 6, and for 7 and 8 then pass, and what the others refuse by is 1, 2 or 3.
-use Prim.Native.Nat.{ℕ, _<_}
+-- away, and 13 where the number is near the clock, of which upstream knows nothing: the tests for 4, for 5, 6 and 13, and for 7
+-- and 8 then pass, and what the others refuse by is 1, 2 or 3.
+use Prim.Native.Nat.{ℕ, _+_, _≤_, _<_}
 use mathlib.Core.Path.{_≡_}
 use mathlib.Core.Bool.{Bool, true, false, cond}
 use mathlib.Core.List.{List}
@@ -17,7 +18,7 @@ use Rattle.kinds.specs.Verdicts.{then, zeroTest}
 use Rattle.model.specs.declared.Table.{Table}
 use Rattle.model.specs.Tally.{lowestEmpty}
 use Rattle.model.specs.Tables.{txidAt, clockOf}
-use Rattle.model.specs.Tests.{slotTest, holderTest, ownerTest, reservationTest, fullTest, observationTest}
+use Rattle.model.specs.Tests.{slotTest, holderTest, ownerTest, farthest, reservationTest, fullTest, observationTest}
 use Rattle.model.specs.Accepted.{Reserves, Observes}
 use Rattle.model.specs.Calls.{Call, begin, end, snap, own, oldest, vacuum, stamp, finish, refusal}
 use Rattle.model.proofs.Tests.{reservation-passes, observation-passes}
@@ -73,12 +74,13 @@ module _ (n : ℕ) (t : Table) where
       then-foreseen (ownerTest n (t .txids) i id) (reservationTest (clockOf t) k) (owner-foreseen i id h)
       (reserves-foreseen k f)
 
--- the trait's `reservation`, with the clock above 0 that it required, and its `observation` give what is asked
+-- the trait's `reservation`, with the clock above 0 that it required and a number near it, and its `observation` give what is asked
 module _ (t : Table) (history : List ℕ) (new : State) where
   pub reservation-reserves :
-      (k : Stamp) → 0 < clockOf t → Reservation (stateOf t history) new (k .0) → Reserves (clockOf t) (k .0)
-  reservation-reserves k h r =
-      record { positive = omega (arith, r .from-clock); from-clock = r .from-clock; below-top = r .below-top }
+      (k : Stamp) → 0 < clockOf t → Reservation (stateOf t history) new (k .0) → k .0 ≤ clockOf t + farthest →
+      Reserves (clockOf t) (k .0)
+  reservation-reserves k h r near =
+      record { positive = omega (arith, r .from-clock); from-clock = r .from-clock; below-top = r .below-top; near = near }
 
   pub observation-observes :
       Observation (stateOf t history) new → Observes (clockOf t) (new .clock) (new .«sampled_clock»)

@@ -1,6 +1,6 @@
 -- How a call can go where its verdict is one that upstream foresees: accepted, or refused by 1, 2 or 3; and what its tests
 -- then tell. A test none of whose refusals is foreseen passes.
-use Prim.Native.Nat.{ℕ, _<_, _≤_}
+use Prim.Native.Nat.{ℕ, _+_, _<_, _≤_}
 use mathlib.Core.Path.{_≡_, refl, sym, _∙_}
 use mathlib.Core.Logic.{_≢_}
 use mathlib.Core.Bool.{Bool, true, false, cond, _||_}
@@ -13,7 +13,7 @@ use Rattle.kinds.specs.declared.SlotNo.{SlotNo}
 use Rattle.kinds.specs.declared.Txid.{Txid}
 use Rattle.kinds.specs.declared.refusal.Refusal.{Refusal}
 use Rattle.kinds.specs.declared.refusal.Refusal.the-variants.{NoFreeSlot, InvalidSlot, SlotOwnershipMismatch}
-use Rattle.kinds.specs.declared.refusal.Refusal.the-variants.{ClockExhausted, BadReservation, BadClock, BadSample}
+use Rattle.kinds.specs.declared.refusal.Refusal.the-variants.{ClockExhausted, BadReservation, WildJump, BadClock, BadSample}
 use Rattle.kinds.specs.Kinds.{top, txid, txidOf}
 use Rattle.kinds.specs.Refusals.{told}
 use Rattle.kinds.specs.declared.refusal.Verdict.{Verdict}
@@ -23,7 +23,7 @@ use Rattle.kinds.proofs.Verdicts.{refuse-not-pass}
 use Rattle.model.specs.declared.Table.{Table}
 use Rattle.model.specs.Tally.{lowestEmpty}
 use Rattle.model.specs.Tables.{txidAt, clockOf}
-use Rattle.model.specs.Tests.{ownerTest, reservationTest, fullTest, observationTest}
+use Rattle.model.specs.Tests.{ownerTest, farthest, reservationTest, fullTest, observationTest}
 use Rattle.model.specs.Changes.{applied}
 use Rattle.model.specs.Calls.{Call, begin, refusal, changeBy}
 use Rattle.model.specs.Accepted.{Reserves, Acceptable}
@@ -46,7 +46,8 @@ pub reservation-strict : (clock : ℕ) (k : Stamp) → Strict (reservationTest c
 unfolding told
 reservation-strict clock k =
     strict-cond (leb top clock) ClockExhausted _ (λ f. omega arith)
-    (strict-cond (eqb (k .0) 0 || (ltb (k .0) clock || leb top (k .0))) BadReservation Pass (λ f. omega arith) (λ f. refl))
+    (strict-cond (eqb (k .0) 0 || (ltb (k .0) clock || leb top (k .0))) BadReservation _ (λ f. omega arith)
+    (strict-cond (ltb (clock + farthest) (k .0)) WildJump Pass (λ f. omega arith) (λ f. refl)))
 
 pub observation-strict : (former clock sample : ℕ) → Strict (observationTest former clock sample)
 unfolding told

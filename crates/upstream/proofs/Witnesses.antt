@@ -1,20 +1,26 @@
 -- States that meet the hypotheses of the proofs beside this file, so that none of them speaks of nothing; and tables of the
 -- right shape on which a clause fails, so that its condition is needed. All are computed.
+use Prim.Native.Nat.{ℕ}
 use mathlib.Core.Path.{_≡_, refl}
 use mathlib.Core.Bool.{true, false}
 use mathlib.Core.List.{List, [], _∷_, map}
+use native.Mathlib.Omega.{arith}
 use Rattle.kinds.specs.Kinds.{top, number, slot, txid}
-use Rattle.kinds.specs.declared.refusal.Refusal.the-variants.{NoFreeSlot, InvalidSlot, SlotOwnershipMismatch}
+use Rattle.kinds.specs.Refusals.{told}
+use Rattle.kinds.specs.declared.refusal.Refusal.the-variants.{NoFreeSlot, InvalidSlot, SlotOwnershipMismatch, WildJump}
 use Rattle.kinds.specs.declared.refusal.Verdict.the-variants.{Pass, Refuse}
 use Rattle.model.specs.declared.Table.{Table}
 use Rattle.model.specs.Tally.{active, lowestEmpty, minimum, maximum, snapshotOf}
 use Rattle.model.specs.Tables.{freshTable, counted, txidAt, lent}
 use Rattle.model.specs.Calls.{Call, begin, end, snap, own, oldest, stamp, finish}
-use Rattle.model.specs.Calls.{refusal, changeAccepted, changeOf, after, shownAccepted, shown}
+use Rattle.model.specs.Calls.{refusal, changeAccepted, changeOf, after, answer, shownAccepted, shown}
+use Rattle.model.specs.Answers.{tellsOf}
 use Rattle.model.specs.History.{run, reached}
 use Rattle.model.specs.Reservations.{reservationsFrom, reservations}
 use Rattle.model.specs.Check.{slotsPass, differ, passes, tablePasses}
 use Rattle.settled.specs.Settled.{listed}
+use Rattle.upstream.specs.States.{stateOf, stateAfter}
+use Rattle.upstream.specs.Clauses.{ReservePublicationClock}
 
 -- two slots, taken by 4 and by 7
 abbrev two-begins : List Call
@@ -63,6 +69,24 @@ both-foreseen = refl
 pub stale-xmax : shown 2 both-taken (own (slot 1) (txid 7) 9 3) ≡ record { xmin = 3; xmax = 8; ids = 4 ∷ 7 ∷ []; count = 2 }
 unfolding run refusal changeAccepted changeOf after freshTable lowestEmpty shownAccepted shown snapshotOf active minimum maximum
 stale-xmax = refl
+
+-- the clock there is 8: the number 2^32 above it is stamped. Upstream would stamp the next one too; ours is refusal 13, and
+-- upstream's clause on the number fails
+pub farthest-stamped : refusal 2 both-taken (stamp (number 4294967304)) ≡ Pass
+unfolding run refusal changeAccepted changeOf after freshTable lowestEmpty
+farthest-stamped = refl
+
+pub past-farthest : refusal 2 both-taken (stamp (number 4294967305)) ≡ Refuse WildJump
+unfolding run refusal changeAccepted changeOf after freshTable lowestEmpty
+past-farthest = refl
+
+pub past-farthest-fails :
+    (history : List ℕ) →
+    ReservePublicationClock 2 (stateOf both-taken history) (stateAfter 2 both-taken history (stamp (number 4294967305)))
+    (tellsOf (answer 2 both-taken (stamp (number 4294967305)))) →
+    ⊥
+unfolding run refusal changeAccepted changeOf after freshTable lowestEmpty answer tellsOf told
+past-farthest-fails history r = omega (arith, r .l-stamp-e2 .from-clock)
 
 -- two slots hold 5: the check says no, a finish of 5 in slot 0 is accepted, and slot 1 holds 5 after it
 abbrev twice : Table

@@ -66,12 +66,12 @@ historyBy v history c = pushes history (reservesBy v c)
 abbrev pub stateAfter : ℕ → Table → List ℕ → Call → State
 stateAfter n t history c = stateOf (after n t c) (historyBy (refusal n t c) history c)
 
--- upstream's outcomes by their numbers: 0, accepted, or one of its errors 1 to 3. So none of refusals 4 to 8, nor a later one
+-- upstream's outcomes by their numbers: 0, accepted, or one of its errors 1 to 3. So none of refusals 4 to 8, nor 13, nor another
 abbrev pub Foreseen : Verdict → Type 0
 Foreseen v = tells v .number ≤ 3
 
 -- what upstream asks of a call's arguments, itself or by its trait, in our words: a number that may be reserved, a txid above 0,
--- a clock and a sample that may be observed
+-- a clock and a sample that may be observed. That the number is near the clock upstream does not ask; our refusal 13 does
 abbrev pub Asked : Table → Call → Type 0
 Asked t (begin number) = Reserves (clockOf t) (number .0)
 Asked t (end slot id) = 0 < id .0

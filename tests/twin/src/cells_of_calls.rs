@@ -3,7 +3,7 @@
 use crate::coverage::Coverage;
 use crate::grounds;
 use crate::replay::{self, Answer};
-use crate::table::{SLOTS, Table};
+use crate::table::{FARTHEST, SLOTS, Table};
 use crate::trace::{self, Op, Record};
 
 pub fn required() -> Vec<String> {
@@ -14,7 +14,8 @@ pub fn required() -> Vec<String> {
         cells.push(format!("{name} answers 0"));
         for (place, first) in order.iter().enumerate() {
             cells.push(format!("{name} answers {first}"));
-            for second in &order[place + 1..] {
+            let later = order[place + 1..].iter();
+            for second in later.filter(|second| grounds::together(*first, **second)) {
                 cells.push(format!("{name} {first} before {second}"));
             }
         }
@@ -34,7 +35,7 @@ fn ways(op: Op) -> Vec<&'static str> {
         ways.extend(NUMBER_WAYS);
     }
     if op.reads_clock() {
-        ways.extend(["8 for sample 0", "8 for sample above clock"]);
+        ways.extend(CLOCK_WAYS);
     }
     match op {
         Op::Begin => ways.push("below a taken slot"),
@@ -60,13 +61,22 @@ const REGISTRATION_WAYS: [&str; 8] = [
     "slot 65535",
 ];
 
-const NUMBER_WAYS: [&str; 6] = [
+const NUMBER_WAYS: [&str; 9] = [
     "6 for 0",
     "6 just below clock",
     "6 for 2^64 - 1",
     "accepts the clock itself",
     "accepts above 2^32",
     "accepts 2^64 - 2",
+    "accepts 2^32 above the clock",
+    "13 one past 2^32 above the clock",
+    "13 for 2^64 - 2",
+];
+
+const CLOCK_WAYS: [&str; 3] = [
+    "8 for sample 0",
+    "8 for sample above clock",
+    "accepts a clock more than 2^32 on",
 ];
 
 const SNAPSHOT_WAYS: [&str; 7] = [
@@ -147,6 +157,17 @@ fn number_ways(before: &Table, record: &Record, answer: &Answer, hit: &mut impl 
     hit(fit && stamp == clock, "accepts the clock itself");
     hit(fit && stamp > 1 << 32, "accepts above 2^32");
     hit(fit && stamp == u64::MAX - 1, "accepts 2^64 - 2");
+    let above = stamp.checked_sub(clock);
+    hit(
+        fit && above == Some(FARTHEST),
+        "accepts 2^32 above the clock",
+    );
+    let wild = answer.number == 13;
+    hit(
+        wild && above == Some(FARTHEST + 1),
+        "13 one past 2^32 above the clock",
+    );
+    hit(wild && stamp == u64::MAX - 1, "13 for 2^64 - 2");
 }
 
 fn snapshot_ways(record: &Record, answer: &Answer, hit: &mut impl FnMut(bool, &str)) {
@@ -178,6 +199,8 @@ fn other_ways(before: &Table, record: &Record, answer: &Answer, hit: &mut impl F
     if answer.number != 0 {
         return;
     }
+    let on = record.clock.saturating_sub(before.clock());
+    hit(on > FARTHEST, "accepts a clock more than 2^32 on");
     let taken = before.slots().iter().filter(|slot| slot.txid != 0);
     let kept = taken.map(|slot| slot.snapshot_xmin).min();
     let least = kept.map_or(sample, |xmin| xmin.min(sample));

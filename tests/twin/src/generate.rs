@@ -80,28 +80,29 @@ const fn profile(
     }
 }
 
-/// The trace of a seed.
+/// The trace of a seed. Even seeds reserve no number too far above the clock, so that one half of all runs on.
 pub fn generate(seed: u64) -> Vec<u8> {
     let mut random = Random::new(seed);
+    let jumps = !seed.is_multiple_of(2);
     match random.below(20) {
         0..=9 => {
             let profile = &PROFILES[random.place(PROFILES.len())];
-            history(profile, random).text()
+            history(profile, random, jumps).text()
         }
         10..=15 => {
-            let text = small_history(&mut random).text();
+            let text = small_history(&mut random, jumps).text();
             damage::damaged(text, &mut random)
         }
         16..=18 => {
-            let text = small_history(&mut random).text();
+            let text = small_history(&mut random, jumps).text();
             damage_fields::unread_field(text, &mut random)
         }
-        _ => sized::long_text(&mut random),
+        _ => sized::long_text(&mut random, jumps),
     }
 }
 
-fn history(profile: &Profile, random: Random) -> History {
-    let mut history = History::new(random, profile.stride);
+fn history(profile: &Profile, random: Random, jumps: bool) -> History {
+    let mut history = History::new(random, profile.stride, jumps);
     start(&mut history, profile.start);
     let records = history.random.between(1, profile.most_records);
     for _ in 0..records {
@@ -133,8 +134,8 @@ fn start(history: &mut History, start: Start) {
 }
 
 /// A few records of every kind, for a text that will be damaged.
-fn small_history(random: &mut Random) -> History {
-    let mut history = History::new(Random::new(random.draw()), Stride::Wide);
+fn small_history(random: &mut Random, jumps: bool) -> History {
+    let mut history = History::new(Random::new(random.draw()), Stride::Wide, jumps);
     let records = if random.once_in(20) {
         0
     } else {

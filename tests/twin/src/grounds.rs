@@ -1,18 +1,23 @@
 //! The grounds of each refusal taken one by one, and the order that decides among them.
 
-use crate::table::{SLOTS, Table};
+use crate::table::{FARTHEST, SLOTS, Table};
 use crate::trace::{Op, Record};
 
 /// The order of checks of each op, as SPEC 3.2 lists it.
 pub fn order(op: Op) -> &'static [u8] {
     match op {
-        Op::Begin => &[5, 6, 1],
+        Op::Begin => &[5, 6, 13, 1],
         Op::End => &[2, 4, 3],
         Op::Own => &[2, 4, 3, 7, 8],
         Op::Snap | Op::Oldest | Op::Vacuum => &[7, 8],
-        Op::Stamp => &[5, 6],
-        Op::Finish => &[2, 4, 3, 5, 6],
+        Op::Stamp => &[5, 6, 13],
+        Op::Finish => &[2, 4, 3, 5, 6, 13],
     }
+}
+
+/// Whether both grounds can hold at once: no number is above a clock of 2^64 - 1.
+pub fn together(first: u8, second: u8) -> bool {
+    (first, second) != (5, 13)
 }
 
 /// The refusals of the op whose ground holds, whether or not an earlier one does too.
@@ -41,6 +46,7 @@ fn holds(number: u8, table: &Table, record: &Record) -> bool {
         }
         7 => record.clock < table.clock(),
         8 => !(1..=record.clock).contains(&record.sample),
+        13 => u128::from(record.stamp) > u128::from(table.clock()) + u128::from(FARTHEST),
         _ => unreachable!("no op gives refusal {number}"),
     }
 }

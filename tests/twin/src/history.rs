@@ -2,11 +2,11 @@
 
 use crate::random::Random;
 use crate::replay;
-use crate::table::{SLOTS, Table};
+use crate::table::{FARTHEST, SLOTS, Table};
 use crate::text;
 use crate::trace::{LIMIT, Op, Record};
 
-/// How far reserved numbers and clocks run ahead.
+/// How far reserved numbers and clocks run ahead; a reserved number no farther than it may, but by a fault.
 #[derive(Clone, Copy, Debug, PartialEq, Eq)]
 pub enum Stride {
     /// A few at a time, so that ids stay dense.
@@ -24,6 +24,7 @@ pub struct Faults {
     pub zero_id: bool,
     pub other_id: bool,
     pub number: bool,
+    pub far: bool,
     pub clock: bool,
     pub sample: bool,
 }
@@ -33,16 +34,19 @@ pub struct History {
     pub records: Vec<Record>,
     table: Table,
     stride: Stride,
+    /// Whether a fault may take a reserved number too far above the clock.
+    jumps: bool,
     length: usize,
 }
 
 impl History {
-    pub fn new(random: Random, stride: Stride) -> Self {
+    pub fn new(random: Random, stride: Stride, jumps: bool) -> Self {
         History {
             random,
             records: Vec::new(),
             table: Table::fresh(),
             stride,
+            jumps,
             length: text::HEADER_LINE.len(),
         }
     }
@@ -72,10 +76,10 @@ impl History {
         }
     }
 
-    /// Leaves `left` numbers (or none) to be reserved.
+    /// Leaves `left` numbers (or none) to be reserved. An observation takes the clock there: no reservation could.
     pub fn use_up(&mut self, left: u64) {
-        let last = (u64::MAX - 1 - left).max(self.table.clock());
-        self.push(plain(Op::Stamp).with_stamp(last));
+        let clock = (u64::MAX - left).max(self.table.clock());
+        self.push(plain(Op::Oldest).with_clock(clock, 1));
     }
 
     pub fn faults(&mut self, once_in: u64) -> Faults {
@@ -85,6 +89,7 @@ impl History {
             zero_id: one(),
             other_id: one(),
             number: one(),
+            far: one() && self.jumps,
             clock: one(),
             sample: one(),
         }
@@ -99,6 +104,8 @@ impl History {
         if op.reads_stamp() {
             record.stamp = if faults.number {
                 self.bad_number()
+            } else if faults.far {
+                self.far_number()
             } else {
                 self.next_number()
             };
@@ -164,7 +171,20 @@ impl History {
     }
 
     fn next_number(&mut self) -> u64 {
-        self.ahead_of_clock().min(u64::MAX - 1)
+        let farthest = self.table.clock().saturating_add(FARTHEST);
+        self.ahead_of_clock().min(farthest).min(u64::MAX - 1)
+    }
+
+    /// A number too far above the clock, where there is one below 2^64 - 1.
+    fn far_number(&mut self) -> u64 {
+        let past = self.table.clock().saturating_add(FARTHEST + 1);
+        let far = match self.random.below(4) {
+            0 => past,
+            1 => past.saturating_add(self.random.below(9)),
+            2 => u64::MAX,
+            _ => self.random.between(past, u64::MAX),
+        };
+        far.min(u64::MAX - 1)
     }
 
     fn ahead_of_clock(&mut self) -> u64 {

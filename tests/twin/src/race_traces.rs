@@ -29,7 +29,7 @@ pub fn all() -> Vec<RaceTrace> {
 
 /// A table with `taken` slots, then records until the text is full.
 fn until_full(taken: usize, next: impl Fn(&mut History, usize) -> Record) -> Vec<u8> {
-    let mut history = History::new(Random::new(1), Stride::Short);
+    let mut history = History::new(Random::new(1), Stride::Short, false);
     history.fill(taken);
     extend(&mut history, next);
     history.text()
@@ -62,7 +62,7 @@ fn any_op(history: &mut History, _: usize) -> Record {
 }
 
 fn wide() -> Vec<u8> {
-    let mut history = History::new(Random::new(2), Stride::Wide);
+    let mut history = History::new(Random::new(2), Stride::Wide, false);
     extend(&mut history, any_op);
     history.text()
 }

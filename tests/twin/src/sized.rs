@@ -9,7 +9,7 @@ use crate::trace::{LIMIT, Op, Record};
 /// Length of the shortest record: own with every number 0.
 const SHORTEST: usize = 44;
 
-pub fn long_text(random: &mut Random) -> Vec<u8> {
+pub fn long_text(random: &mut Random, jumps: bool) -> Vec<u8> {
     let limit = LIMIT as u64;
     let length = match random.below(10) {
         0 => limit,
@@ -18,16 +18,16 @@ pub fn long_text(random: &mut Random) -> Vec<u8> {
         4 => random.between(limit + 1, 300_000),
         5 => return short_records(1_489 - random.below(2)),
         6 => return vec![random.pick(GARBAGE); LIMIT + random.place(2)],
-        _ => return spoilt(random),
+        _ => return spoilt(random, jumps),
     };
-    padded(random, length as usize)
+    padded(random, jumps, length as usize)
 }
 
 const GARBAGE: &[u8] = b"\n0x=\0\xff";
 
 /// A text as long as allowed, or a byte longer, with something wrong in it.
-fn spoilt(random: &mut Random) -> Vec<u8> {
-    let mut text = padded(random, LIMIT);
+fn spoilt(random: &mut Random, jumps: bool) -> Vec<u8> {
+    let mut text = padded(random, jumps, LIMIT);
     match random.below(4) {
         0 => return damage::damaged(text, random),
         1 => text[LIMIT - 1] = random.pick(GARBAGE),
@@ -45,8 +45,8 @@ fn short_records(count: u64) -> Vec<u8> {
 }
 
 /// A text with good grammar of exactly `length` bytes.
-fn padded(random: &mut Random, length: usize) -> Vec<u8> {
-    let mut history = History::new(Random::new(random.draw()), Stride::Wide);
+fn padded(random: &mut Random, jumps: bool, length: usize) -> Vec<u8> {
+    let mut history = History::new(Random::new(random.draw()), Stride::Wide, jumps);
     for _ in 0..random.below(200) {
         let op = history.random.pick(&Op::ALL);
         let faults = history.faults(6);

@@ -2,6 +2,9 @@
 
 use twin::coverage::Coverage;
 use twin::generate::generate;
+use twin::replay;
+use twin::table::Table;
+use twin::trace;
 
 #[test]
 fn a_seed_fixes_the_text() {
@@ -17,6 +20,23 @@ fn two_thousand_seeds_reach_every_cell() {
         coverage.add(&generate(seed));
     }
     assert!(coverage.is_complete(), "{coverage}");
+}
+
+/// Whether some record of the seed's trace is refused for its jump.
+fn jumps(seed: u64) -> bool {
+    let records = trace::read(&generate(seed)).unwrap_or_default();
+    let mut table = Table::fresh();
+    records
+        .iter()
+        .any(|record| replay::run(&mut table, record).number == 13)
+}
+
+#[test]
+fn half_of_the_seeds_stay_within_the_limit() {
+    let even = (1..=1_000).filter(|half| jumps(2 * half)).count();
+    let odd = (1..=1_000).filter(|half| jumps(2 * half - 1)).count();
+    assert_eq!(even, 0);
+    assert!(odd > 100, "{odd}");
 }
 
 #[test]

@@ -1,6 +1,6 @@
 //! The table's calls: what a trace's output doesn't show.
 
-use twin::table::{Refusal, SLOTS, Slot, Table};
+use twin::table::{FARTHEST, Refusal, SLOTS, Slot, Table};
 
 fn full() -> Table {
     let mut table = Table::fresh();
@@ -84,8 +84,46 @@ fn refusals_but_the_first_leave_the_table() {
 }
 
 #[test]
+fn a_number_too_far_is_refused() {
+    let mut table = Table::fresh();
+    table.begin(5).unwrap();
+    let before = whole(&table);
+    let farthest = 6 + FARTHEST;
+    for far in [farthest + 1, u64::MAX - 1] {
+        assert_eq!(table.begin(far), Err(Refusal::WildJump));
+        assert_eq!(table.stamp(far), Err(Refusal::WildJump));
+        assert_eq!(table.finish(0, 5, far), Err(Refusal::WildJump));
+    }
+    assert_eq!(table.stamp(u64::MAX), Err(Refusal::BadReservation));
+    assert_eq!(table.finish(0, 4, farthest + 1).unwrap_err().number(), 3);
+    assert_eq!(whole(&table), before);
+    assert_eq!(table.finish(0, 5, farthest), Ok(farthest));
+    assert_eq!(table.clock(), farthest + 1);
+}
+
+#[test]
+fn too_far_comes_before_a_full_table() {
+    let mut table = full();
+    let clock = table.clock();
+    let farthest = clock + FARTHEST;
+    assert_eq!(table.begin(farthest + 1), Err(Refusal::WildJump));
+    assert_eq!(table.clock(), clock);
+    let refused = table.begin(farthest);
+    assert_eq!(refused, Err(Refusal::NoFreeSlot { txid: farthest }));
+    assert_eq!(table.clock(), farthest + 1);
+}
+
+#[test]
+fn an_observation_may_jump() {
+    let mut table = Table::fresh();
+    table.vacuum(u64::MAX, 1).unwrap();
+    assert_eq!(table.clock(), u64::MAX);
+}
+
+#[test]
 fn the_last_number_exhausts_the_clock() {
     let mut table = Table::fresh();
+    table.snapshot(u64::MAX - 1, 1).unwrap();
     assert_eq!(table.stamp(u64::MAX), Err(Refusal::BadReservation));
     assert_eq!(table.stamp(u64::MAX - 1), Ok(u64::MAX - 1));
     assert_eq!(table.begin(u64::MAX - 1), Err(Refusal::ClockExhausted));

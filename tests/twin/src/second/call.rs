@@ -8,6 +8,8 @@ use std::collections::BTreeMap;
 
 const TOP: u128 = u64::MAX as u128;
 const SLOTS: u128 = table::SLOTS as u128;
+/// A reserved number may lie so far above the clock.
+const REACH: u128 = 4_294_967_296;
 
 /// A taken slot: txid and snapshot_xmin.
 type Taken = (u128, u128);
@@ -76,7 +78,11 @@ impl Second {
                 let own = number == self.clock && self.fault.is("number-clock-refused");
                 number == 0 || number < self.clock || top || own
             }
-            7 => clock < self.clock,
+            7 => {
+                clock < self.clock
+                    || self.too_far(clock) && self.fault.is("observation-may-not-jump")
+            }
+            13 => self.too_far(number),
             _ => {
                 let against_table = self.fault.is("sample-against-table");
                 let most = if against_table { self.clock } else { clock };
@@ -85,15 +91,32 @@ impl Second {
         }
     }
 
+    fn too_far(&self, number: u128) -> bool {
+        let fault = self.fault;
+        let from = if fault.is("jump-from-line") {
+            self.line
+        } else {
+            self.clock
+        };
+        let farthest = match fault {
+            _ if fault.is("jump-limit-refused") => from + REACH - 1,
+            _ if fault.is("jump-limit-plus-1") => from + REACH + 1,
+            _ if fault.is("jump-limit-wraps") => (from + REACH) % (TOP + 1),
+            _ => from + REACH,
+        };
+        number > farthest
+    }
+
     fn refuse(&mut self, refusal: u8, op: Op, numbers: &[u128; 5]) -> Printed {
         let [slot, _, number, clock, _] = *numbers;
         let fault = self.fault;
         match refusal {
             1 if !fault.is("txid-given-back") => self.clock = number + 1,
-            5 | 6 if op == Op::Finish && fault.is("finish-ends-before-stamp") => {
+            5 | 6 | 13 if op == Op::Finish && fault.is("finish-ends-before-stamp") => {
                 self.taken.remove(&slot);
             }
             8 if fault.is("refused-observation-moves-clock") => self.clock = clock,
+            13 if fault.is("refused-jump-moves-clock") => self.clock = number + 1,
             _ => {}
         }
         self.refused(refusal, numbers)

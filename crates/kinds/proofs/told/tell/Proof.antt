@@ -87,11 +87,18 @@ enum-told-9 c = search needs
 
 bare-number-requires-9 : tie.Need-bare-number-requires-9
 bare-number-requires-9 c κs = search needs
+
 enum-told-10 : tie.Need-enum-told-10
 enum-told-10 c = search needs
 
 bare-number-requires-10 : tie.Need-bare-number-requires-10
 bare-number-requires-10 c κs = search needs
+
+enum-told-11 : tie.Need-enum-told-11
+enum-told-11 c = search needs
+
+bare-number-requires-11 : tie.Need-bare-number-requires-11
+bare-number-requires-11 c κs = search needs
 
 enum-known-r-5 : tie.Need-enum-known-r-5
 enum-known-r-5 c = search needs
@@ -157,7 +164,11 @@ returns-14 c = rw (c .before .enum-told10 .given .1) (c .bare-number10 .ensures)
 
 returns-15 : tie.Need-returns-15
 unfolding told
-returns-15 c = rw (c .before .before .r5 .given .1) (c .numbers5 .ensures)
+returns-15 c = rw (c .before .enum-told11 .given .1) (c .bare-number11 .ensures)
+
+returns-16 : tie.Need-returns-16
+unfolding told
+returns-16 c = rw (c .before .before .r5 .given .1) (c .numbers5 .ensures)
 
 pub tell-spec : {M : Type 1} → statement M
 tell-spec =
@@ -193,6 +204,8 @@ tell-spec =
     bare-number-requires-9
     enum-told-10
     bare-number-requires-10
+    enum-told-11
+    bare-number-requires-11
     enum-known-r-5
     numbers-requires-5
     returns
@@ -209,4 +222,5 @@ tell-spec =
     returns-12
     returns-13
     returns-14
-    returns-15)
+    returns-15
+    returns-16)
