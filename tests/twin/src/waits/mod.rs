@@ -3,6 +3,7 @@
 pub mod cells;
 pub mod cells_of_texts;
 pub mod check;
+pub mod compare;
 pub mod damage;
 pub mod events;
 pub mod generate;
