@@ -93,7 +93,7 @@ fn faults(waits: &[Wait], counts: &mut Counts) {
         let unseen = (!found(&wrong)).then(|| "it shows on no wait".into());
         counts.count(unseen, &format!("the fault {}", fault.name()));
     }
-    for (name, wrong) in ROOM_FAULTS {
+    for (name, wrong) in compare::ROOM_FAULTS {
         let unseen = (!found(&wrong)).then(|| "it shows on no wait".into());
         counts.count(unseen, &format!("the fault {name}"));
     }
@@ -101,32 +101,6 @@ fn faults(waits: &[Wait], counts: &mut Counts) {
     let seen = found(&right).then(|| "it differs from the first".into());
     counts.count(seen, "the second reading without a fault");
 }
-
-/// Faults at the border of the buffer, with nothing wrong in the report.
-const ROOM_FAULTS: [(&str, fn(&Wait, &mut [u8]) -> usize); 5] = [
-    ("puts-a-beginning", |wait, out| {
-        let report = check::report(wait);
-        let fits = report.len().min(out.len());
-        out[..fits].copy_from_slice(&report[..fits]);
-        if fits < report.len() { 0 } else { fits }
-    }),
-    ("answers-the-length-without-room", |wait, out| {
-        let report = check::report(wait);
-        compare::put(&report, out);
-        report.len()
-    }),
-    ("wants-a-byte-more", |wait, out| {
-        let report = check::report(wait);
-        let room = out.len() > report.len();
-        if room { compare::put(&report, out) } else { 0 }
-    }),
-    ("clears-the-rest", |wait, out| {
-        let length = compare::put(&check::report(wait), out);
-        out[length..].fill(0);
-        length
-    }),
-    ("silent", |_, _| 0),
-];
 
 /// The linked library on every wait.
 fn generated(waits: &[Wait], from: u64, counts: &mut Counts) {

@@ -1,9 +1,9 @@
 //! Coverage of the waits: every event, every rule broken, every refusal, every pair that the order decides.
 
 use super::check::{self, Wait};
-use super::events::{Event, Kind};
+use super::events::Kind;
 use super::grounds::{self, Found};
-use super::{cells_of_texts, read};
+use super::{cells_of_texts, read, ways};
 use crate::coverage::Coverage;
 use crate::table::{SLOTS, Table};
 
@@ -51,81 +51,6 @@ const ANSWERS: [&str; 15] = [
     "22 with another bad step after it",
 ];
 
-/// The rules that an event can break, each by itself.
-fn rules(kind: Kind) -> &'static [&'static str] {
-    match kind {
-        Kind::Register => &["slot outside", "slot taken", "5", "6"],
-        Kind::End => &["slot outside", "owner's slot", "slot empty"],
-        Kind::Horizon => &[
-            "slot outside",
-            "owner's slot",
-            "slot empty",
-            "xmin 0",
-            "xmin above the least id",
-        ],
-        Kind::Reserve => &["5", "6"],
-        Kind::Observe => &["7", "8"],
-    }
-}
-
-/// Ways in which an event keeps its rule.
-fn kept(kind: Kind) -> &'static [&'static str] {
-    match kind {
-        Kind::Register => &[
-            "into the lowest slot",
-            "into another than the lowest slot",
-            "into the last slot",
-            "the clock itself",
-            "2^64 - 2",
-        ],
-        Kind::End => &["in the last slot", "beside an owner"],
-        Kind::Horizon => &[
-            "xmin is 1",
-            "xmin is the least id, the slot's own",
-            "xmin is the least id, below the slot's own",
-            "xmin is between",
-            "xmin rises",
-            "xmin falls",
-            "xmin is below the line",
-            "the owner has the least id",
-        ],
-        Kind::Reserve => &["the clock itself", "2^64 - 2", "the owner has slot 0"],
-        Kind::Observe => &[
-            "the clock itself",
-            "a later clock",
-            "sample 1",
-            "sample is the clock",
-            "sample above the former clock",
-            "sample falls",
-            "the owner has slot 0",
-        ],
-    }
-}
-
-/// Ways in which an event breaks its rule, beside each rule by itself.
-fn broken(kind: Kind) -> &'static [&'static str] {
-    match kind {
-        Kind::Register => &[
-            "slot just outside",
-            "slot 65535",
-            "owner's slot",
-            "6 for 0",
-            "6 just below clock",
-            "6 for 2^64 - 1",
-        ],
-        Kind::End => &["slot just outside", "slot 65535"],
-        Kind::Horizon => &[
-            "slot just outside",
-            "slot 65535",
-            "xmin just above the least id",
-            "xmin to the slot's own id",
-            "xmin as it was",
-        ],
-        Kind::Reserve => &["6 for 0", "6 just below clock", "6 for 2^64 - 1"],
-        Kind::Observe => &["7 just below clock", "8 for 0", "8 just above clock"],
-    }
-}
-
 fn required() -> Vec<String> {
     let mut cells: Vec<String> = Vec::new();
     for (place, first) in ORDER.iter().enumerate() {
@@ -139,7 +64,7 @@ fn required() -> Vec<String> {
     cells.extend(PASSING.map(|name| format!("entry: {name}")));
     for kind in Kind::ALL {
         let name = kind.name();
-        let (rules, kept, broken) = (rules(kind), kept(kind), broken(kind));
+        let (rules, kept, broken) = (ways::rules(kind), ways::kept(kind), ways::broken(kind));
         cells.extend(
             rules
                 .iter()
@@ -247,7 +172,7 @@ fn count_owner(wait: &Wait, found: &Found, answer: u64, coverage: &mut Coverage)
 fn changed(wait: &Wait, found: &Found, step: usize) -> bool {
     let before = found.events[..step.saturating_sub(1)].iter();
     let after = before.fold(found.entry.clone(), |table, event| {
-        check::step(table.clone(), wait.owner, event).unwrap_or(table)
+        check::step(&table, wait.owner, event).unwrap_or(table)
     });
     after != found.entry
 }
@@ -257,104 +182,18 @@ fn count_events(wait: &Wait, found: &Found, coverage: &mut Coverage) {
     let mut table = found.entry.clone();
     for event in &found.events {
         let name = event.kind.name();
-        let Some(after) = check::step(table.clone(), wait.owner, event) else {
+        let Some(after) = check::step(&table, wait.owner, event) else {
             if let [rule] = grounds::rules(&table, wait.owner, event)[..] {
                 coverage.hit(&format!("{name} breaks {rule} alone"));
             }
-            for way in broken_ways(&table, wait, event) {
+            for way in ways::breaking(&table, wait.owner, event) {
                 coverage.hit(&format!("{name} broken: {way}"));
             }
             return;
         };
-        for way in kept_ways(&table, wait, event) {
+        for way in ways::keeping(&table, wait.owner, event) {
             coverage.hit(&format!("{name} kept: {way}"));
         }
         table = after;
     }
-}
-
-fn named(ways: &[(bool, &'static str)]) -> Vec<&'static str> {
-    let found = ways.iter().filter(|way| way.0);
-    found.map(|way| way.1).collect()
-}
-
-fn kept_ways(before: &Table, wait: &Wait, event: &Event) -> Vec<&'static str> {
-    let slot = usize::from(event.slot);
-    let held = before.slots()[slot];
-    let least = check::least_active(before).unwrap_or(0);
-    let lowest = before.slots().iter().position(|slot| slot.txid == 0);
-    let (xmin, clock, sample) = (event.xmin, event.clock, event.sample);
-    let at_clock = match event.kind {
-        Kind::Observe => clock == before.clock(),
-        _ => event.id == before.clock(),
-    };
-    named(&[
-        (lowest == Some(slot), "into the lowest slot"),
-        (lowest < Some(slot), "into another than the lowest slot"),
-        (slot == SLOTS - 1, "into the last slot"),
-        (slot == SLOTS - 1, "in the last slot"),
-        (wait.owner.is_some(), "beside an owner"),
-        (at_clock, "the clock itself"),
-        (event.id == u64::MAX - 1, "2^64 - 2"),
-        (xmin == 1, "xmin is 1"),
-        (
-            xmin == least && least == held.txid,
-            "xmin is the least id, the slot's own",
-        ),
-        (
-            xmin == least && least < held.txid,
-            "xmin is the least id, below the slot's own",
-        ),
-        (1 < xmin && xmin < least, "xmin is between"),
-        (xmin > held.snapshot_xmin, "xmin rises"),
-        (xmin < held.snapshot_xmin, "xmin falls"),
-        (xmin < before.vacuum_line(), "xmin is below the line"),
-        (
-            wait.owner.is_some_and(|owner| owner.1 == least),
-            "the owner has the least id",
-        ),
-        (
-            wait.owner.is_some_and(|owner| owner.0 == 0),
-            "the owner has slot 0",
-        ),
-        (clock > before.clock(), "a later clock"),
-        (sample == 1, "sample 1"),
-        (sample == clock, "sample is the clock"),
-        (sample > before.clock(), "sample above the former clock"),
-        (sample < before.sampled_clock(), "sample falls"),
-    ])
-}
-
-fn broken_ways(before: &Table, wait: &Wait, event: &Event) -> Vec<&'static str> {
-    let slot = usize::from(event.slot);
-    let held = before.slots().get(slot).copied().unwrap_or_default();
-    let least = check::least_active(before).unwrap_or(0);
-    let clock = before.clock();
-    let owners = wait.owner.map(|owner| owner.0) == Some(event.slot);
-    let numbers = clock < u64::MAX && grounds::rules(before, wait.owner, event) == ["6"];
-    let above = held.txid > least && !owners;
-    let late = event.clock == clock - 1 && event.sample != 0;
-    named(&[
-        (slot == SLOTS, "slot just outside"),
-        (slot == 65_535, "slot 65535"),
-        (owners, "owner's slot"),
-        (numbers && event.id == 0, "6 for 0"),
-        (numbers && event.id == clock - 1, "6 just below clock"),
-        (numbers && event.id == u64::MAX, "6 for 2^64 - 1"),
-        (
-            held.txid != 0 && event.xmin == least.saturating_add(1),
-            "xmin just above the least id",
-        ),
-        (
-            above && event.xmin == held.txid,
-            "xmin to the slot's own id",
-        ),
-        (above && event.xmin == held.snapshot_xmin, "xmin as it was"),
-        (late, "7 just below clock"),
-        (event.clock >= clock && event.sample == 0, "8 for 0"),
-        (
-            event.clock >= clock && event.sample == event.clock.saturating_add(1),
-            "8 just above clock",
-        ),
-    ])
 }

@@ -60,47 +60,46 @@ impl Told {
 }
 
 /// The table after the event, or none where the event breaks its rule.
-pub fn step(mut table: Table, owner: Owner, event: &Event) -> Option<Table> {
-    let Event {
-        slot,
-        id,
-        xmin,
-        clock,
-        sample,
-        ..
-    } = *event;
-    let place = usize::from(slot);
-    if event.kind.reads_slot() && (place >= SLOTS || owner.is_some_and(|held| held.0 == slot)) {
-        return None;
-    }
-    let held = table.slots().get(place).copied().unwrap_or_default();
-    let taken = held.txid != 0;
+pub fn step(table: &Table, owner: Owner, event: &Event) -> Option<Table> {
+    let mut after = table.clone();
     match event.kind {
         Kind::Register => {
-            if taken {
+            let place = nameable(owner, event.slot)?;
+            if table.slots()[place].txid != 0 {
                 return None;
             }
-            table.stamp(id).ok()?;
-            table.put(place, id, id);
+            after.stamp(event.id).ok()?;
+            after.put(place, event.id, event.id);
         }
         Kind::End => {
-            if !taken {
-                return None;
-            }
-            table.put(place, 0, 0);
+            let place = taken(table, owner, event.slot)?;
+            after.put(place, 0, 0);
         }
         Kind::Horizon => {
-            if !taken || xmin == 0 || xmin > least_active(&table)? {
+            let place = taken(table, owner, event.slot)?;
+            if event.xmin == 0 || event.xmin > least_active(table)? {
                 return None;
             }
-            table.put(place, held.txid, xmin);
+            after.put(place, table.slots()[place].txid, event.xmin);
         }
         Kind::Reserve => {
-            table.stamp(id).ok()?;
+            after.stamp(event.id).ok()?;
         }
-        Kind::Observe => table.observe(clock, sample).ok()?,
+        Kind::Observe => after.observe(event.clock, event.sample).ok()?,
     }
-    Some(table)
+    Some(after)
+}
+
+/// A slot of the table that is not the owner's.
+fn nameable(owner: Owner, slot: u16) -> Option<usize> {
+    let owners = owner.is_some_and(|(own, _)| own == slot);
+    let place = usize::from(slot);
+    (place < SLOTS && !owners).then_some(place)
+}
+
+/// The same, and taken.
+fn taken(table: &Table, owner: Owner, slot: u16) -> Option<usize> {
+    nameable(owner, slot).filter(|&place| table.slots()[place].txid != 0)
 }
 
 /// The least id of all taken slots.
@@ -127,7 +126,7 @@ fn accepted(entry: &Table, owner: Owner, text: &[u8]) -> Result<Table, Told> {
     }
     let mut table = entry.clone();
     for (number, event) in (1..).zip(&events) {
-        table = step(table, owner, event).ok_or(Told::at(22, number))?;
+        table = step(&table, owner, event).ok_or(Told::at(22, number))?;
     }
     Ok(table)
 }

@@ -63,6 +63,35 @@ pub fn put(report: &[u8], out: &mut [u8]) -> usize {
     }
 }
 
+/// A checker as a function.
+pub type Call = fn(&Wait, &mut [u8]) -> usize;
+
+/// Faults at the border of the buffer, with nothing wrong in the report.
+pub const ROOM_FAULTS: [(&str, Call); 5] = [
+    ("puts-a-beginning", |wait, out| {
+        let report = check::report(wait);
+        let fits = report.len().min(out.len());
+        out[..fits].copy_from_slice(&report[..fits]);
+        if fits < report.len() { 0 } else { fits }
+    }),
+    ("answers-the-length-without-room", |wait, out| {
+        let report = check::report(wait);
+        put(&report, out);
+        report.len()
+    }),
+    ("wants-a-byte-more", |wait, out| {
+        let report = check::report(wait);
+        let room = out.len() > report.len();
+        if room { put(&report, out) } else { 0 }
+    }),
+    ("clears-the-rest", |wait, out| {
+        let length = put(&check::report(wait), out);
+        out[length..].fill(0);
+        length
+    }),
+    ("silent", |_, _| 0),
+];
+
 /// A smaller wait on which the checker still differs.
 pub fn smaller(wait: &Wait, checker: &impl Checker) -> Wait {
     let mut best = wait.clone();

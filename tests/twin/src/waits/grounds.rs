@@ -128,7 +128,7 @@ fn bad_steps(entry: &Table, owner: Owner, events: &[Event]) -> Vec<usize> {
     for (number, event) in (1..).zip(events) {
         if !rules(&table, owner, event).is_empty() {
             bad.push(number);
-        } else if let Some(after) = check::step(table.clone(), owner, event) {
+        } else if let Some(after) = check::step(&table, owner, event) {
             table = after;
         }
     }

@@ -55,7 +55,7 @@ impl<'a> Maker<'a> {
     }
 
     pub fn push(&mut self, event: Event) {
-        if let Some(table) = check::step(self.table.clone(), self.owner, &event) {
+        if let Some(table) = check::step(&self.table, self.owner, &event) {
             self.table = table;
         }
         self.events.push(event);

@@ -12,3 +12,4 @@ pub mod maker;
 pub mod read;
 pub mod sized;
 pub mod tables;
+pub mod ways;
