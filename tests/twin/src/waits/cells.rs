@@ -59,6 +59,7 @@ fn required() -> Vec<String> {
         cells.extend(later.map(|second| format!("{first} before {second}")));
     }
     cells.push("the table's 9 before the wait's".into());
+    cells.push("21 with the longest text of a table".into());
     cells.extend(ANSWERS.map(|answer| format!("answers {answer}")));
     cells.extend(CONDITIONS.map(|name| format!("21 by {name} alone")));
     cells.extend(PASSING.map(|name| format!("entry: {name}")));
@@ -114,6 +115,11 @@ fn count(wait: &Wait, found: &Found, coverage: &mut Coverage) {
 }
 
 fn count_entry(entry: &Table, coverage: &mut Coverage) {
+    let longest = entry
+        .slots()
+        .iter()
+        .all(|slot| slot.snapshot_xmin == u64::MAX);
+    coverage.hit_if(longest, "21 with the longest text of a table");
     if let [condition] = grounds::entry(entry)[..] {
         coverage.hit(&format!("21 by {condition} alone"));
     }

@@ -107,7 +107,7 @@ fn places(count: usize, random: &mut Random) -> Vec<usize> {
 
 type Damage = fn(&mut Draft, &mut Random);
 
-/// One for each condition of the check, and one for any counters.
+/// One for each condition of the check, one for any counters, and one for the longest text.
 const DAMAGE: &[Damage] = &[
     |draft, _| draft.sample = 0,
     |draft, random| {
@@ -131,7 +131,11 @@ const DAMAGE: &[Damage] = &[
     |draft, random| {
         let far = random.once_in(2);
         at(draft, random, true, |slot| {
-            slot.snapshot_xmin = if far { u64::MAX } else { slot.txid + 1 };
+            slot.snapshot_xmin = if far {
+                u64::MAX
+            } else {
+                slot.txid.saturating_add(1)
+            };
         });
     },
     |draft, random| {
@@ -142,7 +146,7 @@ const DAMAGE: &[Damage] = &[
         let ids = draft.slots.iter().map(|slot| slot.txid);
         let least = ids.filter(|id| *id != 0).min();
         match least.filter(|least| *least > 1) {
-            Some(least) if random.once_in(2) => draft.line = least + 1,
+            Some(least) if random.once_in(2) => draft.line = least.saturating_add(1),
             _ => at(draft, random, true, |slot| slot.txid = 1),
         }
     },
@@ -152,6 +156,17 @@ const DAMAGE: &[Damage] = &[
         draft.clock = random.pick(&any);
         draft.sample = random.pick(&any);
         draft.line = random.pick(&any);
+    },
+    |draft, _| {
+        *draft = Draft {
+            slots: [Slot {
+                txid: u64::MAX,
+                snapshot_xmin: u64::MAX,
+            }; SLOTS],
+            clock: u64::MAX,
+            sample: u64::MAX,
+            line: u64::MAX,
+        }
     },
 ];
 
