@@ -1,5 +1,6 @@
 -- The text of a table, and what is read of a text (SPEC 16.4).
 use Prim.Native.Nat.{ℕ, zero, suc, _+_, _*_}
+use mathlib.Core.Path.{_≡_}
 use mathlib.Core.Bool.{cond}
 use mathlib.Core.List.{List, [], _∷_, _++_}
 use lib.Dec.{eqb}
@@ -9,7 +10,7 @@ use Rattle.model.specs.declared.Table.{Table}
 use Rattle.model.specs.Tables.{counted, lent}
 use Rattle.text.specs.Bytes.{bytes, starts}
 use Rattle.text.specs.Keys.{txidKey, xminKey, clockKey, sampleKey, lineKey}
-use Rattle.text.specs.Line.{Rule, Lines, Read, Breaks, lineTexts, joined, linesAt}
+use Rattle.text.specs.Line.{Rule, Lines, Read, Breaks, Within, lineTexts, joined, linesAt}
 use Rattle.text.specs.FiveLines.{most}
 use Rattle.table_text.specs.declared.TableRead.{TableRead}
 
@@ -44,6 +45,12 @@ linesUnder xs ys c = joined (lineTexts (tableRules (length xs)) (numbersOf xs ys
 -- the text of a table
 unfoldable pub tableText : Table → List ℕ
 tableText t = header ++ linesUnder (t .txids) (t .«snapshot_xmins») (t .counters)
+
+-- a table that some text can express: n slots, and numbers of 64 bits
+pub record Expressible (n : ℕ) (t : Table) : Type 0 where
+  pub txids : length (t .txids) ≡ n
+  pub xmins : length (t .«snapshot_xmins») ≡ n
+  pub numbers : Within (tableRules n) (numbersOf (t .txids) (t .«snapshot_xmins») (t .counters))
 
 -- the table of n slots that has these numbers
 abbrev pub withSlot : ℕ → ℕ → Table → Table
