@@ -3,7 +3,7 @@
 use super::check::{self, Owner, Wait};
 use super::events::{Event, Kind};
 use super::read;
-use crate::table::{SLOTS, Table};
+use crate::table::{FARTHEST, SLOTS, Table};
 use crate::text::lines;
 
 /// The conditions of the table check that a table breaks, by their names.
@@ -43,7 +43,8 @@ fn named(conditions: &[(&'static str, bool)]) -> Vec<&'static str> {
     broken.map(|condition| condition.0).collect()
 }
 
-/// The rules that an event breaks on a table, by their names. Where 5 is given no number is fit, so 6 is not named too.
+/// The rules that an event breaks on a table, by their names. Where 5 is given no number is fit, so 6 is not named
+/// too; nor is 13 where 6 is.
 pub fn rules(table: &Table, owner: Owner, event: &Event) -> Vec<&'static str> {
     let place = usize::from(event.slot);
     let outside = place >= SLOTS;
@@ -53,6 +54,7 @@ pub fn rules(table: &Table, owner: Owner, event: &Event) -> Vec<&'static str> {
     let names_slot = !matches!(event.kind, Kind::Reserve | Kind::Observe);
     let owners = owner.map(|owner| usize::from(owner.0)) == Some(place);
     let reserves = matches!(event.kind, Kind::Register | Kind::Reserve);
+    let fit = (clock.max(1)..u64::MAX).contains(&event.id);
     let observes = event.kind == Kind::Observe;
     let horizon = event.kind == Kind::Horizon;
     named(&[
@@ -66,10 +68,8 @@ pub fn rules(table: &Table, owner: Owner, event: &Event) -> Vec<&'static str> {
         ("xmin 0", horizon && event.xmin == 0),
         ("xmin above the least id", horizon && event.xmin > least),
         ("5", reserves && clock == u64::MAX),
-        (
-            "6",
-            reserves && clock != u64::MAX && !(clock.max(1)..u64::MAX).contains(&event.id),
-        ),
+        ("6", reserves && clock != u64::MAX && !fit),
+        ("13", reserves && fit && event.id - clock > FARTHEST),
         ("7", observes && event.clock < clock),
         ("8", observes && !(1..=event.clock).contains(&event.sample)),
     ])

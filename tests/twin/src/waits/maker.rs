@@ -3,7 +3,7 @@
 use super::check::{self, Owner};
 use super::events::{Event, Kind};
 use crate::random::Random;
-use crate::table::{SLOTS, Table};
+use crate::table::{FARTHEST, SLOTS, Table};
 
 /// How an event breaks its rule.
 #[derive(Clone, Copy, Debug, PartialEq, Eq)]
@@ -167,16 +167,25 @@ impl<'a> Maker<'a> {
         }
     }
 
+    /// A number fit for reservation, often the last one that is.
     fn number(&mut self) -> Option<u64> {
-        let number = self.ahead().min(u64::MAX - 1);
-        (self.table.clock() <= number).then_some(number)
+        let clock = self.table.clock();
+        let last = clock.saturating_add(FARTHEST).min(u64::MAX - 1);
+        let number = match self.random.below(16) {
+            0 => last,
+            _ => self.ahead().min(last),
+        };
+        (clock <= number).then_some(number)
     }
 
     fn bad_number(&mut self) -> u64 {
         let clock = self.table.clock();
         let below = self.random.below(clock.max(1));
         let near = clock.saturating_sub(1);
-        self.random.pick(&[0, u64::MAX, below, near, near])
+        let far = clock.saturating_add(FARTHEST + 1);
+        let wild = far.max(1 << 63);
+        self.random
+            .pick(&[0, u64::MAX, below, near, near, far, far, wild])
     }
 
     /// From 1 to the least active id, most often at an edge.

@@ -3,12 +3,12 @@
 use super::check::{self, Owner};
 use super::events::{Event, Kind};
 use super::grounds;
-use crate::table::{SLOTS, Table};
+use crate::table::{FARTHEST, SLOTS, Table};
 
 /// The rules that an event can break, each by itself.
 pub fn rules(kind: Kind) -> &'static [&'static str] {
     match kind {
-        Kind::Register => &["slot outside", "slot taken", "5", "6"],
+        Kind::Register => &["slot outside", "slot taken", "5", "6", "13"],
         Kind::End => &["slot outside", "owner's slot", "slot empty"],
         Kind::Horizon => &[
             "slot outside",
@@ -17,7 +17,7 @@ pub fn rules(kind: Kind) -> &'static [&'static str] {
             "xmin 0",
             "xmin above the least id",
         ],
-        Kind::Reserve => &["5", "6"],
+        Kind::Reserve => &["5", "6", "13"],
         Kind::Observe => &["7", "8"],
     }
 }
@@ -30,6 +30,7 @@ pub fn kept(kind: Kind) -> &'static [&'static str] {
             "into another than the lowest slot",
             "in the last slot",
             "the clock itself",
+            "2^32 above the clock",
             "2^64 - 2",
         ],
         Kind::End => &["in the last slot", "beside an owner"],
@@ -43,7 +44,12 @@ pub fn kept(kind: Kind) -> &'static [&'static str] {
             "xmin is below the line",
             "the owner has the least id",
         ],
-        Kind::Reserve => &["the clock itself", "2^64 - 2", "the owner has slot 0"],
+        Kind::Reserve => &[
+            "the clock itself",
+            "2^32 above the clock",
+            "2^64 - 2",
+            "the owner has slot 0",
+        ],
         Kind::Observe => &[
             "the clock itself",
             "a later clock",
@@ -66,6 +72,7 @@ pub fn broken(kind: Kind) -> &'static [&'static str] {
             "6 for 0",
             "6 just below clock",
             "6 for 2^64 - 1",
+            "13 just too far",
         ],
         Kind::End => &["slot just outside", "slot 65535"],
         Kind::Horizon => &[
@@ -75,7 +82,12 @@ pub fn broken(kind: Kind) -> &'static [&'static str] {
             "xmin to the slot's own id",
             "xmin as it was",
         ],
-        Kind::Reserve => &["6 for 0", "6 just below clock", "6 for 2^64 - 1"],
+        Kind::Reserve => &[
+            "6 for 0",
+            "6 just below clock",
+            "6 for 2^64 - 1",
+            "13 just too far",
+        ],
         Kind::Observe => &["7 just below clock", "8 for 0", "8 just above clock"],
     }
 }
@@ -95,6 +107,10 @@ pub fn keeping(before: &Table, owner: Owner, event: &Event) -> Vec<&'static str>
     };
     let ways = [
         (at_clock, "the clock itself"),
+        (
+            event.id.checked_sub(before.clock()) == Some(FARTHEST),
+            "2^32 above the clock",
+        ),
         (event.id == u64::MAX - 1, "2^64 - 2"),
         (owner.is_some(), "beside an owner"),
         (
@@ -160,7 +176,8 @@ pub fn breaking(before: &Table, owner: Owner, event: &Event) -> Vec<&'static str
     let least = check::least_active(before).unwrap_or(0);
     let clock = before.clock();
     let owners = owner.map(|owner| owner.0) == Some(event.slot);
-    let number = grounds::rules(before, owner, event) == ["6"];
+    let rules = grounds::rules(before, owner, event);
+    let (number, far) = (rules == ["6"], rules == ["13"]);
     let above = held.txid > least && !owners;
     let next = least.saturating_add(1);
     let (given, sample) = (event.clock, event.sample);
@@ -172,6 +189,7 @@ pub fn breaking(before: &Table, owner: Owner, event: &Event) -> Vec<&'static str
         (number && event.id == 0, "6 for 0"),
         (number && event.id == clock - 1, "6 just below clock"),
         (number && event.id == u64::MAX, "6 for 2^64 - 1"),
+        (far && event.id - clock == FARTHEST + 1, "13 just too far"),
         (
             held.txid != 0 && event.xmin == next,
             "xmin just above the least id",

@@ -56,6 +56,8 @@ const STEPS: &[&str] = &[
     "number-2-64-accepted",
     "number-clock-refused",
     "number-below-clock",
+    "number-too-far-accepted",
+    "number-farthest-refused",
     "observe-keeps-clock",
     "observe-keeps-sample",
     "observe-raises-line",

@@ -8,6 +8,7 @@ use std::collections::BTreeMap;
 
 const TOP: u128 = u64::MAX as u128;
 const SLOTS: u128 = table::SLOTS as u128;
+const FAR: u128 = 0x1_0000_0000;
 
 /// What came of the events: those that broke a rule, from 1, the slot of the first where it is outside the table, and
 /// the table, on which they did nothing.
@@ -147,7 +148,9 @@ impl Steps {
         let own = id == self.clock && fault.is("number-clock-refused");
         let low = id < self.clock && !fault.is("number-below-clock");
         let exhausted = self.clock == TOP && !fault.is("number-2-64-accepted");
-        exhausted || id == 0 || low || top || own
+        let farthest = id == self.clock + FAR && fault.is("number-farthest-refused");
+        let far = id > self.clock + FAR && !fault.is("number-too-far-accepted");
+        exhausted || id == 0 || low || top || own || farthest || far
     }
 
     fn no_horizon(&self, slot: u128, xmin: u128) -> bool {
