@@ -7,6 +7,7 @@ use twin::waits::events::{Event, Kind};
 use twin::waits::read::text_of_events;
 
 const TOP: u64 = u64::MAX;
+const FARTHEST: u64 = 6 + 4_294_967_296;
 
 fn table(pairs: &[(usize, u64, u64)], clock: u64, sample: u64, line: u64) -> Table {
     let mut slots = [Slot::default(); SLOTS];
@@ -59,7 +60,7 @@ fn a_wait_without_events_leaves_the_entry() {
 #[test]
 fn register_fills_any_empty_slot() {
     let after = |slot, id| table(&[(0, 5, 5), (1, 3, 2), (slot, id, id)], id + 1, 4, 2);
-    for (slot, id) in [(2, 6), (7, 9), (SLOTS - 1, TOP - 1)] {
+    for (slot, id) in [(2, 6), (7, 9), (SLOTS - 1, FARTHEST)] {
         let event = Event::register(slot as u16, id);
         accepts(&two(), None, &[event], after(slot, id));
         accepts(&two(), Some((0, 5)), &[event], after(slot, id));
@@ -133,10 +134,23 @@ fn horizon_wants_a_taken_slot_of_the_table() {
 
 #[test]
 fn reserve_moves_the_clock_alone() {
-    for id in [6, 7, TOP - 1] {
+    for id in [6, 7, FARTHEST] {
         let after = table(&[(0, 5, 5), (1, 3, 2)], id + 1, 4, 2);
         accepts(&two(), None, &[Event::reserve(id)], after);
     }
+}
+
+/// Refusal 13: the farthest number is 2^32 above the clock, which is 6.
+#[test]
+fn a_number_too_far_is_a_bad_step() {
+    for id in [FARTHEST + 1, 1 << 63, TOP - 1] {
+        bad_step(&two(), None, Event::reserve(id));
+        bad_step(&two(), None, Event::register(2, id));
+    }
+    // near the end of the clock every number is near enough
+    let late = table(&[(0, 5, 5)], TOP - 3, 4, 2);
+    let after = table(&[(0, 5, 5)], TOP, 4, 2);
+    accepts(&late, None, &[Event::reserve(TOP - 1)], after);
 }
 
 /// Refusals 7 and 8.
