@@ -35,7 +35,13 @@ pub extern "C" fn sockhurdle_wait(table: &[u8], wait: &[u8], out: &mut [u8]) -> 
 
 // .. while the slot of a registration had to stay.
 #[no_mangle]
-pub extern "C" fn sockhurdle_wait_owned(table: &[u8], slot: u16, id: u64, wait: &[u8], out: &mut [u8]) -> usize
+pub extern "C" fn sockhurdle_wait_owned(
+    table: &[u8],
+    slot: u16,
+    id: u64,
+    wait: &[u8],
+    out: &mut [u8],
+) -> usize
     ensures { λ r. do
       n ← ⟦kinds::SLOTS⟧ .entry
       ⌜ r ≡ reported (putAt (now (out .entry)) 0 (reportOf n (now (table .entry)) (holder slot id) (now (wait .entry)))) ⌝ }

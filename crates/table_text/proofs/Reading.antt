@@ -23,6 +23,9 @@ use Rattle.table_text.specs.declared.TableRead.{TableRead}
 pub zeros-size : {xs : List ℕ} {n : ℕ} → xs ≡ replicate n 0 → length xs ≡ n
 zeros-size {n = n} e = ap length e ∙ length-replicate n 0
 
+one-more : (xs : List ℕ) (i x : ℕ) → i < length xs → take (i + 1) (set xs i x) ≡ take i xs ++ (x ∷ [])
+one-more xs i x h = rw add-one (take-suc-set xs i x h)
+
 -- no slot was read yet, and one more was
 none-read : (n : ℕ) (s : List ℕ) (l : Lines) → linesRead n s l ≡ restRead n s [] [] n l
 none-read n s (Read ns e) = refl
@@ -132,8 +135,8 @@ module _ (n : ℕ) (s : List ℕ) where
       reading-next {x} {a} {y} {b} p q =
           let m = n - (i + 1) in
           let step = slot-read n s (take i txids) (take i xmins) m at (2 * i + 2) p q in
-          let xs : take (i + 1) (set txids i x) ≡ take i txids ++ (x ∷ []) = rw add-one (take-suc-set txids i x (omega (arith, l .txid-places))) in
-          let ys : take (i + 1) (set xmins i y) ≡ take i xmins ++ (y ∷ []) = rw add-one (take-suc-set xmins i y (omega (arith, l .xmin-places))) in
+          let xs = one-more txids i x (omega (arith, l .txid-places)) in
+          let ys = one-more xmins i y (omega (arith, l .xmin-places)) in
           let line : 2 * i + 2 + 1 + 1 ≡ 2 * (i + 1) + 2 = omega arith in
           record {
             within = omega arith;

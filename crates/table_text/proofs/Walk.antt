@@ -109,7 +109,9 @@ module _ (xs ys : List ℕ) (c : Counters) where
   none-counted = omega arith
 
   pub under-here : (i : ℕ) → i < length xs → i < length ys → under i ≡ slotLines (getD xs i 0) (getD ys i 0) ++ under (i + 1)
-  under-here i h k = rw (add-one, drop-cons xs i 0 h, drop-cons ys i 0 k) (under-first (getD xs i 0) (getD ys i 0) (drop (suc i) xs) (drop (suc i) ys) c)
+  under-here i h k =
+      rw (add-one, drop-cons xs i 0 h, drop-cons ys i 0 k)
+      (under-first (getD xs i 0) (getD ys i 0) (drop (suc i) xs) (drop (suc i) ys) c)
 
   pub under-over : (i : ℕ) → length xs ≤ i → length ys ≤ i → under i ≡ counterLines c
   under-over i h k = rw (drop-of-length-le xs h, drop-of-length-le ys k) (under-none c)

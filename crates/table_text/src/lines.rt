@@ -46,7 +46,13 @@ fn counter_lines(buf: &mut [u8], at: usize, counters: Counters) -> usize
 }
 
 // All lines under line 1: slot after slot, then the counters.
-pub fn lines_under<'a>(buf: &mut [u8], at: usize, txids: &'a [u64], xmins: &'a [u64], counters: Counters) -> usize
+pub fn lines_under<'a>(
+    buf: &mut [u8],
+    at: usize,
+    txids: &'a [u64],
+    xmins: &'a [u64],
+    counters: Counters,
+) -> usize
     requires { ⌜ length (now xmins) ≡ length (now txids) ⌝ }
     requires { ⌜ at + length (linesUnder (now txids) (now xmins) counters) ≤ length (now buf) ⌝ }
     ensures { λ r. ⌜ Placed (now (buf .entry)) at (linesUnder (now (txids .entry)) (now (xmins .entry)) counters) (now (buf .exit)) r ⌝ }

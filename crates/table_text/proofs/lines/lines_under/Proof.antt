@@ -53,11 +53,10 @@ loop-again c =
     let looped = put .before .before .before .before .before in
     let l = looped .loop in
     let s = looped .before .before .before .before in
-    let a = s .args in
-    (
+    let a = s .args in (
       omega arith,
       left-next (a .txids .now) (a .xmins .now) (a .counters) (a .buf .now) (a .at) (s .pre .1) (l .buf) (l .past) (l .i) (omega arith)
-      (omega arith) (l .inv .1) (put .slot-lines .ensures),
+          (omega arith) (l .inv .1) (put .slot-lines .ensures),
     )
 
 counter-lines-requires : tie.Need-counter-lines-requires Inv-loop μ-loop

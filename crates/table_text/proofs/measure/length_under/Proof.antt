@@ -17,7 +17,7 @@ abbrev μ-loop : tie.MeasureT-loop
 μ-loop txids xmins counters total₀ i₀ total i = length txids - i
 
 loop-holds : tie.Need-loop-holds Inv-loop μ-loop
-loop-holds c = 
+loop-holds c =
     let a = c .before .before .args in
     (omega arith, omega arith, none-counted (a .txids .now) (a .xmins .now) (a .counters))
 

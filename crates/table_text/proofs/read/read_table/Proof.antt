@@ -3,7 +3,8 @@ use Prim.Native.Nat.{_-_}
 use native.Mathlib.Omega.{arith}
 use mathlib.Core.Path.{refl, sym, _∙_}
 use lib.ListN.{length}
-use Rattle.table_text.proofs.Reading.{Reading, zeros-size, no-header, reading-start, read-no-txid, read-no-xmin, reading-next, reading-over}
+use Rattle.table_text.proofs.Reading.{Reading, zeros-size, no-header, reading-start, reading-next, reading-over}
+use Rattle.table_text.proofs.Reading.{read-no-txid, read-no-xmin}
 use borrow.Author.Tests.{not-true, not-false}
 use borrow.Author.Needs.{needs}
 use Rattle.table_text.proofs.read.read_table.Statement.{statement}

@@ -50,7 +50,8 @@ returns-3 c =
     let first = put .before .before .before .before .before .before .before .before .before in
     let s = first .before .before .before .before .before .before .before in
     let a = s .args in
-    let room : a .at + length (tableText (a .t3)) ≤ length (a .buf .now) = omega (arith, first .before .before .before .before .before .table-length .ensures) in
+    let size = first .before .before .before .before .before .table-length .ensures in
+    let room : a .at + length (tableText (a .t3)) ≤ length (a .buf .now) = omega (arith, size) in
     placed-put room (table-placed (a .t3) (a .buf .now) (a .at) room (first .first-line .ensures) (put .lines-under .ensures))
 
 pub put-table-spec : {M : Type 1} → statement M

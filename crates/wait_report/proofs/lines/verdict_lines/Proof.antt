@@ -52,7 +52,8 @@ line-requires-5 c κs =
     let slot = id .before .before .before .before .before in
     let answer = slot .before .before .before .before .before in
     let start = answer .before .before .before .before in
-    at-fits (start .args .told) (start .args .buf .now) (start .pre) (answer .line .ensures) (slot .line2 .ensures) (id .line3 .ensures) (seen .line4 .ensures)
+    at-fits (start .args .told) (start .args .buf .now) (start .pre) (answer .line .ensures) (slot .line2 .ensures)
+    (id .line3 .ensures) (seen .line4 .ensures)
 
 same-length : tie.Need-same-length
 same-length c = search needs
@@ -65,8 +66,8 @@ returns c =
     let slot = id .before .before .before .before .before in
     let answer = slot .before .before .before .before .before in
     let start = answer .before .before .before .before in
-    verdict-placed (start .args .told) (start .args .buf .now) (start .pre) (answer .line .ensures) (slot .line2 .ensures) (id .line3 .ensures)
-    (seen .line4 .ensures) (at .line5 .ensures)
+    verdict-placed (start .args .told) (start .args .buf .now) (start .pre) (answer .line .ensures) (slot .line2 .ensures)
+    (id .line3 .ensures) (seen .line4 .ensures) (at .line5 .ensures)
 
 pub verdict-lines-spec : {M : Type 1} → statement M
 verdict-lines-spec =
