@@ -23,8 +23,10 @@ build() {
         say "the library was not proved; the whole report is in target/operator/log"
         return 1
     fi
+    # cargo does not see that a linked library is another one: what was built with the former goes
     cmp -s target/staticlib/libexports.a "$built/libsockhurdle.a" ||
-        { cp target/staticlib/libexports.a "$built/new.a" && mv "$built/new.a" "$built/libsockhurdle.a"; } || return 1
+        { rm -rf "$built/cargo" && cp target/staticlib/libexports.a "$built/new.a" && mv "$built/new.a" "$built/libsockhurdle.a"; } ||
+        return 1
     CARGO_TARGET_DIR=$built/cargo RUSTFLAGS="-L native=$built" \
         cargo build --quiet --release --offline --locked --manifest-path operator/Cargo.toml </dev/null >&2 || return 1
     for made in replay wait; do
