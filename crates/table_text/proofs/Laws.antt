@@ -49,9 +49,9 @@ unfolding tableText linesUnder
 text-by n t ns h k = rw (h, k)
 
 -- the text of a table that it can express is read as that table
-pub reads-back : (n : ℕ) (t : Table) → Expressible n t → tableOf n (tableText t) ≡ whole t
+pub table-of-text : (n : ℕ) (t : Table) → Expressible n t → tableOf n (tableText t) ≡ whole t
 unfolding tableOf
-reads-back n t x =
+table-of-text n t x =
     let ns = numbersOf (t .txids) (t .«snapshot_xmins») (t .counters) in
     let lines = joined (lineTexts (tableRules n) ns) in
     let s = header ++ lines in
@@ -62,8 +62,8 @@ reads-back n t x =
     rw (text-by n t ns (x .txids) refl, starts-of header lines, read, eq-eqb _ _ end) (ap whole same)
 
 -- so no two tables that it can express have one text
-pub text-unique : (n : ℕ) (t u : Table) → Expressible n t → Expressible n u → tableText t ≡ tableText u → t ≡ u
-text-unique n t u x y e = ap (λ (r : TableRead). r .table) (sym (reads-back n t x) ∙ ap (tableOf n) e ∙ reads-back n u y)
+pub one-table : (n : ℕ) (t u : Table) → Expressible n t → Expressible n u → tableText t ≡ tableText u → t ≡ u
+one-table n t u x y e = ap (λ (r : TableRead). r .table) (sym (table-of-text n t x) ∙ ap (tableOf n) e ∙ table-of-text n u y)
 
 -- a text that is read as a table is its text
 pub record Accepted (n : ℕ) (s : List ℕ) (t : Table) : Type 0 where
@@ -85,9 +85,9 @@ module _ (n : ℕ) (s : List ℕ) where
         expressible = record { txids = places .0; xmins = places .1; numbers = rw same (lines .within) };
       }
 
-  pub accepted : tableOf n s .broken ≡ 0 → Accepted n s (tableOf n s .table)
+  pub text-of-table : tableOf n s .broken ≡ 0 → Accepted n s (tableOf n s .table)
   unfolding tableOf brokenAt
-  accepted = head (starts header s) refl
+  text-of-table = head (starts header s) refl
     where
       ended : (ns : List ℕ) (e : ℕ) → starts header s ≡ true → linesAt s firstSlot 2 (tableRules n) ≡ Read ns e
           → (b : Bool) → eqb e (length s) ≡ b → cond b (whole (tableFrom n ns)) (brokenAt n (pastLast n)) .broken ≡ 0
