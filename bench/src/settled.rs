@@ -1,5 +1,5 @@
-//! Times the settled test, lent and by value, against plain Rust's `contains`: every kind of question, on lists of five
-//! lengths. Run it by bench/settled.
+//! Times the settled test, lent and by value, and the usable test, lent, against plain Rust's `contains`: every kind of
+//! question, on lists of five lengths. Run it by bench/settled.
 
 use std::hint::black_box;
 use std::process::{Command, exit};
@@ -33,7 +33,20 @@ unsafe extern "C" {
         asked_len: usize,
         rounds: u64,
     ) -> u64;
+    fn bench_usable_lent(
+        ids: *const u64,
+        len: usize,
+        count: usize,
+        xmax: u64,
+        own: u64,
+        asked: *const u64,
+        asked_len: usize,
+        rounds: u64,
+    ) -> u64;
 }
+
+/// Of the reader in every case but one; nobody asks for this id.
+const READER: u64 = 7;
 
 /// A snapshot, and the ids that are asked of it one after the other.
 struct Case {
@@ -41,6 +54,8 @@ struct Case {
     kind: &'static str,
     ids: Vec<u64>,
     xmax: u64,
+    /// The reader's own id, for the usable test.
+    own: u64,
     asked: Vec<u64>,
 }
 
@@ -66,6 +81,7 @@ fn cases() -> Vec<Case> {
             kinds.push(("found first", *first));
             kinds.push(("found in the middle", ids[len / 2]));
             kinds.push(("found last", *last));
+            kinds.push(("the reader's own, last", *last));
         }
         for (kind, id) in kinds {
             all.push(Case {
@@ -73,6 +89,11 @@ fn cases() -> Vec<Case> {
                 kind,
                 ids: ids.clone(),
                 xmax,
+                own: if kind.starts_with("the reader's own") {
+                    id
+                } else {
+                    READER
+                },
                 asked: vec![id; 64],
             });
         }
@@ -83,6 +104,7 @@ fn cases() -> Vec<Case> {
             kind: "mixed",
             ids,
             xmax,
+            own: READER,
             asked: mixed.collect(),
         });
     }
@@ -112,6 +134,37 @@ fn plain(ids: &[u64], count: usize, xmax: u64, asked: &[u64], rounds: u64) -> u6
             continue;
         }
         match is_settled(ids, count, xmax, asked[at]) {
+            Ok(true) => sum = sum.wrapping_add(round),
+            Ok(false) => sum = sum.wrapping_add(1),
+            Err(_) => {}
+        }
+        at += 1;
+    }
+    sum
+}
+
+/// And the usable test: its own id, or one that is settled.
+#[inline]
+fn is_usable(ids: &[u64], count: usize, xmax: u64, own: u64, id: u64) -> Result<bool, u8> {
+    if count > SLOTS {
+        return Err(10);
+    }
+    if id == 0 {
+        return Err(4);
+    }
+    Ok(own == id || (id < xmax && !ids[..count.min(ids.len())].contains(&id)))
+}
+
+#[inline(never)]
+fn plain_usable(ids: &[u64], count: usize, xmax: u64, own: u64, asked: &[u64], rounds: u64) -> u64 {
+    let mut sum = 0u64;
+    let mut at = 0;
+    for round in 1..=rounds {
+        if asked.len() <= at {
+            at = 0;
+            continue;
+        }
+        match is_usable(ids, count, xmax, own, asked[at]) {
             Ok(true) => sum = sum.wrapping_add(round),
             Ok(false) => sum = sum.wrapping_add(1),
             Err(_) => {}
@@ -165,8 +218,9 @@ fn plain_by_value(ids: &[u64], count: usize, xmax: u64, asked: &[u64], rounds: u
 }
 
 /// In a process the least of so many samples counts; each number is the middle of so many processes.
-/// Plain Rust and ours, lent, then both by value.
-const SIDES: usize = 4;
+/// Plain Rust and ours, lent, then both by value, then both of the usable test, lent. What both have to answer alike are
+/// the first four, and the last two.
+const SIDES: usize = 6;
 const SAMPLES: usize = 9;
 const PROCESSES: usize = 7;
 const SAMPLE_NS: f64 = 4e5;
@@ -191,7 +245,21 @@ fn run(side: usize, case: &Case, rounds: u64) -> u64 {
         0 => plain(ids, ids.len(), case.xmax, asked, rounds),
         1 => call(bench_settled_lent),
         2 => plain_by_value(ids, ids.len(), case.xmax, asked, rounds),
-        _ => call(bench_settled_by_value),
+        3 => call(bench_settled_by_value),
+        4 => plain_usable(ids, ids.len(), case.xmax, case.own, asked, rounds),
+        // both runs are alive and not moved for as long as the call lasts
+        _ => unsafe {
+            bench_usable_lent(
+                ids.as_ptr(),
+                ids.len(),
+                ids.len(),
+                case.xmax,
+                case.own,
+                asked.as_ptr(),
+                asked.len(),
+                rounds,
+            )
+        },
     }
 }
 
@@ -201,7 +269,7 @@ fn elapsed(side: usize, case: &Case, rounds: u64) -> f64 {
     start.elapsed().as_nanos() as f64
 }
 
-/// Nanoseconds of a round. The four take turns, so that what disturbs the machine disturbs all alike.
+/// Nanoseconds of a round. The six take turns, so that what disturbs the machine disturbs all alike.
 fn measure(case: &Case) -> [f64; SIDES] {
     let rounds: [u64; SIDES] = std::array::from_fn(|side| {
         let mut rounds = 1_000;
@@ -253,7 +321,7 @@ fn check_answers() {
     for case in cases() {
         for rounds in [0, 1, 70, 4_321] {
             let sums: [u64; SIDES] = std::array::from_fn(|side| run(side, &case, rounds));
-            if sums.iter().any(|sum| *sum != sums[0]) {
+            if sums[..4].iter().any(|sum| *sum != sums[0]) || sums[4] != sums[5] {
                 eprintln!("list {}, {}: the answers differ", case.list, case.kind);
                 exit(1);
             }
@@ -272,21 +340,25 @@ fn main() {
         "{SLOTS} slots; the answers agree. ns a question: the middle of {PROCESSES} processes.\n"
     );
     println!(
-        "| list | id | Rust, lent | ours, lent | ratio | Rust, by value | ours, by value | ratio |"
+        "| list | id | Rust, lent | ours, lent | ratio | Rust, by value | ours, by value | ratio \
+         | Rust, usable | ours, usable | ratio |"
     );
-    println!("|---|---|---|---|---|---|---|---|");
+    println!("|---|---|---|---|---|---|---|---|---|---|---|");
     for (row, case) in cases().iter().enumerate() {
-        let [rust, lent, rust_value, value]: [f64; SIDES] = std::array::from_fn(|side| {
-            let mut times: Vec<f64> = runs.iter().map(|run| run[row][side]).collect();
-            times.sort_by(f64::total_cmp);
-            times[PROCESSES / 2]
-        });
+        let [rust, lent, rust_value, value, rust_usable, usable]: [f64; SIDES] =
+            std::array::from_fn(|side| {
+                let mut times: Vec<f64> = runs.iter().map(|run| run[row][side]).collect();
+                times.sort_by(f64::total_cmp);
+                times[PROCESSES / 2]
+            });
         println!(
-            "| {} | {} | {rust:.1} | {lent:.1} | {:.2} | {rust_value:.1} | {value:.1} | {:.2} |",
+            "| {} | {} | {rust:.1} | {lent:.1} | {:.2} | {rust_value:.1} | {value:.1} | {:.2} \
+             | {rust_usable:.1} | {usable:.1} | {:.2} |",
             case.list,
             case.kind,
             lent / rust,
-            value / rust_value
+            value / rust_value,
+            usable / rust_usable
         );
     }
 }

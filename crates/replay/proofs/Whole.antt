@@ -18,7 +18,7 @@ use Rattle.trace.specs.declared.Record.{Record}
 use Rattle.trace.specs.declared.Reading.the-variants as reads
 use Rattle.grammar.specs.Texts.{Broken}
 use Rattle.trace.specs.declared.Version.{Version}
-use Rattle.trace.specs.Trace.{traceOf, reading, recordsFrom, firstRecord}
+use Rattle.trace.specs.Trace.{traceOf, reading, recordsFrom, firstRecord, Boundary}
 use Rattle.trace.proofs.Grammar.{opened}
 use Rattle.trace.proofs.Refusal.{trace-breaks}
 use Rattle.trace.proofs.Loop.{none-left, end-only}
@@ -45,6 +45,21 @@ module _ (n : ℕ) (s xs : List ℕ) where
       go : (b : Bool) → leb 33 (length xs) ≡ b → IntoFits n s xs ys r
       go true q = fits-by (whole (brokenText line)) (rw (found, q)) (rw q at (f .says)) (rw q at (f .text))
       go false q = fits-by (cut []) (rw (found, q)) (rw q at (f .says)) ((rw q at (f .text)) ∙ splice-none xs 0)
+
+  -- where no record is left nothing is run: the part is empty
+  pub part-none :
+      (at : ℕ) (t : Table) → at ≡ length s → Boundary s at → PartFits n s at t xs xs (record { table = t; at = at; filled = 0 })
+  unfolding partOf
+  part-none at t h b =
+      let none = none-left s at h in
+      record {
+        text = rw none (splice-none xs 0);
+        filled = rw none;
+        table = rw none;
+        left = rw none;
+        boundary = b;
+        inside = omega arith;
+      }
 
   module _
       (version : Version) (count : ℕ) (e : reading s ≡ reads.Whole version count) {ys : List ℕ} {at filled : ℕ} {t : Table}

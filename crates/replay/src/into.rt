@@ -41,7 +41,8 @@ pub fn put_records(buf: &mut [u8], filled: usize, count: usize) -> Replayed
     }
 }
 
-// The text that a trace prints, at the buffer's start. The whole trace is read before any record is run.
+// The text that a trace prints, at the buffer's start. The whole trace is read before any record is run. Where there is none to
+// run, no table is made: to make it and hand it on would take longer than all the rest.
 pub fn replay_into(s: &[u8], out: &mut [u8]) -> Replayed
     ensures { λ r. do ⌜ IntoFits (← ⟦kinds::SLOTS⟧ .entry) (now (s .entry)) (now (out .entry)) (now (out .exit)) r ⌝ }
 {
@@ -49,8 +50,11 @@ pub fn replay_into(s: &[u8], out: &mut [u8]) -> Replayed
     match reading {
         Reading::Broken(line) => put_broken(out, line),
         Reading::Whole(_, count) => {
-            let table = table::fresh();
             let first = trace::first_record();
+            if first == s.len() {
+                return put_records(out, 0, count);
+            }
+            let table = table::fresh();
             let part = run_part(s, first, table, out);
             let at = part.at;
             let filled = part.filled;

@@ -59,6 +59,21 @@ module _ (n xmax : ℕ) (ids : List ℕ) (count : ℕ) (own id : Txid) where
   abbrev is-own : Bool
   is-own = eqb (own .0) (id .0)
 
+  -- for the reader's own id it makes no difference below which xmax the list is asked
+  pub usable-within :
+      {below : ℕ} → below ≡ cond is-own 0 xmax → usableTest n below ids count own id ≡ usableTest n xmax ids count own id
+  unfolding usableTest
+  usable-within {below} e = go is-own refl
+    where
+      go : (o : Bool) → is-own ≡ o → usableTest n below ids count own id ≡ usableTest n xmax ids count own id
+      go true q =
+          let other : Bool = settledIn below ids count (id .0) in
+          let same : other || is-own ≡ in-it || is-own = rw q (or-true other ∙ sym (or-true in-it)) in
+          ap (usableBy tests) same
+      go false q =
+          let same : below ≡ xmax = e ∙ rw q in
+          rw same
+
   pub usable-settled : paperSettled Is ≡ settledTest n xmax ids count id → paperUsable Yes ≡ usableTest n xmax ids count own id
   unfolding settledTest usableTest
   usable-settled e = by-yes tests in-it is-own e

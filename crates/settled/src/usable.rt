@@ -5,6 +5,9 @@ use crate::Snapshot;
 use crate::is_settled_among;
 use kinds::Refusal;
 use kinds::Txid;
+ghost use mathlib.Core.Path.{_≡_};
+ghost use mathlib.Core.Bool.{cond};
+ghost use lib.Dec.{eqb};
 ghost use Rattle.settled.specs.Usable.{UsableFits};
 
 pub enum Usable {
@@ -13,11 +16,22 @@ pub enum Usable {
     Refused(Refusal),
 }
 
+// Below which xmax the list is asked: for the reader's own id, which is usable whatever the list says, below none.
+fn asked_below(xmax: u64, own: Txid, id: Txid) -> u64
+    ensures { λ r. ⌜ r ≡ cond (eqb (own .0) (id .0)) 0 xmax ⌝ }
+{
+    if own.0 == id.0 {
+        return 0;
+    }
+    xmax
+}
+
 // The test on a snapshot's parts, lent. `own` is the reader's id, 0 for none. Refusals 10 and 4 are the settled test's.
 pub fn is_usable_among(ids: &[u64], count: usize, xmax: u64, own: Txid, id: Txid) -> Usable
     ensures { λ r. do ⌜ UsableFits (← ⟦kinds::SLOTS⟧ .entry) xmax (now (ids .entry)) count own id r ⌝ }
 {
-    let said = is_settled_among(ids, count, xmax, id);
+    let below = asked_below(xmax, own, id);
+    let said = is_settled_among(ids, count, below, id);
     match said {
         Settled::Yes => Usable::Yes,
         Settled::No => {

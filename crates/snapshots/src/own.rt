@@ -49,7 +49,7 @@ pub fn decide_own(
 {
     let verdict = own_test(txids, was, slot, id, clock, sample);
     match verdict {
-        Verdict::Refuse(r) => refused_snapshot(was, r),
+        Verdict::Refuse(r) => return refused_snapshot(was, r),
         Verdict::Pass => {
             let snapshot = scans::take_snapshot(txids, sample);
             let counters = changes::observed(was, clock, sample);

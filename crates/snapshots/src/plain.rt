@@ -20,7 +20,7 @@ pub fn decide_snap(txids: &[u64], was: Counters, clock: u64, sample: u64) -> Sna
 {
     let verdict = verdicts::observation_test(was.clock, clock, sample);
     match verdict {
-        Verdict::Refuse(r) => refused_snapshot(was, r),
+        Verdict::Refuse(r) => return refused_snapshot(was, r),
         Verdict::Pass => {
             let snapshot = scans::take_snapshot(txids, sample);
             let counters = changes::observed(was, clock, sample);

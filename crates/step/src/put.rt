@@ -1,7 +1,8 @@
 // The text of what was decided.
 use crate::Ran;
+use table::Answer;
+use table::Change;
 use table::Decision;
-use table::SnapshotDecision;
 ghost use mathlib.Core.Path.{_≡_};
 ghost use Rattle.step.specs.Put.{plainRan, plainLeft, listingRan, listingLeft};
 
@@ -22,20 +23,38 @@ pub fn put_plain(decided: Decision, buf: &mut [u8], at: usize) -> Ran
     Ran { put, change }
 }
 
-// Of a snapshot call, which lists the ids in flight.
-pub fn put_listing(decided: SnapshotDecision, buf: &mut [u8], at: usize) -> Ran
+// Of a snapshot call, which lists the ids in flight. It takes the parts of what was decided, the ids lent: handed on whole, they
+// would be copied.
+pub fn put_listing(
+    change: Change,
+    answer: Answer,
+    xmin: u64,
+    xmax: u64,
+    count: usize,
+    ids: &[u64],
+    buf: &mut [u8],
+    at: usize,
+) -> Ran
     ensures { λ o. do
       n ← ⟦kinds::SLOTS⟧ .entry
-      ⌜ o ≡ listingRan n decided (now (buf .entry)) at ⌝ }
+      ⌜ o ≡ listingRan n
+          (record {
+            change = change;
+            answer = answer;
+            snapshot = record { xmin = xmin; xmax = xmax; ids = now (ids .entry); count = count };
+          })
+          (now (buf .entry)) at ⌝ }
     ensures { λ _. do
       n ← ⟦kinds::SLOTS⟧ .entry
-      ⌜ now (buf .exit) ≡ listingLeft n decided (now (buf .entry)) at ⌝ }
+      ⌜ now (buf .exit) ≡ listingLeft n
+          (record {
+            change = change;
+            answer = answer;
+            snapshot = record { xmin = xmin; xmax = xmax; ids = now (ids .entry); count = count };
+          })
+          (now (buf .entry)) at ⌝ }
 {
-    let change = decided.change;
-    let answer = decided.answer;
-    let snapshot = decided.snapshot;
-    let line = change.counters.vacuum_line;
-    let numbers = output::numbers_of(answer, snapshot.xmin, snapshot.xmax, snapshot.count, line);
-    let put = output::put_answer(buf, at, numbers, &snapshot.ids);
+    let numbers = output::numbers_of(answer, xmin, xmax, count, change.counters.vacuum_line);
+    let put = output::put_answer(buf, at, numbers, ids);
     Ran { put, change }
 }

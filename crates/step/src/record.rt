@@ -1,6 +1,7 @@
 // The call that a record names.
 use crate::Ran;
-use crate::put::put_listing;
+use crate::listing::run_own;
+use crate::listing::run_snap;
 use crate::put::put_plain;
 use kinds::SLOTS;
 use kinds::SlotNo;
@@ -50,12 +51,8 @@ pub fn run_record<'a>(
     match op {
         Op::Begin => put_plain(table::decide_begin(txids, was, number), buf, at),
         Op::End => put_plain(table::decide_end(txids, was, slot, id), buf, at),
-        Op::Snap => put_listing(table::decide_snap(txids, was, r.clock, r.sample), buf, at),
-        Op::Own => put_listing(
-            table::decide_own(txids, was, slot, id, r.clock, r.sample),
-            buf,
-            at,
-        ),
+        Op::Snap => run_snap(txids, was, r.clock, r.sample, buf, at),
+        Op::Own => run_own(txids, was, slot, id, r.clock, r.sample, buf, at),
         Op::Oldest => put_plain(
             table::decide_oldest(txids, xmins, was, r.clock, r.sample),
             buf,

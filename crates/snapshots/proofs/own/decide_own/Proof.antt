@@ -46,8 +46,8 @@ decide-own-spec =
     own-test-requires
     enum-known-verdict
     refused-snapshot-requires
+    returns
     enum-told
     take-snapshot-requires
     observed-requires
-    returns
     returns-2)

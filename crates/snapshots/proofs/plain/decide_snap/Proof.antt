@@ -46,8 +46,8 @@ decide-snap-spec =
     observation-test-requires
     enum-known-verdict
     refused-snapshot-requires
+    returns
     enum-told
     take-snapshot-requires
     observed-requires
-    returns
     returns-2)

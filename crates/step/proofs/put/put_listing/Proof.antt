@@ -20,9 +20,9 @@ unfolding numbersOf
 returns c =
     let put = c .before .before in
     let p = put .put-answer .ensures in
-    let asked = put .before .before .before .before .before in
+    let asked = put .before .before in
     let e = asked .numbers-of .ensures in
-    let change = asked .before .before .before .before .args .decided .change in
+    let change = asked .before .before .before .args .change in
     (ap (λ (x : Put). record { put = x; change = change }) (rw e at (p .0)), rw e at (p .1))
 
 pub put-listing-spec : {M : Type 1} → statement M

@@ -36,20 +36,14 @@ put-plain-requires-2 c κs = search needs
 enum-told-3 : tie.Need-enum-told-3
 enum-told-3 c = search needs
 
-decide-snap-requires : tie.Need-decide-snap-requires
-decide-snap-requires c κs = search needs
-
-put-listing-requires : tie.Need-put-listing-requires
-put-listing-requires c κs = search needs
+run-snap-requires : tie.Need-run-snap-requires
+run-snap-requires c κs = search needs
 
 enum-told-4 : tie.Need-enum-told-4
 enum-told-4 c = search needs
 
-decide-own-requires : tie.Need-decide-own-requires
-decide-own-requires c κs = search needs
-
-put-listing-requires-2 : tie.Need-put-listing-requires-2
-put-listing-requires-2 c κs = search needs
+run-own-requires : tie.Need-run-own-requires
+run-own-requires c κs = search needs
 
 enum-told-5 : tie.Need-enum-told-5
 enum-told-5 c = search needs
@@ -121,13 +115,12 @@ same-length-3 c = search needs
 returns-4 : tie.Need-returns-4
 unfolding callOf shownAccepted
 returns-4 c =
-    let put = c .before .before in
-    let d = put .before .before in
-    let op = d .before .enum-told3 .given .1 in
-    let few = d .before .before .before .if1 .left in
-    let e = d .decide-snap .ensures in
-    let o = put .put-listing .ensures in
-    rw op (o .0 ∙ listing-ran _ _ _ few _ _ e refl, o .1 ∙ listing-left _ _ _ few _ _ e refl)
+    let run = c .before .before in
+    let told = run .before .before in
+    let op = told .enum-told3 .given .1 in
+    let few = told .before .before .if1 .left in
+    let o = run .run-snap .ensures in
+    rw op (o .0 ∙ listing-ran _ _ _ few _ _ refl refl, o .1 ∙ listing-left _ _ _ few _ _ refl refl)
 
 same-length-4 : tie.Need-same-length-4
 same-length-4 c = search needs
@@ -135,13 +128,12 @@ same-length-4 c = search needs
 returns-5 : tie.Need-returns-5
 unfolding callOf shownAccepted
 returns-5 c =
-    let put = c .before .before in
-    let d = put .before .before in
-    let op = d .before .enum-told4 .given .1 in
-    let few = d .before .before .before .if1 .left in
-    let e = d .decide-own .ensures in
-    let o = put .put-listing2 .ensures in
-    rw op (o .0 ∙ listing-ran _ _ _ few _ _ e refl, o .1 ∙ listing-left _ _ _ few _ _ e refl)
+    let run = c .before .before in
+    let told = run .before .before in
+    let op = told .enum-told4 .given .1 in
+    let few = told .before .before .if1 .left in
+    let o = run .run-own .ensures in
+    rw op (o .0 ∙ listing-ran _ _ _ few _ _ refl refl, o .1 ∙ listing-left _ _ _ few _ _ refl refl)
 
 same-length-5 : tie.Need-same-length-5
 same-length-5 c = search needs
@@ -211,11 +203,9 @@ run-record-spec =
     decide-end-requires
     put-plain-requires-2
     enum-told-3
-    decide-snap-requires
-    put-listing-requires
+    run-snap-requires
     enum-told-4
-    decide-own-requires
-    put-listing-requires-2
+    run-own-requires
     enum-told-5
     decide-oldest-requires
     put-plain-requires-3

@@ -1,0 +1,72 @@
+// The two snapshot calls: each decided, and the text of what was decided put.
+use crate::Ran;
+use crate::put::put_listing;
+use kinds::SlotNo;
+use kinds::Txid;
+use table::Counters;
+ghost use mathlib.Core.Path.{_≡_};
+ghost use Rattle.model.specs.Tables.{lentSlots};
+ghost use Rattle.model.specs.Calls.{snap, own, snapshotDecision};
+ghost use Rattle.step.specs.Put.{listingRan, listingLeft};
+
+pub fn run_snap(
+    txids: &[u64],
+    was: Counters,
+    clock: u64,
+    sample: u64,
+    buf: &mut [u8],
+    at: usize,
+) -> Ran
+    ensures { λ o. do
+      n ← ⟦kinds::SLOTS⟧ .entry
+      ⌜ o ≡ listingRan n
+          (snapshotDecision n (lentSlots n (now (txids .entry)) was) (snap clock sample))
+          (now (buf .entry)) at ⌝ }
+    ensures { λ _. do
+      n ← ⟦kinds::SLOTS⟧ .entry
+      ⌜ now (buf .exit) ≡ listingLeft n
+          (snapshotDecision n (lentSlots n (now (txids .entry)) was) (snap clock sample))
+          (now (buf .entry)) at ⌝ }
+{
+    let decided = table::decide_snap(txids, was, clock, sample);
+    let change = decided.change;
+    let answer = decided.answer;
+    let snapshot = decided.snapshot;
+    let xmin = snapshot.xmin;
+    let xmax = snapshot.xmax;
+    let count = snapshot.count;
+    let ids = snapshot.ids;
+    put_listing(change, answer, xmin, xmax, count, &ids, buf, at)
+}
+
+pub fn run_own(
+    txids: &[u64],
+    was: Counters,
+    slot: SlotNo,
+    id: Txid,
+    clock: u64,
+    sample: u64,
+    buf: &mut [u8],
+    at: usize,
+) -> Ran
+    ensures { λ o. do
+      n ← ⟦kinds::SLOTS⟧ .entry
+      ⌜ o ≡ listingRan n
+          (snapshotDecision n (lentSlots n (now (txids .entry)) was) (own slot id clock sample))
+          (now (buf .entry)) at ⌝ }
+    ensures { λ _. do
+      n ← ⟦kinds::SLOTS⟧ .entry
+      ⌜ now (buf .exit) ≡ listingLeft n
+          (snapshotDecision n (lentSlots n (now (txids .entry)) was) (own slot id clock sample))
+          (now (buf .entry)) at ⌝ }
+{
+    let decided = table::decide_own(txids, was, slot, id, clock, sample);
+    let change = decided.change;
+    let answer = decided.answer;
+    let snapshot = decided.snapshot;
+    let xmin = snapshot.xmin;
+    let xmax = snapshot.xmax;
+    let count = snapshot.count;
+    let ids = snapshot.ids;
+    put_listing(change, answer, xmin, xmax, count, &ids, buf, at)
+}
