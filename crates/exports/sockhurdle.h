@@ -1,4 +1,4 @@
-/* The replay, for a host in C. Link target/staticlib/libexports.a, which `rt staticlib exports` makes.
+/* The replay and the check of a wait, for a host in C. Link target/staticlib/libexports.a, which `rt staticlib exports` makes.
    Each function is proved: it ends and keeps to the memory that it is lent. */
 #ifndef SOCKHURDLE_H
 #define SOCKHURDLE_H
@@ -21,5 +21,15 @@ int32_t sockhurdle_replay_to(const uint8_t *input, size_t input_len, int32_t to)
 /* Reads a trace from one descriptor and replays it to another: as sockhurdle_replay_to; or 2 where the input could not be
    read, and nothing was run or written. `int main(void) { return sockhurdle_run(0, 1); }` is a whole program. */
 int32_t sockhurdle_run(int32_t from, int32_t to);
+
+/* Checks what others did to a table while one waited for the lock. `table` is the text of the entry table, `wait` that of
+   what happened; docs/SPEC.md has both (16.1, 16.4) and the report (16.5). The length of the report, which is never 0; or 0
+   where it had no room, and nothing was written. 16,384 bytes are room for every report. */
+size_t sockhurdle_wait(const uint8_t *table, size_t table_len, const uint8_t *wait, size_t wait_len,
+                       uint8_t *out, size_t out_len);
+
+/* The same for an owner, whose slot must not be touched. */
+size_t sockhurdle_wait_owned(const uint8_t *table, size_t table_len, uint16_t slot, uint64_t id, const uint8_t *wait,
+                             size_t wait_len, uint8_t *out, size_t out_len);
 
 #endif

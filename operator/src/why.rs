@@ -1,131 +1,284 @@
-//! Why a line breaks a rule of the trace. Which line it is the library says; nothing here decides whether it breaks.
+//! Why a line breaks a rule of its text. Which line it is the library says; nothing here decides whether it breaks.
 
-const KEYS: [&str; 6] = ["op", "slot", "id", "stamp", "clock", "sample"];
+/// A text of items of six lines: the word of line 1, what an item is called, its first key, its kinds with the fields that
+/// each reads, and its fourth key.
+struct Items {
+    text: &'static str,
+    item: &'static str,
+    key: &'static str,
+    kinds: &'static [(&'static str, &'static [&'static str])],
+    fourth: &'static str,
+    rules: &'static str,
+}
 
-/// Each op, and the fields that it reads.
-const OPS: [(&str, &[&str]); 8] = [
-    ("begin", &["stamp"]),
-    ("end", &["slot", "id"]),
-    ("snap", &["clock", "sample"]),
-    ("own", &["slot", "id", "clock", "sample"]),
-    ("oldest", &["clock", "sample"]),
-    ("vacuum", &["clock", "sample"]),
-    ("stamp", &["stamp"]),
-    ("finish", &["slot", "id", "stamp"]),
-];
+const TRACE: Items = Items {
+    text: "trace",
+    item: "record",
+    key: "op",
+    kinds: &[
+        ("begin", &["stamp"]),
+        ("end", &["slot", "id"]),
+        ("snap", &["clock", "sample"]),
+        ("own", &["slot", "id", "clock", "sample"]),
+        ("oldest", &["clock", "sample"]),
+        ("vacuum", &["clock", "sample"]),
+        ("stamp", &["stamp"]),
+        ("finish", &["slot", "id", "stamp"]),
+    ],
+    fourth: "stamp",
+    rules: "docs/TRACE.md",
+};
+
+const WAIT: Items = Items {
+    text: "wait",
+    item: "event",
+    key: "event",
+    kinds: &[
+        ("register", &["slot", "id"]),
+        ("end", &["slot"]),
+        ("horizon", &["slot", "xmin"]),
+        ("reserve", &["id"]),
+        ("observe", &["clock", "sample"]),
+    ],
+    fourth: "xmin",
+    rules: "SPEC 16.1",
+};
 
 /// The reason in one sentence; `line` counts from 1, and 0 is a long input.
-pub fn why(text: &[u8], line: usize) -> String {
-    if line == 0 {
-        return "It is longer than 65,536 bytes.".to_string();
+pub fn of_trace(text: &[u8], line: usize) -> String {
+    TRACE.why(text, line)
+}
+
+pub fn of_wait(text: &[u8], line: usize) -> String {
+    WAIT.why(text, line)
+}
+
+/// Of a table, whose slots end before the line `after`.
+pub fn of_table(text: &[u8], line: usize, after: usize) -> String {
+    if line == after + 3 {
+        let found = Line::of(text, line).found;
+        return format!(
+            "Line {line} is {}, but a table ends with the line before it.",
+            quoted(found)
+        );
     }
-    let lines: Vec<&[u8]> = text.split(|&byte| byte == b'\n').collect();
-    // What follows the last newline is a line only if it is not empty.
-    let ended = lines.len() - 1;
-    let place = if line == 1 {
-        None
+    let key = match line {
+        0 | 1 => return first_line(text, "table"),
+        _ if line >= after => ["clock", "sample", "line"][(line - after).min(2)],
+        _ => ["txid", "xmin"][line % 2],
+    };
+    let expected = if line < after {
+        format!("`{key}=` of slot {}", (line - 2) / 2)
     } else {
-        Some((line - 2) % 6)
+        format!("`{key}=`")
     };
-    let expected = match place {
-        None => "`trace=proc-1`".to_string(),
-        Some(place) => format!("`{}=` of record {}", KEYS[place], (line - 2) / 6 + 1),
-    };
-    let found = lines.get(line - 1).copied().unwrap_or(b"");
-    if line > ended && found.is_empty() {
-        return if text.is_empty() {
-            format!("It is empty: line 1 has to be {expected}.")
-        } else {
-            format!("It is cut short: line {line} is missing, where {expected} has to stand.")
-        };
+    Line::of(text, line).why(text, &expected, |found| {
+        let reason = number_of(found, key).err();
+        reason.unwrap_or_else(|| "it breaks a rule of SPEC 16.4".to_string())
+    })
+}
+
+/// Why a wait is refused before its first event, by the refusal's number and values.
+pub fn of_entry(number: u64, slot: u64, id: u64, seen: u64) -> String {
+    match (number, seen) {
+        (2, _) => format!("the table has no slot {slot}, which is the owner's"),
+        (3, 0) => format!("slot {slot}, which is the owner's, is empty and does not hold {id}"),
+        (3, _) => format!("slot {slot}, which is the owner's, holds {seen} and not {id}"),
+        (4, _) => "the owner's id is 0".to_string(),
+        (21, _) => "the table does not pass the table check (SPEC 6.1)".to_string(),
+        _ => format!("by {number} (SPEC 3.1)"),
     }
-    let reason = if line > ended {
-        "it is cut short, or its newline is missing".to_string()
-    } else {
-        match place {
-            None => first(found),
-            Some(0) => op(found),
-            Some(place) => field(found, KEYS[place], lines[line - 1 - place]),
+}
+
+/// Which event of a wait breaks its rule, from 1, and what the rule is (SPEC 16.2).
+pub fn of_step(text: &[u8], step: usize) -> String {
+    let line = |place| Line::of(text, 6 * step - 4 + place).found;
+    let number = |place| {
+        value(line(place), WAIT.keys()[place])
+            .unwrap_or(b"")
+            .escape_ascii()
+    };
+    let kind = value(line(0), WAIT.key)
+        .unwrap_or(b"")
+        .escape_ascii()
+        .to_string();
+    let (event, rule) = match kind.as_str() {
+        "register" => (
+            format!("register of slot {}, id {}", number(1), number(2)),
+            "the table has to have the slot, it has to be empty and not the owner's, and the id fit for reservation",
+        ),
+        "end" => (
+            format!("end of slot {}", number(1)),
+            "the table has to have the slot, and it has to be taken and not the owner's",
+        ),
+        "horizon" => (
+            format!("horizon of slot {}, xmin {}", number(1), number(3)),
+            "the slot has to be one of the table's, taken and not the owner's, and xmin from 1 to the least active id",
+        ),
+        "reserve" => (
+            format!("reserve of {}", number(2)),
+            "the id has to be fit for reservation: at least 1 and the clock, and below 2^64 - 1",
+        ),
+        _ => (
+            format!("observe of clock {}, sample {}", number(4), number(5)),
+            "the clock may not fall, and the sample has to be from 1 to it",
+        ),
+    };
+    format!("event {step}, {event}, breaks its rule: {rule}")
+}
+
+/// A line of a text.
+struct Line<'a> {
+    line: usize,
+    found: &'a [u8],
+    ends: bool,
+}
+
+impl Line<'_> {
+    fn of(text: &[u8], line: usize) -> Line<'_> {
+        let lines: Vec<&[u8]> = text.split(|&byte| byte == b'\n').collect();
+        // What follows the last newline is a line only if it is not empty.
+        let ends = line < lines.len();
+        let found = lines.get(line - 1).copied().unwrap_or(b"");
+        Line { line, found, ends }
+    }
+
+    /// Why it breaks a rule, where `expected` has to stand; `reason` says it of a line that has its newline.
+    fn why(&self, text: &[u8], expected: &str, reason: impl Fn(&[u8]) -> String) -> String {
+        let (line, found) = (self.line, self.found);
+        if !self.ends && found.is_empty() {
+            return if text.is_empty() {
+                format!("It is empty: line 1 has to be {expected}.")
+            } else {
+                format!("It is cut short: line {line} is missing, where {expected} has to stand.")
+            };
         }
-    };
-    format!(
-        "Line {line}, where {expected} has to stand, is {}: {reason}.",
-        quoted(found)
-    )
-}
-
-/// The first line, which has its newline.
-fn first(found: &[u8]) -> String {
-    if found.starts_with(b"\xef\xbb\xbf") {
-        "it begins with a byte order mark".to_string()
-    } else if found.starts_with(b"trace=proc-1") || found.trim_ascii() == b"trace=proc-1" {
-        after(found, b"trace=proc-1")
-    } else if found.starts_with(b"trace=") {
-        "no such version is known".to_string()
-    } else {
-        "it is not the first line of a trace".to_string()
+        let reason = if self.ends {
+            reason(found)
+        } else {
+            "it is cut short, or its newline is missing".to_string()
+        };
+        format!(
+            "Line {line}, where {expected} has to stand, is {}: {reason}.",
+            quoted(found)
+        )
     }
 }
 
-fn op(found: &[u8]) -> String {
-    let Some(name) = found.strip_prefix(b"op=") else {
-        return other_key(found, "op");
-    };
-    if name.is_empty() {
-        return "it names no op".to_string();
+impl Items {
+    fn keys(&self) -> [&'static str; 6] {
+        [self.key, "slot", "id", self.fourth, "clock", "sample"]
     }
-    if OPS
-        .iter()
-        .any(|(known, _)| name.starts_with(known.as_bytes()) && is_space(&name[known.len()..]))
-    {
-        return space(name);
+
+    fn why(&self, text: &[u8], line: usize) -> String {
+        if line == 0 {
+            return "It is longer than 65,536 bytes.".to_string();
+        }
+        if line == 1 {
+            return first_line(text, self.text);
+        }
+        let place = (line - 2) % 6;
+        let key = self.keys()[place];
+        let expected = format!("`{key}=` of {} {}", self.item, (line - 2) / 6 + 1);
+        Line::of(text, line).why(text, &expected, |found| {
+            if place == 0 {
+                self.name(found)
+            } else {
+                self.field(found, key, Line::of(text, line - place).found)
+            }
+        })
     }
-    let names: Vec<&str> = OPS.iter().map(|(name, _)| *name).collect();
-    format!("no op has this name; they are {}", names.join(", "))
+
+    fn name(&self, found: &[u8]) -> String {
+        let Some(name) = value(found, self.key) else {
+            return other_key(found, self.key);
+        };
+        if name.is_empty() {
+            return format!("it names no {}", self.key);
+        }
+        if self
+            .kinds
+            .iter()
+            .any(|(known, _)| name.starts_with(known.as_bytes()) && is_space(&name[known.len()..]))
+        {
+            return space(name);
+        }
+        let names: Vec<&str> = self.kinds.iter().map(|(name, _)| *name).collect();
+        format!(
+            "no {} has this name; they are {}",
+            self.key,
+            names.join(", ")
+        )
+    }
+
+    /// A field of the item whose first line is `first`.
+    fn field(&self, found: &[u8], key: &str, first: &[u8]) -> String {
+        let number = match number_of(found, key) {
+            Ok(number) => number,
+            Err(reason) => return reason,
+        };
+        if key == "slot" && number > 65_535 {
+            return "a slot is at most 65535".to_string();
+        }
+        let name = value(first, self.key).unwrap_or(b"");
+        if number != 0
+            && self
+                .kinds
+                .iter()
+                .any(|(known, reads)| known.as_bytes() == name && !reads.contains(&key))
+        {
+            return format!("{} reads no {key}, so it has to be 0", name.escape_ascii());
+        }
+        format!("it breaks a rule of {}", self.rules)
+    }
 }
 
-/// A field of the record whose first line is `op_line`.
-fn field(found: &[u8], key: &str, op_line: &[u8]) -> String {
-    let Some(value) = found
-        .strip_prefix(key.as_bytes())
-        .and_then(|rest| rest.strip_prefix(b"="))
-    else {
-        return other_key(found, key);
+/// Line 1 of a text, a word and its version.
+fn first_line(text: &[u8], word: &str) -> String {
+    let right = format!("{word}=proc-1");
+    Line::of(text, 1).why(text, &format!("`{right}`"), |found| {
+        if found.starts_with(b"\xef\xbb\xbf") {
+            "it begins with a byte order mark".to_string()
+        } else if found.starts_with(right.as_bytes()) || found.trim_ascii() == right.as_bytes() {
+            after(found, right.as_bytes())
+        } else if value(found, word).is_some() {
+            "no such version is known".to_string()
+        } else {
+            format!("it is not the first line of a {word}")
+        }
+    })
+}
+
+/// What stands after a key and its `=`.
+fn value<'a>(found: &'a [u8], key: &str) -> Option<&'a [u8]> {
+    found.strip_prefix(key.as_bytes())?.strip_prefix(b"=")
+}
+
+/// The number of a line of this key, or why it has none of 64 bits.
+fn number_of(found: &[u8], key: &str) -> Result<u64, String> {
+    let Some(value) = value(found, key) else {
+        return Err(other_key(found, key));
     };
     let Some(&head) = value.first() else {
-        return "it has no number".to_string();
+        return Err("it has no number".to_string());
     };
     if head == b'+' || head == b'-' {
-        return "a number has no sign".to_string();
+        return Err("a number has no sign".to_string());
     }
     if let Some(&byte) = value.iter().find(|byte| !byte.is_ascii_digit()) {
-        return if is_space(&[byte]) {
+        return Err(if is_space(&[byte]) {
             space(value)
         } else {
             format!("{} is no digit", quoted(&[byte]))
-        };
+        });
     }
     if head == b'0' && value.len() > 1 {
-        return "a number has no leading zero".to_string();
+        return Err("a number has no leading zero".to_string());
     }
     let number = value.iter().try_fold(0u64, |sum, digit| {
         sum.checked_mul(10)?.checked_add(u64::from(digit - b'0'))
     });
-    let Some(number) = number else {
-        return "a number is at most 18446744073709551615".to_string();
-    };
-    if key == "slot" && number > 65_535 {
-        return "a slot is at most 65535".to_string();
-    }
-    let name = op_line.strip_prefix(b"op=").unwrap_or(b"");
-    if number != 0
-        && OPS
-            .iter()
-            .any(|(known, reads)| known.as_bytes() == name && !reads.contains(&key))
-    {
-        return format!("{} reads no {key}, so it has to be 0", name.escape_ascii());
-    }
-    "it breaks a rule of docs/TRACE.md".to_string()
+    number.ok_or_else(|| "a number is at most 18446744073709551615".to_string())
 }
 
 /// A line with another key than the one that has to stand there.

@@ -5,7 +5,12 @@ use mathlib.Core.Bool.{true, false}
 use mathlib.Core.List.{List}
 use lib.IntN.{ℤ, pos, negsuc}
 use lib.ListN.{length}
+use Rattle.kinds.specs.Kinds.{slot, txid}
 use Rattle.trace.specs.Trace.{traceOf}
+use Rattle.text.specs.declared.Put.{Put}
+use Rattle.text.specs.declared.Put.the-variants.{Past, NoRoom}
+use Rattle.wait.specs.declared.Owner.{Owner}
+use Rattle.wait.specs.declared.Owner.the-variants.{Holds}
 use Rattle.text.specs.Write.{spliced}
 use Rattle.replay.specs.Into.{Into, whole, cut, textIn, intoOf}
 use Rattle.replay.specs.Sent.{isTrace}
@@ -23,6 +28,15 @@ answerOf n s xs = answered (intoOf n (length xs) s)
 -- and what it leaves in the buffer: that text, or as many records as had room, and past it what was there
 abbrev pub leftOf : ℕ → List ℕ → List ℕ → List ℕ
 leftOf n s xs = spliced xs 0 (textIn (intoOf n (length xs) s))
+
+-- a report into a buffer: its length, or 0 where it had no room
+abbrev pub reported : Put → ℕ
+reported (Past length) = length
+reported NoRoom = 0
+
+-- the owner of a slot, by its numbers
+abbrev pub holder : ℕ → ℕ → Owner
+holder i id = Holds (slot i) (txid id)
 
 -- what was read lies inside the buffer
 abbrev pub InputFits : ℕ → Input → Type 0

@@ -1,11 +1,14 @@
-// The replay for a host in C or Rust, linked as a static library. sockhurdle.h beside this folder declares these
-// functions for C; a slice is a pointer and a length there.
+// The replay and the check of a wait for a host in C or Rust, linked as a static library. sockhurdle.h beside this folder
+// declares these functions for C; a slice is a pointer and a length there.
 mod input;
+mod waits;
 
 use input::Input;
 use input::read_all;
 use replay::Replayed;
 use replay::Sent;
+pub use waits::sockhurdle_wait;
+pub use waits::sockhurdle_wait_owned;
 ghost use mathlib.Core.Path.{_≡_};
 ghost use lib.ListN.{length};
 ghost use Rattle.exports.specs.Status.{answerOf, leftOf, ReadFits, StatusFits, RunFits};

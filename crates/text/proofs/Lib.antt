@@ -4,5 +4,6 @@ pub mod Bytes
 pub mod Places
 pub mod Lines
 pub mod Splice
+pub mod Placed
 mod Examples
 pub mod FiveLines

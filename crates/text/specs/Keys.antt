@@ -1,4 +1,4 @@
--- The keys of the text lines of a trace and of its output (SPEC 9.1, 10.2), each with its `=`.
+-- The keys of the text lines of a trace, of its output, of a wait and of a table (SPEC 9.1, 10.2, 16), each with its `=`.
 use Prim.Native.Nat.{ℕ}
 use mathlib.Core.List.{List}
 use Rattle.text.specs.Bytes.{bytes}
@@ -50,3 +50,10 @@ recordsKey = bytes "records="
 
 abbrev pub atKey : List ℕ
 atKey = bytes "at="
+
+-- of a table, where `xmin`, `clock` and `sample` stand again
+abbrev pub txidKey : List ℕ
+txidKey = bytes "txid="
+
+abbrev pub lineKey : List ℕ
+lineKey = bytes "line="

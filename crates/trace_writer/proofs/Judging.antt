@@ -10,6 +10,7 @@ use mathlib.Core.List.{List, [], _∷_, _++_}
 use lib.ListN.{length, drop, getD, drop-of-length-le, length-append}
 use lib.Seq.{drop-cons}
 use Rattle.text.specs.Write.{spliced}
+use Rattle.text.specs.Placed.{Placed}
 use Rattle.text.proofs.Splice.{splice-none, splice-append}
 use Rattle.trace.specs.Record.{recordText}
 use Rattle.trace.specs.Version.{headerOf}
@@ -18,7 +19,6 @@ use Rattle.trace.specs.declared.Record.{Record}
 use Rattle.trace.specs.declared.Version.{Version}
 use Rattle.trace_writer.specs.Writing.{Records, Are, BadRow, withFirst, onJudged, rowUnder, recordsOf, listed}
 use Rattle.trace_writer.specs.Writing.{recordsText, tooLong, sized}
-use Rattle.trace_writer.specs.Placed.{Placed}
 use Rattle.trace_writer.specs.declared.measure.Judged.{Judged}
 use Rattle.trace_writer.specs.declared.measure.Judged.the-variants.{Good, Bad}
 use Rattle.trace_writer.specs.declared.measure.Measured.{Measured}

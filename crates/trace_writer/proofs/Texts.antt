@@ -1,18 +1,17 @@
--- The text of a run, line by line, and texts that are placed one after the other.
+-- The text of a run, line by line, as its lines are placed one after the other.
 use Prim.Native.Nat.{ℕ, _+_, _≤_}
 use native.Mathlib.Omega.{arith}
 use mathlib.Core.Path.{_≡_, refl, sym, ap, _∙_}
 use mathlib.Core.List.{List, [], _∷_, _++_, append-assoc, append-nil}
 use lib.ListN.{length, length-append}
-use Rattle.text.specs.declared.Put.{Put}
-use Rattle.text.specs.declared.Put.the-variants.{Past, NoRoom}
 use Rattle.text.specs.Bytes.{bytes}
 use Rattle.text.specs.Keys.{opKey, slotKey, idKey, stampKey, clockKey, sampleKey}
 use Rattle.text.specs.Decimal.{decimal, decimalIn, numberText}
 use Rattle.text.specs.Line.{lineText, lineTexts, joined}
 use Rattle.text.specs.FiveLines.{fieldRules, fiveLines}
-use Rattle.text.specs.Write.{spliced, putAt, written}
-use Rattle.text.proofs.Splice.{splice-length, splice-none, splice-append, room, line-length}
+use Rattle.text.specs.Placed.{Placed}
+use Rattle.text.proofs.Splice.{line-length}
+use Rattle.text.proofs.Placed.{placed-then, placed-same}
 use Rattle.grammar.specs.Names.{nameLine}
 use Rattle.grammar.specs.Items.{itemText, linesOf}
 use Rattle.grammar.specs.Named.{sixLines}
@@ -29,35 +28,7 @@ use Rattle.trace.specs.declared.Version.{Version}
 use Rattle.trace.specs.declared.Version.the-variants.{Proc1}
 use Rattle.trace.proofs.Shape.{header-length, any-facts}
 use Rattle.trace_writer.specs.Writing.{recordsText}
-use Rattle.trace_writer.specs.Placed.{Placed, twoLines}
-
--- a line that was put where it has room, and was put
-pub line-placed : (xs : List ℕ) (at : ℕ) (key : List ℕ) (n : ℕ) {ys : List ℕ} {put : Put} {past : ℕ}
-    → at + length (lineText key n) ≤ length xs → put ≡ putAt xs at (lineText key n) → ys ≡ written xs at (lineText key n)
-    → put ≡ Past past → Placed xs at (lineText key n) ys past
-line-placed xs at key n {ys} {put} {past} h p w e =
-    let r = room xs at (lineText key n) h in
-    let same : past ≡ at + length (lineText key n) = cc in
-    let left : ys ≡ spliced xs at (lineText key n) = w ∙ sym (r .1) in
-    record { left = left; size = ap length left ∙ splice-length xs at (lineText key n) h; end = same }
-
-pub line-there : (xs : List ℕ) (at : ℕ) (key : List ℕ) (n : ℕ) {put : Put} → at + length (lineText key n) ≤ length xs
-    → put ≡ putAt xs at (lineText key n) → put ≡ NoRoom → ⊥
-line-there xs at key n h p e =
-    let r = room xs at (lineText key n) h in
-    let z : _≡_ {A = ℕ} 0 1 = cc in
-    omega arith
-
-pub placed-then : {xs ys zs t u : List ℕ} {at p q : ℕ} → at ≤ length xs → Placed xs at t ys p → Placed ys p u zs q
-    → Placed xs at (t ++ u) zs q
-placed-then {xs} {ys} {zs} {t} {u} {at} {p} h f g = record {
-  left = g .left ∙ rw (f .left, f .end) (splice-append xs at t u h);
-  size = g .size ∙ f .size;
-  end = omega (arith, length-append t u, f .end, g .end);
-}
-
-pub placed-same : {xs ys t u : List ℕ} {at p : ℕ} → t ≡ u → Placed xs at t ys p → Placed xs at u ys p
-placed-same e f = rw (← e) f
+use Rattle.trace_writer.specs.TwoLines.{twoLines}
 
 -- the header is the line of a key and a number
 pub header-line : (v : Version) → lineText (bytes "trace=proc-") 1 ≡ headerOf v

@@ -1,3 +1,3 @@
 pub mod Writing
-pub mod Placed
+pub mod TwoLines
 pub mod Reading

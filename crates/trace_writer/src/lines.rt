@@ -6,9 +6,10 @@ use trace::Version;
 ghost use Prim.Native.Nat.{_+_, _≤_};
 ghost use lib.ListN.{length};
 ghost use Rattle.text.specs.Line.{lineText};
+ghost use Rattle.text.specs.Placed.{Placed};
 ghost use Rattle.trace.specs.Version.{headerOf};
 ghost use Rattle.trace.specs.Record.{recordText};
-ghost use Rattle.trace_writer.specs.Placed.{Placed, twoLines};
+ghost use Rattle.trace_writer.specs.TwoLines.{twoLines};
 
 fn line(buf: &mut [u8], at: usize, key: &[u8], n: u64) -> usize
     requires { ⌜ at + length (lineText (now key) n) ≤ length (now buf) ⌝ }

@@ -28,7 +28,7 @@ use Rattle.upstream.proofs.Yes.{from-good, atLine, to-good}
 use Rattle.upstream.proofs.Histories.{contains-pushes, contains-last, history-step}
 
 -- no test reads the line ..
-refusal-unseen : (n line : ℕ) (t : Table) (c : Call) → refusal n (atLine line t) c ≡ refusal n t c
+pub refusal-unseen : (n line : ℕ) (t : Table) (c : Call) → refusal n (atLine line t) c ≡ refusal n t c
 unfolding refusal
 refusal-unseen n line t (begin number) = refl
 refusal-unseen n line t (end slot id) = refl
@@ -39,7 +39,7 @@ refusal-unseen n line t (vacuum clock sample) = refl
 refusal-unseen n line t (stamp number) = refl
 refusal-unseen n line t (finish slot id number) = refl
 
-spent-unseen : (ids : List ℕ) (line : ℕ) (k : Counters) → spent ids (withLine line k) ≡ withLine line (spent ids k)
+pub spent-unseen : (ids : List ℕ) (line : ℕ) (k : Counters) → spent ids (withLine line k) ≡ withLine line (spent ids k)
 unfolding spent
 spent-unseen [] line k = refl
 spent-unseen (x ∷ ids) line k = spent-unseen ids line (pastNumber x k)

@@ -277,7 +277,11 @@ fn quotations(tree: &Tree, document: &str, folder: &str, text: &str, report: &mu
 
 /// The statements of the theorems that a document names: those of its tables by their files, every other by its name.
 pub fn theorems<'a>(logic: &'a Logic, text: &str) -> Vec<&'a crate::logic::Declaration> {
-    let by_file: BTreeMap<String, Vec<String>> = in_files(text).into_iter().collect();
+    // a name may stand in two rows, of two files
+    let mut by_file: BTreeMap<String, Vec<String>> = BTreeMap::new();
+    for (name, files) in in_files(text) {
+        by_file.entry(name).or_default().extend(files);
+    }
     let words: BTreeSet<&str> = written_lines(text).into_iter().flat_map(backquoted).collect();
     let named = |d: &&crate::logic::Declaration| match by_file.get(&d.name) {
         Some(files) => files.contains(&d.file),

@@ -93,7 +93,7 @@ pub fn count(text: &[u8], coverage: &mut Coverage) {
     let Ok(records) = trace::read(text) else {
         return;
     };
-    coverage.records += records.len() as u64;
+    coverage.items += records.len() as u64;
     let mut table = Table::fresh();
     for record in &records {
         let before = table.clone();

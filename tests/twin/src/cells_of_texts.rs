@@ -7,10 +7,10 @@ use crate::trace::{self, LIMIT, Op};
 const KEYS: [&str; 6] = ["op", "slot", "id", "stamp", "clock", "sample"];
 
 /// How a line looks, and the test for it.
-type Look = (&'static str, fn(&[u8]) -> bool);
+pub type Look = (&'static str, fn(&[u8]) -> bool);
 
 /// Looks that the line reported has to have somewhere.
-const LOOKS: [Look; 9] = [
+pub const LOOKS: [Look; 9] = [
     ("a sign", |line| {
         contains(line, b"=+") || contains(line, b"=-")
     }),

@@ -1,4 +1,4 @@
-//! What a set of traces reaches: a count for every cell that has to be hit.
+//! What a set of texts reaches: a count for every cell that has to be hit.
 
 use crate::{cells_of_calls, cells_of_texts};
 use std::collections::BTreeMap;
@@ -7,26 +7,31 @@ use std::fmt::{self, Display};
 #[derive(Default)]
 pub struct Coverage {
     counts: BTreeMap<String, u64>,
-    /// Records whose answer is not the first refusal in the order of checks.
+    /// Answers that are not the first refusal in the order of checks.
     out_of_order: u64,
-    pub traces: u64,
-    pub records: u64,
+    /// What is counted: texts, and what stands in them.
+    nouns: [&'static str; 2],
+    pub texts: u64,
+    pub items: u64,
 }
 
 impl Coverage {
-    /// All cells that have to be hit, each with count 0.
+    /// All cells that traces have to hit, each with count 0.
     pub fn new() -> Self {
-        let cells = cells_of_calls::required()
-            .into_iter()
-            .chain(cells_of_texts::required());
+        let cells = [cells_of_calls::required(), cells_of_texts::required()];
+        Coverage::of(cells.concat(), ["traces", "records"])
+    }
+
+    pub fn of(cells: Vec<String>, nouns: [&'static str; 2]) -> Self {
         Coverage {
-            counts: cells.map(|cell| (cell, 0)).collect(),
+            counts: cells.into_iter().map(|cell| (cell, 0)).collect(),
+            nouns,
             ..Coverage::default()
         }
     }
 
     pub fn add(&mut self, text: &[u8]) {
-        self.traces += 1;
+        self.texts += 1;
         cells_of_texts::count(text, self);
         cells_of_calls::count(text, self);
     }
@@ -66,9 +71,11 @@ impl Display for Coverage {
         }
         writeln!(
             out,
-            "{} traces, {} records, {} cells, {} missing, {} answers out of order",
-            self.traces,
-            self.records,
+            "{} {}, {} {}, {} cells, {} missing, {} answers out of order",
+            self.texts,
+            self.nouns[0],
+            self.items,
+            self.nouns[1],
             self.counts.len(),
             self.missing().len(),
             self.out_of_order

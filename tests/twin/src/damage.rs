@@ -3,7 +3,7 @@
 use crate::random::Random;
 use crate::{damage_fields as fields, damage_lines as lines};
 
-type Damage = fn(&mut Vec<u8>, &mut Random);
+pub type Damage = fn(&mut Vec<u8>, &mut Random);
 
 /// One named twice comes twice as often.
 const KINDS: &[Damage] = &[
@@ -35,11 +35,15 @@ const KINDS: &[Damage] = &[
     fields::far_too_large,
 ];
 
-/// The text with one fault, rarely two.
-pub fn damaged(mut text: Vec<u8>, random: &mut Random) -> Vec<u8> {
+pub fn damaged(text: Vec<u8>, random: &mut Random) -> Vec<u8> {
+    damaged_by(KINDS, text, random)
+}
+
+/// The text with one fault of these kinds, rarely two.
+pub fn damaged_by(kinds: &[Damage], mut text: Vec<u8>, random: &mut Random) -> Vec<u8> {
     let faults = if random.once_in(5) { 2 } else { 1 };
     for _ in 0..faults {
-        random.pick(KINDS)(&mut text, random);
+        random.pick(kinds)(&mut text, random);
     }
     text
 }

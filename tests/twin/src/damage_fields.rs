@@ -86,7 +86,12 @@ fn at_a_number(
         return;
     }
     let chosen = random.place(fields);
-    let line = &mut list[chosen / 5 * 6 + chosen % 5 + 2];
+    change_value(&mut list[chosen / 5 * 6 + chosen % 5 + 2], change);
+    *text = list.concat();
+}
+
+/// Changes what stands after the line's first `=`, by its key and its value.
+pub fn change_value(line: &mut Vec<u8>, change: impl FnOnce(&[u8], &[u8]) -> Vec<u8>) {
     if let Some(equals) = line.iter().position(|&byte| byte == b'=') {
         let value = line[equals + 1..].trim_ascii_end().to_vec();
         let value = change(&line[..equals], &value);
@@ -94,10 +99,15 @@ fn at_a_number(
         line.extend(value);
         line.push(b'\n');
     }
-    *text = list.concat();
 }
 
 pub fn spoil_number(text: &mut Vec<u8>, random: &mut Random) {
+    let spoil = spoiler(random);
+    at_a_number(text, random, |_, value| spoil(value));
+}
+
+/// Makes a number's text something else.
+pub fn spoiler(random: &mut Random) -> impl FnOnce(&[u8]) -> Vec<u8> + use<> {
     let befores: [&[u8]; 8] = [b"+", b"-", b"0", b"00", b" ", b"\t", b"0x", b"="];
     let afters: [&[u8]; 12] = [
         b" ", b"\t", b"\r", b".0", b"e1", b"_0", b"\0", b"\xb2", b",000", b"x", b"=", b";",
@@ -105,11 +115,11 @@ pub fn spoil_number(text: &mut Vec<u8>, random: &mut Random) {
     let before = random.pick(&befores);
     let after = random.pick(&afters);
     let way = random.below(5);
-    at_a_number(text, random, |_, value| match way {
+    move |value| match way {
         0 | 1 => [before, value].concat(),
         2 | 3 => [value, after].concat(),
         _ => Vec::new(),
-    });
+    }
 }
 
 pub fn one_too_large(text: &mut Vec<u8>, random: &mut Random) {
@@ -119,17 +129,19 @@ pub fn one_too_large(text: &mut Vec<u8>, random: &mut Random) {
     });
 }
 
+/// Numbers above 2^64, none of them by one.
+pub const TOO_LARGE: [&[u8]; 6] = [
+    b"18446744073709551617",
+    b"18446744073709551625",
+    b"36893488147419103232",
+    b"99999999999999999999",
+    b"184467440737095516150",
+    b"340282366920938463463374607431768211456",
+];
+
 pub fn far_too_large(text: &mut Vec<u8>, random: &mut Random) {
-    let numbers: [&[u8]; 6] = [
-        b"18446744073709551617",
-        b"18446744073709551625",
-        b"36893488147419103232",
-        b"99999999999999999999",
-        b"184467440737095516150",
-        b"340282366920938463463374607431768211456",
-    ];
     let slots: [&[u8]; 4] = [b"65537", b"65791", b"131072", b"4294967296"];
-    let number = random.pick(&numbers);
+    let number = random.pick(&TOO_LARGE);
     let slot = random.pick(&slots);
     at_a_number(text, random, |key, _| {
         let large = if key == b"slot" { slot } else { number };

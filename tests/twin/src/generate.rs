@@ -5,7 +5,7 @@ use crate::damage_fields;
 use crate::history::{History, Stride};
 use crate::random::Random;
 use crate::sized;
-use crate::table::SLOTS;
+use crate::table::{SLOTS, Table};
 use crate::trace::Op;
 
 /// What is done to the table before the mixed records.
@@ -99,6 +99,14 @@ pub fn generate(seed: u64) -> Vec<u8> {
         }
         _ => sized::long_text(&mut random, jumps),
     }
+}
+
+/// A table that calls have led to, of some profile.
+pub fn table(random: &mut Random) -> Table {
+    let profile = &PROFILES[random.place(PROFILES.len())];
+    let jumps = random.place(2) == 1;
+    let own = Random::new(random.draw());
+    history(profile, own, jumps).table().clone()
 }
 
 fn history(profile: &Profile, random: Random, jumps: bool) -> History {

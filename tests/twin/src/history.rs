@@ -67,6 +67,11 @@ impl History {
         text::of_records(&self.records)
     }
 
+    /// The table after all records.
+    pub fn table(&self) -> &Table {
+        &self.table
+    }
+
     /// Begins until `count` slots have been filled, ids close together.
     pub fn fill(&mut self, count: usize) {
         for _ in 0..count {

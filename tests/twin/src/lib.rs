@@ -23,4 +23,5 @@ pub mod table;
 pub mod text;
 pub mod tiles;
 pub mod trace;
+pub mod waits;
 pub mod writer;

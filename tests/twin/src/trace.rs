@@ -82,15 +82,12 @@ pub fn read(input: &[u8]) -> Result<Vec<Record>, BadTrace> {
     if input.len() > LIMIT {
         return Err(BadTrace { line: 0 });
     }
-    let mut lines = Lines {
-        rest: input,
-        number: 0,
-    };
-    if lines.next()? != HEADER {
+    let mut lines = Lines::of(input);
+    if lines.line()? != HEADER {
         return Err(lines.broken());
     }
     let mut records = Vec::new();
-    while !lines.rest.is_empty() {
+    while !lines.is_empty() {
         records.push(read_record(&mut lines)?);
     }
     Ok(records)
@@ -111,18 +108,29 @@ fn read_record(lines: &mut Lines) -> Result<Record, BadTrace> {
 }
 
 /// The lines not yet read, and the number of the line last asked for.
-struct Lines<'a> {
+pub struct Lines<'a> {
     rest: &'a [u8],
     number: usize,
 }
 
 impl<'a> Lines<'a> {
-    fn broken(&self) -> BadTrace {
+    pub fn of(text: &'a [u8]) -> Self {
+        Lines {
+            rest: text,
+            number: 0,
+        }
+    }
+
+    pub fn is_empty(&self) -> bool {
+        self.rest.is_empty()
+    }
+
+    pub fn broken(&self) -> BadTrace {
         BadTrace { line: self.number }
     }
 
     /// The next line without its newline; a missing or unterminated one breaks a rule.
-    fn next(&mut self) -> Result<&'a [u8], BadTrace> {
+    pub fn line(&mut self) -> Result<&'a [u8], BadTrace> {
         self.number += 1;
         let end = self.rest.iter().position(|&byte| byte == b'\n');
         let end = end.ok_or(self.broken())?;
@@ -131,11 +139,11 @@ impl<'a> Lines<'a> {
         Ok(line)
     }
 
-    fn value(&mut self, key: &[u8]) -> Result<&'a [u8], BadTrace> {
-        self.next()?.strip_prefix(key).ok_or(self.broken())
+    pub fn value(&mut self, key: &[u8]) -> Result<&'a [u8], BadTrace> {
+        self.line()?.strip_prefix(key).ok_or(self.broken())
     }
 
-    fn field(&mut self, key: &[u8], largest: u64, is_read: bool) -> Result<u64, BadTrace> {
+    pub fn field(&mut self, key: &[u8], largest: u64, is_read: bool) -> Result<u64, BadTrace> {
         let number = decimal(self.value(key)?).ok_or(self.broken())?;
         if number > largest || (number != 0 && !is_read) {
             return Err(self.broken());

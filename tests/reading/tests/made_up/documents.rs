@@ -55,6 +55,19 @@ fn statements_are_quoted_with_all_that_they_suppose() {
 }
 
 #[test]
+fn a_name_of_two_files_is_quoted_from_both() {
+    let files = [
+        ("crates/a/proofs/P.antt", "-- P.\npub same : So 1\nsame = refl\n"),
+        ("crates/a/proofs/Q.antt", "-- Q.\npub same : So 2\nsame = refl\n"),
+    ];
+    let reading = crate_a("", &files);
+    let row = |file: &str| format!("| x | `same` | crates/a/proofs/{file} |\n");
+    let table = format!("| Says | Theorem | File in crates |\n|---|---|---|\n{}{}", row("P.antt"), row("Q.antt"));
+    let said = statements(&reading.logic, &table);
+    assert!(said.contains("same : So 1") && said.contains("same : So 2"), "{said}");
+}
+
+#[test]
 fn a_written_part_is_held_to_the_tree() {
     let text = "a\n<!-- x: written by tests/tree -->\nold\n<!-- end of x -->\nb\n";
     assert_eq!(part(text, "x"), Some("old\n"));

@@ -1,6 +1,5 @@
 //! The calls of the second reading, on a map of the taken slots.
 
-use super::read::Line6;
 use super::{Fault, Printed};
 use crate::table;
 use crate::trace::Op;
@@ -33,8 +32,7 @@ impl Second {
         }
     }
 
-    pub fn run(&mut self, record: &Line6) -> Printed {
-        let mut numbers = record.numbers;
+    pub fn run(&mut self, op: Op, mut numbers: [u128; 5]) -> Printed {
         if self.fault.is("slot-low-bits") {
             numbers[0] %= SLOTS;
         }
@@ -42,13 +40,13 @@ impl Second {
             numbers[1] &= 0xffff_ffff;
         }
         let before = self.line;
-        let order = self.fault.order(record.op);
+        let order = self.fault.order(op);
         let refusal = order.into_iter().find(|check| self.holds(*check, &numbers));
         let mut answer = match refusal {
-            Some(refusal) => self.refuse(refusal, record.op, &numbers),
+            Some(refusal) => self.refuse(refusal, op, &numbers),
             None => {
                 self.accepted += 1;
-                self.accept(record.op, &numbers)
+                self.accept(op, &numbers)
             }
         };
         let early = self.fault.is("vacuum-before");

@@ -11,6 +11,8 @@ pub enum Fault {
     Order(Op, u8, u8),
     /// The op leaves a check out.
     Skip(Op, u8),
+    /// The named item reads the number at a place, from 1, exactly where it should not.
+    Field(&'static str, usize),
 }
 
 /// Faults in what the calls do.
@@ -104,7 +106,7 @@ const TEXT: &[&str] = &[
     "limit-65537",
     "limit-after-header",
     "lines-from-0",
-    "1488-records",
+    "most-refused",
 ];
 
 impl Fault {
@@ -123,6 +125,11 @@ impl Fault {
         faults
     }
 
+    /// The faults in reading a text, whatever its items are.
+    pub fn of_texts() -> Vec<Fault> {
+        TEXT.iter().copied().map(Fault::Named).collect()
+    }
+
     pub fn named(name: &str) -> Option<Fault> {
         if name == "none" {
             return Some(Fault::None);
@@ -136,6 +143,7 @@ impl Fault {
             Fault::Named(name) => name.to_string(),
             Fault::Order(op, first, second) => format!("order-{}-{first}-{second}", op.name()),
             Fault::Skip(op, number) => format!("skip-{}-{number}", op.name()),
+            Fault::Field(item, place) => format!("field-{item}-{place}"),
         }
     }
 

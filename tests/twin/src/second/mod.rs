@@ -1,26 +1,29 @@
 //! A second reading of the rules, slow, that takes faults on demand. Its text, table and calls are its own; from
-//! the twin it takes the number of slots and the ops with their names, from the coverage the orders of checks.
+//! the twin it takes the number of slots and the ops in their order, from the coverage the orders of checks.
 //!
 //! Without a fault it has to agree with the twin; with one, the comparison has to notice.
 
 mod call;
 mod faults;
 mod read;
+pub mod waits;
 
 pub use faults::Fault;
 
+use crate::trace::Op;
 use call::Second;
+use read::TRACE;
 use std::fmt::Write;
 
 /// The output for a trace, with a fault.
 pub fn output(input: &[u8], fault: Fault) -> String {
-    let (records, broken) = read::records(input, fault);
+    let (records, broken) = read::items(input, &TRACE, fault);
     let mut out = String::new();
     let mut table = Second::fresh(fault);
     let runs = broken.is_none() || fault.is("runs-before-reading");
     let mut ran = 0;
     for record in records.iter().filter(|_| runs) {
-        let answer = table.run(record);
+        let answer = table.run(Op::ALL[record.item], record.numbers);
         print(&answer, &mut out);
         ran += 1;
         if fault.is("first-record-only") || fault.is("stops-at-refusal") && answer.numbers[0] != 0 {

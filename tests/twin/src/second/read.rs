@@ -1,83 +1,114 @@
-//! Reading of the trace text: every line is judged by its number.
+//! Reading of a text of items of six lines: every line is judged by its number.
 
 use super::Fault;
-use crate::trace::Op;
 
-/// An op and its five numbers: slot, id, stamp, clock, sample.
+/// What stands in such a text.
+pub struct Grammar {
+    /// The first line.
+    pub header: &'static str,
+    pub keys: [&'static str; 6],
+    /// What an item may be, and which of its five numbers it then reads.
+    pub items: &'static [(&'static str, [bool; 5])],
+    /// As many items as the length allows.
+    pub most: usize,
+}
+
+/// The trace's, with the ops in their order.
+pub const TRACE: Grammar = Grammar {
+    header: "trace=proc-1",
+    keys: ["op=", "slot=", "id=", "stamp=", "clock=", "sample="],
+    items: &[
+        ("begin", [false, false, true, false, false]),
+        ("end", [true, true, false, false, false]),
+        ("snap", [false, false, false, true, true]),
+        ("own", [true, true, false, true, true]),
+        ("oldest", [false, false, false, true, true]),
+        ("vacuum", [false, false, false, true, true]),
+        ("stamp", [false, false, true, false, false]),
+        ("finish", [true, true, true, false, false]),
+    ],
+    most: 1_489,
+};
+
+/// Which item it is, from 0 in the grammar's order, and its five numbers.
+#[derive(Clone, Copy)]
 pub struct Line6 {
-    pub op: Op,
+    pub item: usize,
     pub numbers: [u128; 5],
 }
 
-const KEYS: [&str; 6] = ["op=", "slot=", "id=", "stamp=", "clock=", "sample="];
-
-/// The complete records, and the line that breaks a rule if one does.
-pub fn records(input: &[u8], fault: Fault) -> (Vec<Line6>, Option<usize>) {
-    let mut records = Vec::new();
-    let broken = broken_line(input, fault, &mut records);
+/// The complete items, and the line that breaks a rule if one does.
+pub fn items(input: &[u8], grammar: &Grammar, fault: Fault) -> (Vec<Line6>, Option<usize>) {
+    let mut items = Vec::new();
+    let broken = broken_line(input, grammar, fault, &mut items);
     let shift = usize::from(fault.is("lines-from-0"));
-    (records, broken.map(|line| line.saturating_sub(shift)))
+    (items, broken.map(|line| line.saturating_sub(shift)))
 }
 
-fn broken_line(input: &[u8], fault: Fault, records: &mut Vec<Line6>) -> Option<usize> {
-    if too_long(input, fault) {
+fn broken_line(
+    input: &[u8],
+    grammar: &Grammar,
+    fault: Fault,
+    items: &mut Vec<Line6>,
+) -> Option<usize> {
+    if too_long(input, grammar, fault) {
         return Some(0);
     }
     let (lines, rest) = split(input, fault);
     let header = lines.first().map(Vec::as_slice);
-    if header.is_some_and(|line| line != b"trace=proc-1") && !fault.is("header-unread") {
+    let wanted = grammar.header.as_bytes();
+    if header.is_some_and(|line| line != wanted) && !fault.is("header-unread") {
         return Some(1);
     }
-    let mut op = Op::Begin;
+    let mut item = 0;
     let mut numbers = [0; 5];
     for (place, line) in lines.iter().enumerate().skip(1) {
         let field = (place - 1) % 6;
         if field == 0 {
-            match op_of(line, fault) {
-                Some(known) => op = known,
+            match item_of(line, grammar, fault) {
+                Some(known) => item = known,
                 None => return Some(place + 1 + usize::from(fault.is("unknown-op-at-next"))),
             }
             continue;
         }
-        match number(line, field, op, fault) {
+        match number(line, field, grammar, item, fault) {
             Ok(number) => numbers[field - 1] = number,
             Err(back) => return Some(place + 1 - back),
         }
         if field == 5 {
-            records.push(Line6 { op, numbers });
+            items.push(Line6 { item, numbers });
         }
     }
-    ending(lines.len(), rest, records.len(), fault)
+    let none = fault.is("header-alone-refused") && items.is_empty();
+    let many = fault.is("most-refused") && items.len() >= grammar.most;
+    let ending = ending(lines.len(), rest, fault);
+    ending.or((none || many).then_some(lines.len() + 1))
 }
 
-fn too_long(input: &[u8], fault: Fault) -> bool {
+fn too_long(input: &[u8], grammar: &Grammar, fault: Fault) -> bool {
     let limit = match fault {
         _ if fault.is("limit-65535") => 65_535,
         _ if fault.is("limit-65537") => 65_537,
         _ => 65_536,
     };
-    let header_first = fault.is("limit-after-header") && !input.starts_with(b"trace=proc-1\n");
-    input.len() > limit && !header_first
+    let headed = input.starts_with(format!("{}\n", grammar.header).as_bytes());
+    input.len() > limit && (headed || !fault.is("limit-after-header"))
 }
 
 /// What the end of the text makes of `complete` good lines and an unterminated rest.
-fn ending(complete: usize, rest: bool, records: usize, fault: Fault) -> Option<usize> {
+fn ending(complete: usize, rest: bool, fault: Fault) -> Option<usize> {
     if rest {
         return Some(complete + 1 + usize::from(fault.is("unterminated-next-line")));
     }
     if complete == 0 && fault.is("empty-accepted") {
         return None;
     }
-    if complete % 6 != 1 {
-        return Some(complete + 1 - usize::from(fault.is("missing-at-last-line") && complete > 0));
-    }
-    let none = fault.is("header-alone-refused") && records == 0;
-    let many = fault.is("1488-records") && records > 1_488;
-    (none || many).then_some(complete + 1)
+    let early = usize::from(fault.is("missing-at-last-line") && complete > 0);
+    (complete % 6 != 1).then_some(complete + 1 - early)
 }
 
 /// The terminated lines, and whether bytes follow them.
-fn split(input: &[u8], fault: Fault) -> (Vec<Vec<u8>>, bool) {
+pub fn split(input: &[u8], fault: Fault) -> (Vec<Vec<u8>>, bool) {
     let mut lines: Vec<Vec<u8>> = input
         .split(|byte| *byte == b'\n')
         .map(<[u8]>::to_vec)
@@ -105,18 +136,25 @@ fn split(input: &[u8], fault: Fault) -> (Vec<Vec<u8>>, bool) {
     (lines, unterminated)
 }
 
-fn op_of(line: &[u8], fault: Fault) -> Option<Op> {
-    let name = line.strip_prefix(KEYS[0].as_bytes())?;
-    let named = |op: &Op| match fault {
-        _ if fault.is("op-prefix") => name.starts_with(op.name().as_bytes()),
-        _ => name == op.name().as_bytes(),
+fn item_of(line: &[u8], grammar: &Grammar, fault: Fault) -> Option<usize> {
+    let given = line.strip_prefix(grammar.keys[0].as_bytes())?;
+    let named = |(name, _): &(&str, _)| match fault {
+        _ if fault.is("op-prefix") => given.starts_with(name.as_bytes()),
+        _ => given == name.as_bytes(),
     };
-    Op::ALL.into_iter().find(named)
+    grammar.items.iter().position(named)
 }
 
-/// The number of the line at `place` in its record; if broken, how far back to report it.
-fn number(line: &[u8], place: usize, op: Op, fault: Fault) -> Result<u128, usize> {
-    let digits = line.strip_prefix(KEYS[place].as_bytes()).ok_or(0_usize)?;
+/// The number of the line at `place` in its item; if broken, how far back to report it.
+fn number(
+    line: &[u8],
+    place: usize,
+    grammar: &Grammar,
+    item: usize,
+    fault: Fault,
+) -> Result<u128, usize> {
+    let key = grammar.keys[place];
+    let digits = line.strip_prefix(key.as_bytes()).ok_or(0_usize)?;
     let number = decimal(digits, fault).ok_or(0_usize)?;
     let largest = if place == 1 {
         65_535
@@ -132,20 +170,15 @@ fn number(line: &[u8], place: usize, op: Op, fault: Fault) -> Result<u128, usize
     if number > largest && !unlimited {
         return Err(0);
     }
-    let read = match op {
-        Op::Begin | Op::Stamp => [false, false, true, false, false],
-        Op::End => [true, true, false, false, false],
-        Op::Own => [true, true, false, true, true],
-        Op::Finish => [true, true, true, false, false],
-        Op::Snap | Op::Oldest | Op::Vacuum => [false, false, false, true, true],
-    };
-    if number != 0 && !read[place - 1] && !fault.is("unread-ignored") {
+    let (name, reads) = grammar.items[item];
+    let read = reads[place - 1] != (fault == Fault::Field(name, place));
+    if number != 0 && !read && !fault.is("unread-ignored") {
         return Err(if fault.is("unread-at-op") { place } else { 0 });
     }
     Ok(number)
 }
 
-fn decimal(digits: &[u8], fault: Fault) -> Option<u128> {
+pub fn decimal(digits: &[u8], fault: Fault) -> Option<u128> {
     let mut text = std::str::from_utf8(digits).ok()?;
     if fault.is("plus-sign") {
         text = text.strip_prefix('+').unwrap_or(text);

@@ -94,6 +94,18 @@ enum-told-10 c = search needs
 bare-number-requires-10 : tie.Need-bare-number-requires-10
 bare-number-requires-10 c κs = search needs
 
+enum-told-11 : tie.Need-enum-told-11
+enum-told-11 c = search needs
+
+bare-number-requires-11 : tie.Need-bare-number-requires-11
+bare-number-requires-11 c κs = search needs
+
+enum-known-r-5 : tie.Need-enum-known-r-5
+enum-known-r-5 c = search needs
+
+numbers-requires-5 : tie.Need-numbers-requires-5
+numbers-requires-5 c κs = search needs
+
 returns : tie.Need-returns
 unfolding told
 returns c = rw (c .before .before .r .given .1) (c .numbers .ensures)
@@ -150,6 +162,14 @@ returns-14 : tie.Need-returns-14
 unfolding told
 returns-14 c = rw (c .before .enum-told10 .given .1) (c .bare-number10 .ensures)
 
+returns-15 : tie.Need-returns-15
+unfolding told
+returns-15 c = rw (c .before .enum-told11 .given .1) (c .bare-number11 .ensures)
+
+returns-16 : tie.Need-returns-16
+unfolding told
+returns-16 c = rw (c .before .before .r5 .given .1) (c .numbers5 .ensures)
+
 pub tell-spec : {M : Type 1} → statement M
 tell-spec =
     tie.close
@@ -184,6 +204,10 @@ tell-spec =
     bare-number-requires-9
     enum-told-10
     bare-number-requires-10
+    enum-told-11
+    bare-number-requires-11
+    enum-known-r-5
+    numbers-requires-5
     returns
     returns-2
     returns-3
@@ -197,4 +221,6 @@ tell-spec =
     returns-11
     returns-12
     returns-13
-    returns-14)
+    returns-14
+    returns-15
+    returns-16)

@@ -1,5 +1,6 @@
 -- The header is the line of `trace=proc-` and a number (crate's proofs/Texts.antt).
-use Rattle.trace_writer.proofs.Texts.{placed-same, header-line, header-room}
+use Rattle.text.proofs.Placed.{placed-same}
+use Rattle.trace_writer.proofs.Texts.{header-line, header-room}
 use borrow.Author.Needs.{needs}
 use Rattle.trace_writer.proofs.lines.header.Statement.{statement}
 use Rattle.trace_writer.proofs.lines.header.Tie as tie

@@ -1,5 +1,5 @@
--- Where there is room, the line is put: `put_line` can't say otherwise (crate's proofs/Texts.antt).
-use Rattle.trace_writer.proofs.Texts.{line-placed, line-there}
+-- Where there is room, the line is put: `put_line` can't say otherwise (proofs/Placed.antt of crate text).
+use Rattle.text.proofs.Placed.{line-placed, line-there}
 use borrow.Author.Needs.{needs}
 use Rattle.trace_writer.proofs.lines.line.Statement.{statement}
 use Rattle.trace_writer.proofs.lines.line.Tie as tie

@@ -1,0 +1,6 @@
+pub mod Answers
+pub mod Shape
+pub mod Loop
+pub mod Grammar
+pub mod Refusal
+mod Examples

@@ -1,0 +1,43 @@
+-- `kind_at` meets its contract.
+use mathlib.Core.Path.{sym, _∙_}
+use native.Mathlib.Omega.{arith}
+use borrow.Author.Needs.{needs}
+use denote.Ref.{now}
+use Rattle.text.proofs.Bytes.{starts-room}
+use Rattle.grammar.specs.Names.{nameAt}
+use Rattle.events.specs.Kind.{eventKey, kindAt}
+use Rattle.events.proofs.names.kind_at.Statement.{statement}
+use Rattle.events.proofs.names.kind_at.Tie as tie
+
+slice-aggregate-bytes-at : tie.Need-slice-aggregate-bytes-at
+slice-aggregate-bytes-at c = search needs
+
+bytes-at-requires : tie.Need-bytes-at-requires
+bytes-at-requires c κs = search needs
+
+add-name-at : tie.Need-add-name-at
+add-name-at c =
+    let p = c .before .before .before .before in
+    omega (arith, starts-room eventKey (now (p .args .s)) (p .args .at) (omega arith) (sym (c .before .bytes-at .ensures) ∙ c .if1 .taken))
+
+name-at-requires : tie.Need-name-at-requires
+name-at-requires c κs = search needs
+
+returns : tie.Need-returns
+unfolding kindAt nameAt
+returns c = rw (sym (c .before .before .bytes-at .ensures) ∙ c .before .if1 .taken) (c .name-at .ensures)
+
+returns-2 : tie.Need-returns-2
+unfolding kindAt nameAt
+returns-2 c = rw (sym (c .before .bytes-at .ensures) ∙ c .if1 .left)
+
+pub kind-at-spec : {M : Type 1} → statement M
+kind-at-spec =
+    tie.close
+    (tie.spec
+    slice-aggregate-bytes-at
+    bytes-at-requires
+    add-name-at
+    name-at-requires
+    returns
+    returns-2)

@@ -1,0 +1,10 @@
+pub mod Formed
+pub mod Onward
+pub mod Steps
+pub mod AfterWait
+pub mod OwnerAfterWait
+pub mod Native
+pub mod Others
+pub mod Meanwhile
+pub mod Witnesses
+pub mod Instances

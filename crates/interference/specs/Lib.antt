@@ -1,0 +1,3 @@
+pub mod Interference
+pub mod AfterWait
+pub mod Meanwhile

@@ -1,0 +1,4 @@
+pub mod Walk
+pub mod Reading
+pub mod Laws
+mod Examples

@@ -1,0 +1,6 @@
+pub mod Steps
+pub mod Kept
+pub mod Waits
+pub mod Running
+pub mod Told
+mod Examples

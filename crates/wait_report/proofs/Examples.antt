@@ -1,0 +1,58 @@
+-- Reports, computed, on a table of two slots of which slot 0 holds 4.
+use Prim.Native.Nat.{ℕ}
+use mathlib.Core.Path.{_≡_, refl}
+use mathlib.Core.List.{List, [], _∷_, _++_}
+use Rattle.kinds.specs.Kinds.{slot, txid}
+use Rattle.kinds.specs.Refusals.{told}
+use Rattle.settled.specs.Settled.{listed}
+use Rattle.model.specs.Tally.{active, minimum}
+use Rattle.model.specs.Check.{slotsPass, differ, passes}
+use Rattle.text.specs.Decimal.{decimalIn, decimal, numberText, numberTail, numberFrom, numberAt}
+use Rattle.text.specs.Bytes.{bytes, starts}
+use Rattle.text.specs.Line.{lineText, lineTexts, joined, fieldAt, linesAt}
+use Rattle.text.specs.FiveLines.{limit, fieldRules, fieldsAt}
+use Rattle.grammar.specs.Names.{nameLine, firstNamed, nameAt}
+use Rattle.grammar.specs.Items.{foundIn, foundFrom}
+use Rattle.grammar.specs.Named.{itemAt}
+use Rattle.grammar.specs.Texts.{readText}
+use Rattle.events.specs.Wait.{eventsOf}
+use Rattle.table_text.specs.TableText.{tableRules, numbersOf, linesUnder, tableText, tableFrom, brokenAt, tableOf}
+use Rattle.wait.specs.declared.Owner.the-variants.{Nobody, Holds}
+use Rattle.wait.specs.Steps.{registerRule, endRule, horizonRule, ruleOf, eventTest, changeBy, eventChange}
+use Rattle.wait.specs.Waits.{stepsFrom, ended, verdictOn, waitOf}
+use Rattle.wait_report.specs.Report.{verdictLines, answerText, onTable, reportOf}
+
+abbrev entry : List ℕ
+entry = bytes "table=proc-1\ntxid=4\nxmin=3\ntxid=0\nxmin=0\nclock=9\nsample=6\nline=2\n"
+
+abbrev register : List ℕ
+register = bytes "wait=proc-1\nevent=register\nslot=1\nid=9\nxmin=0\nclock=0\nsample=0\n"
+
+abbrev end : List ℕ
+end = bytes "wait=proc-1\nevent=end\nslot=0\nid=0\nxmin=0\nclock=0\nsample=0\n"
+
+record Reports : Type 0 where
+  -- the table at the end
+  accepted : reportOf 2 entry (Holds (slot 0) (txid 4)) register
+      ≡ bytes "answer=0\nslot=0\nid=0\nseen=0\nat=0\n"
+      ++ bytes "table=proc-1\ntxid=4\nxmin=3\ntxid=9\nxmin=9\nclock=10\nsample=6\nline=2\n"
+  -- the entry table: event 1 ends the owner's slot; nobody's may go
+  refused : reportOf 2 entry (Holds (slot 0) (txid 4)) end ≡ bytes "answer=22\nslot=0\nid=0\nseen=0\nat=1\n" ++ entry
+  nobody : reportOf 2 entry Nobody end
+      ≡ bytes "answer=0\nslot=0\nid=0\nseen=0\nat=0\n"
+      ++ bytes "table=proc-1\ntxid=0\nxmin=0\ntxid=0\nxmin=0\nclock=9\nsample=6\nline=2\n"
+  -- another owner than the slot's
+  mismatch : reportOf 2 entry (Holds (slot 0) (txid 5)) register ≡ bytes "answer=3\nslot=0\nid=5\nseen=4\nat=0\n" ++ entry
+  -- the wait's text breaks a rule: its line, and the entry table
+  no-wait : reportOf 2 entry Nobody (bytes "wait=proc-1\nevent=end\n") ≡ bytes "answer=9\nslot=0\nid=0\nseen=0\nat=3\n" ++ entry
+  -- the table's does: its line, and no table, whatever the wait is
+  no-table : reportOf 2 (bytes "table=proc-1\ntxid=4\n") Nobody [] ≡ bytes "answer=9\nslot=0\nid=0\nseen=0\nat=3\n"
+
+reports : Reports
+unfolding
+    reportOf onTable answerText verdictLines tableText linesUnder tableRules numbersOf lineTexts joined lineText numberText
+    decimal decimalIn tableOf tableFrom brokenAt told
+    waitOf verdictOn stepsFrom ended eventTest ruleOf registerRule endRule horizonRule eventChange changeBy passes slotsPass differ
+    listed active minimum eventsOf readText nameAt firstNamed nameLine foundFrom foundIn itemAt fieldsAt fieldRules limit
+    linesAt fieldAt numberAt numberFrom numberTail starts
+reports = record { accepted = refl; refused = refl; nobody = refl; mismatch = refl; no-wait = refl; no-table = refl }

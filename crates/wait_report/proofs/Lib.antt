@@ -1,0 +1,3 @@
+pub mod Five
+pub mod Whole
+mod Examples

@@ -1,0 +1,68 @@
+//! The second reading of a wait agrees with the twin, until a fault is put into it.
+
+use twin::second::waits::{WaitFault, report};
+use twin::waits::check::{self, Wait};
+use twin::waits::compare::{ROOM_FAULTS, difference, put, smaller};
+use twin::waits::generate::generate;
+
+/// As many waits as tests/waits compares, each with what has to be answered.
+fn waits() -> Vec<(Wait, Vec<u8>)> {
+    let waits = (1..=4_000).map(generate);
+    waits
+        .map(|wait| (wait.clone(), check::report(&wait)))
+        .collect()
+}
+
+#[test]
+fn both_readings_agree() {
+    for (seed, (wait, expected)) in (1..).zip(waits()) {
+        assert!(report(&wait, WaitFault::None) == expected, "seed {seed}");
+    }
+}
+
+#[test]
+fn every_fault_shows() {
+    let (faults, waits) = (WaitFault::all(), waits());
+    assert!(faults.len() > 150, "{} faults", faults.len());
+    let shows = |fault| {
+        let mut waits = waits.iter();
+        waits.any(|(wait, expected)| report(wait, fault) != *expected)
+    };
+    for fault in faults {
+        assert!(shows(fault), "{} shows on no seed", fault.name());
+    }
+}
+
+/// The comparison itself, on checkers that put their report into a buffer.
+#[test]
+fn the_comparison_sees_every_fault_at_the_border() {
+    let found = |checker: &dyn Fn(&Wait, &mut [u8]) -> usize| {
+        let mut waits = (1..=50).map(generate);
+        waits.any(|wait| difference(&wait, &checker).is_some())
+    };
+    for (name, wrong) in ROOM_FAULTS {
+        assert!(found(&wrong), "{name}");
+    }
+    let right = |wait: &Wait, out: &mut [u8]| put(&report(wait, WaitFault::None), out);
+    assert!(!found(&right));
+}
+
+/// The fault of the horizon that goes to the slot's own id: what is kept of it is one event, the slot that it names, one
+/// with a lower id, and the owner's where one waits.
+#[test]
+fn a_difference_is_made_small() {
+    let fault = WaitFault::Named("horizon-to-own-id");
+    let wrong = |wait: &Wait, out: &mut [u8]| put(&report(wait, fault), out);
+    let found = (1..)
+        .map(generate)
+        .find(|wait| difference(wait, &wrong).is_some());
+    let small = smaller(&found.expect("some wait shows it"), &wrong);
+    assert!(difference(&small, &wrong).is_some());
+    let lines = |text: &[u8]| text.iter().filter(|&&byte| byte == b'\n').count();
+    assert_eq!(lines(&small.text), 7);
+    let taken = String::from_utf8(small.table).unwrap();
+    let taken = taken
+        .lines()
+        .filter(|line| line.starts_with("txid=") && *line != "txid=0");
+    assert_eq!(taken.count(), 2 + usize::from(small.owner.is_some()));
+}
