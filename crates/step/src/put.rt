@@ -2,40 +2,41 @@
 use crate::Ran;
 use table::Decision;
 use table::SnapshotDecision;
+use trace::Version;
 ghost use mathlib.Core.Path.{_≡_};
 ghost use Rattle.step.specs.Put.{plainRan, plainLeft, listingRan, listingLeft};
 
 // Of a call that shows no snapshot.
-pub fn put_plain(decided: Decision, buf: &mut [u8], at: usize) -> Ran
+pub fn put_plain(version: Version, decided: Decision, buf: &mut [u8], at: usize) -> Ran
     ensures { λ o. do
       n ← ⟦kinds::SLOTS⟧ .entry
-      ⌜ o ≡ plainRan n decided (now (buf .entry)) at ⌝ }
+      ⌜ o ≡ plainRan version n decided (now (buf .entry)) at ⌝ }
     ensures { λ _. do
       n ← ⟦kinds::SLOTS⟧ .entry
-      ⌜ now (buf .exit) ≡ plainLeft n decided (now (buf .entry)) at ⌝ }
+      ⌜ now (buf .exit) ≡ plainLeft version n decided (now (buf .entry)) at ⌝ }
 {
     let change = decided.change;
     let answer = decided.answer;
     let numbers = output::numbers_of(answer, 0, 0, 0, change.counters.vacuum_line);
     let no_ids = [0u64; 1];
-    let put = output::put_answer(buf, at, numbers, &no_ids);
+    let put = output::put_answer(version, buf, at, numbers, &no_ids);
     Ran { put, change }
 }
 
 // Of a snapshot call, which lists the ids in flight.
-pub fn put_listing(decided: SnapshotDecision, buf: &mut [u8], at: usize) -> Ran
+pub fn put_listing(version: Version, decided: SnapshotDecision, buf: &mut [u8], at: usize) -> Ran
     ensures { λ o. do
       n ← ⟦kinds::SLOTS⟧ .entry
-      ⌜ o ≡ listingRan n decided (now (buf .entry)) at ⌝ }
+      ⌜ o ≡ listingRan version n decided (now (buf .entry)) at ⌝ }
     ensures { λ _. do
       n ← ⟦kinds::SLOTS⟧ .entry
-      ⌜ now (buf .exit) ≡ listingLeft n decided (now (buf .entry)) at ⌝ }
+      ⌜ now (buf .exit) ≡ listingLeft version n decided (now (buf .entry)) at ⌝ }
 {
     let change = decided.change;
     let answer = decided.answer;
     let snapshot = decided.snapshot;
     let line = change.counters.vacuum_line;
     let numbers = output::numbers_of(answer, snapshot.xmin, snapshot.xmax, snapshot.count, line);
-    let put = output::put_answer(buf, at, numbers, &snapshot.ids);
+    let put = output::put_answer(version, buf, at, numbers, &snapshot.ids);
     Ran { put, change }
 }

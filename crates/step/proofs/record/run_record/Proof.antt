@@ -99,7 +99,7 @@ returns-2 c =
     let few = d .before .before .before .if1 .left in
     let e = d .decide-begin .ensures ∙ lent-decides _ _ _ refl in
     let o = put .put-plain .ensures in
-    rw op (o .0 ∙ plain-ran _ _ _ few _ _ e refl, o .1 ∙ plain-left _ _ _ few _ _ e refl)
+    rw op (o .0 ∙ plain-ran _ _ _ _ few _ _ e refl, o .1 ∙ plain-left _ _ _ _ few _ _ e refl)
 
 same-length-2 : tie.Need-same-length-2
 same-length-2 c = search needs
@@ -113,7 +113,7 @@ returns-3 c =
     let few = d .before .before .before .if1 .left in
     let e = d .decide-end .ensures ∙ lent-decides _ _ _ refl in
     let o = put .put-plain2 .ensures in
-    rw op (o .0 ∙ plain-ran _ _ _ few _ _ e refl, o .1 ∙ plain-left _ _ _ few _ _ e refl)
+    rw op (o .0 ∙ plain-ran _ _ _ _ few _ _ e refl, o .1 ∙ plain-left _ _ _ _ few _ _ e refl)
 
 same-length-3 : tie.Need-same-length-3
 same-length-3 c = search needs
@@ -127,7 +127,7 @@ returns-4 c =
     let few = d .before .before .before .if1 .left in
     let e = d .decide-snap .ensures in
     let o = put .put-listing .ensures in
-    rw op (o .0 ∙ listing-ran _ _ _ few _ _ e refl, o .1 ∙ listing-left _ _ _ few _ _ e refl)
+    rw op (o .0 ∙ listing-ran _ _ _ _ few _ _ e refl, o .1 ∙ listing-left _ _ _ _ few _ _ e refl)
 
 same-length-4 : tie.Need-same-length-4
 same-length-4 c = search needs
@@ -141,7 +141,7 @@ returns-5 c =
     let few = d .before .before .before .if1 .left in
     let e = d .decide-own .ensures in
     let o = put .put-listing2 .ensures in
-    rw op (o .0 ∙ listing-ran _ _ _ few _ _ e refl, o .1 ∙ listing-left _ _ _ few _ _ e refl)
+    rw op (o .0 ∙ listing-ran _ _ _ _ few _ _ e refl, o .1 ∙ listing-left _ _ _ _ few _ _ e refl)
 
 same-length-5 : tie.Need-same-length-5
 same-length-5 c = search needs
@@ -155,7 +155,7 @@ returns-6 c =
     let few = d .before .before .before .if1 .left in
     let e = d .decide-oldest .ensures in
     let o = put .put-plain3 .ensures in
-    rw op (o .0 ∙ plain-ran _ _ _ few _ _ e refl, o .1 ∙ plain-left _ _ _ few _ _ e refl)
+    rw op (o .0 ∙ plain-ran _ _ _ _ few _ _ e refl, o .1 ∙ plain-left _ _ _ _ few _ _ e refl)
 
 same-length-6 : tie.Need-same-length-6
 same-length-6 c = search needs
@@ -169,7 +169,7 @@ returns-7 c =
     let few = d .before .before .before .if1 .left in
     let e = d .decide-vacuum .ensures in
     let o = put .put-plain4 .ensures in
-    rw op (o .0 ∙ plain-ran _ _ _ few _ _ e refl, o .1 ∙ plain-left _ _ _ few _ _ e refl)
+    rw op (o .0 ∙ plain-ran _ _ _ _ few _ _ e refl, o .1 ∙ plain-left _ _ _ _ few _ _ e refl)
 
 same-length-7 : tie.Need-same-length-7
 same-length-7 c = search needs
@@ -183,7 +183,7 @@ returns-8 c =
     let few = d .before .before .before .if1 .left in
     let e = d .decide-stamp .ensures ∙ lent-stamps _ _ _ in
     let o = put .put-plain5 .ensures in
-    rw op (o .0 ∙ plain-ran _ _ _ few _ _ e refl, o .1 ∙ plain-left _ _ _ few _ _ e refl)
+    rw op (o .0 ∙ plain-ran _ _ _ _ few _ _ e refl, o .1 ∙ plain-left _ _ _ _ few _ _ e refl)
 
 same-length-8 : tie.Need-same-length-8
 same-length-8 c = search needs
@@ -197,7 +197,7 @@ returns-9 c =
     let few = d .before .before .before .if1 .left in
     let e = d .decide-finish .ensures ∙ lent-decides _ _ _ refl in
     let o = put .put-plain6 .ensures in
-    rw op (o .0 ∙ plain-ran _ _ _ few _ _ e refl, o .1 ∙ plain-left _ _ _ few _ _ e refl)
+    rw op (o .0 ∙ plain-ran _ _ _ _ few _ _ e refl, o .1 ∙ plain-left _ _ _ _ few _ _ e refl)
 
 pub run-record-spec : {M : Type 1} → statement M
 run-record-spec =
