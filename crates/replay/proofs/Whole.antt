@@ -48,10 +48,10 @@ module _ (n : ℕ) (s xs : List ℕ) where
 
   module _
       (version : Version) (count : ℕ) (e : reading s ≡ reads.Whole version count) {ys : List ℕ} {at filled : ℕ} {t : Table}
-      (p : PartFits n s firstRecord (freshTable n) xs ys (record { table = t; at = at; filled = filled }))
+      (p : PartFits version n s firstRecord (freshTable n) xs ys (record { table = t; at = at; filled = filled }))
     where
       part : Part
-      part = partOf n (length xs) 0 (freshTable n) (recordsFrom s firstRecord)
+      part = partOf version n (length xs) 0 (freshTable n) (recordsFrom s firstRecord)
 
       into-is : intoOf n (length xs) s ≡ intoEnd (length xs) count (part .left) (part .text)
       unfolding intoOf part

@@ -48,7 +48,7 @@ returns c =
     let first = found .first-record .ensures in
     let part = ran .run-part .ensures (rw first (opened _ _ _ e .boundary)) in
     let p = rw (first, made .fresh .ensures) at part in
-    let kept = ran .run-part .kept .1 .1 .1 .0 in
+    let kept = ran .run-part .kept .1 .1 .1 .1 .0 in
     into-whole _ (a .s .now) (a .out .now) _ _ e p (tested .if1 .taken) kept (put .put-records .ensures)
 
 same-length-2 : tie.Need-same-length-2
