@@ -1,5 +1,7 @@
 //! Why a line breaks a rule of the trace. Which line it is the library says; nothing here decides whether it breaks.
 
+const HEADERS: [&[u8]; 2] = [b"trace=proc-1", b"trace=proc-2"];
+
 const KEYS: [&str; 6] = ["op", "slot", "id", "stamp", "clock", "sample"];
 
 /// Each op, and the fields that it reads.
@@ -28,7 +30,7 @@ pub fn why(text: &[u8], line: usize) -> String {
         Some((line - 2) % 6)
     };
     let expected = match place {
-        None => "`trace=proc-1`".to_string(),
+        None => "`trace=proc-1` or `trace=proc-2`".to_string(),
         Some(place) => format!("`{}=` of record {}", KEYS[place], (line - 2) / 6 + 1),
     };
     let found = lines.get(line - 1).copied().unwrap_or(b"");
@@ -58,8 +60,11 @@ pub fn why(text: &[u8], line: usize) -> String {
 fn first(found: &[u8]) -> String {
     if found.starts_with(b"\xef\xbb\xbf") {
         "it begins with a byte order mark".to_string()
-    } else if found.starts_with(b"trace=proc-1") || found.trim_ascii() == b"trace=proc-1" {
-        after(found, b"trace=proc-1")
+    } else if let Some(header) = HEADERS
+        .into_iter()
+        .find(|header| found.starts_with(*header) || found.trim_ascii() == *header)
+    {
+        after(found, header)
     } else if found.starts_with(b"trace=") {
         "no such version is known".to_string()
     } else {

@@ -6,7 +6,7 @@ use crate::history::{History, Stride};
 use crate::random::Random;
 use crate::sized;
 use crate::table::SLOTS;
-use crate::trace::Op;
+use crate::trace::{Op, Version};
 
 /// What is done to the table before the mixed records.
 #[derive(Clone, Copy)]
@@ -83,25 +83,26 @@ const fn profile(
 /// The trace of a seed.
 pub fn generate(seed: u64) -> Vec<u8> {
     let mut random = Random::new(seed);
+    let version = random.pick(&Version::ALL);
     match random.below(20) {
         0..=9 => {
             let profile = &PROFILES[random.place(PROFILES.len())];
-            history(profile, random).text()
+            history(version, profile, random).text()
         }
         10..=15 => {
-            let text = small_history(&mut random).text();
+            let text = small_history(version, &mut random).text();
             damage::damaged(text, &mut random)
         }
         16..=18 => {
-            let text = small_history(&mut random).text();
+            let text = small_history(version, &mut random).text();
             damage_fields::unread_field(text, &mut random)
         }
-        _ => sized::long_text(&mut random),
+        _ => sized::long_text(version, &mut random),
     }
 }
 
-fn history(profile: &Profile, random: Random) -> History {
-    let mut history = History::new(random, profile.stride);
+fn history(version: Version, profile: &Profile, random: Random) -> History {
+    let mut history = History::new(version, random, profile.stride);
     start(&mut history, profile.start);
     let records = history.random.between(1, profile.most_records);
     for _ in 0..records {
@@ -133,8 +134,8 @@ fn start(history: &mut History, start: Start) {
 }
 
 /// A few records of every kind, for a text that will be damaged.
-fn small_history(random: &mut Random) -> History {
-    let mut history = History::new(Random::new(random.draw()), Stride::Wide);
+fn small_history(version: Version, random: &mut Random) -> History {
+    let mut history = History::new(version, Random::new(random.draw()), Stride::Wide);
     let records = if random.once_in(20) {
         0
     } else {

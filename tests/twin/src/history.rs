@@ -4,7 +4,7 @@ use crate::random::Random;
 use crate::replay;
 use crate::table::{SLOTS, Table};
 use crate::text;
-use crate::trace::{LIMIT, Op, Record};
+use crate::trace::{LIMIT, Op, Record, Version};
 
 /// How far reserved numbers and clocks run ahead.
 #[derive(Clone, Copy, Debug, PartialEq, Eq)]
@@ -29,6 +29,7 @@ pub struct Faults {
 }
 
 pub struct History {
+    pub version: Version,
     pub random: Random,
     pub records: Vec<Record>,
     table: Table,
@@ -37,13 +38,14 @@ pub struct History {
 }
 
 impl History {
-    pub fn new(random: Random, stride: Stride) -> Self {
+    pub fn new(version: Version, random: Random, stride: Stride) -> Self {
         History {
+            version,
             random,
             records: Vec::new(),
             table: Table::fresh(),
             stride,
-            length: text::HEADER_LINE.len(),
+            length: text::HEADER_LENGTH,
         }
     }
 
@@ -60,7 +62,7 @@ impl History {
     }
 
     pub fn text(&self) -> Vec<u8> {
-        text::of_records(&self.records)
+        text::of_records(self.version, &self.records)
     }
 
     /// Begins until `count` slots have been filled, ids close together.

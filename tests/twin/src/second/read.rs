@@ -11,12 +11,32 @@ pub struct Line6 {
 
 const KEYS: [&str; 6] = ["op=", "slot=", "id=", "stamp=", "clock=", "sample="];
 
-/// The complete records, and the line that breaks a rule if one does.
-pub fn records(input: &[u8], fault: Fault) -> (Vec<Line6>, Option<usize>) {
+/// The complete records, the line that breaks a rule if one does, and whether a record has a ninth line.
+pub struct Text {
+    pub records: Vec<Line6>,
+    pub broken: Option<usize>,
+    pub nine: bool,
+}
+
+pub fn records(input: &[u8], fault: Fault) -> Text {
     let mut records = Vec::new();
     let broken = broken_line(input, fault, &mut records);
     let shift = usize::from(fault.is("lines-from-0"));
-    (records, broken.map(|line| line.saturating_sub(shift)))
+    Text {
+        records,
+        broken: broken.map(|line| line.saturating_sub(shift)),
+        nine: input.starts_with(b"trace=proc-2"),
+    }
+}
+
+/// Headers that are known, without a newline.
+fn is_header(line: &[u8], fault: Fault) -> bool {
+    match line {
+        b"trace=proc-1" => true,
+        b"trace=proc-2" => !fault.is("proc-2-refused"),
+        b"trace=proc-3" => fault.is("proc-3-accepted"),
+        _ => false,
+    }
 }
 
 fn broken_line(input: &[u8], fault: Fault, records: &mut Vec<Line6>) -> Option<usize> {
@@ -25,7 +45,7 @@ fn broken_line(input: &[u8], fault: Fault, records: &mut Vec<Line6>) -> Option<u
     }
     let (lines, rest) = split(input, fault);
     let header = lines.first().map(Vec::as_slice);
-    if header.is_some_and(|line| line != b"trace=proc-1") && !fault.is("header-unread") {
+    if header.is_some_and(|line| !is_header(line, fault)) && !fault.is("header-unread") {
         return Some(1);
     }
     let mut op = Op::Begin;
@@ -56,7 +76,7 @@ fn too_long(input: &[u8], fault: Fault) -> bool {
         _ if fault.is("limit-65537") => 65_537,
         _ => 65_536,
     };
-    let header_first = fault.is("limit-after-header") && !input.starts_with(b"trace=proc-1\n");
+    let header_first = fault.is("limit-after-header") && !input.starts_with(b"trace=proc-");
     input.len() > limit && !header_first
 }
 
