@@ -84,7 +84,10 @@ pub fn own(t: Table, slot: u16, id: u64, clock: u64, sample: u64) -> Table {
 
 pub fn oldest(t: Table, clock: u64, sample: u64) -> Table {
     say::line(b"oldest #/#", &[clock, sample]);
-    plain(table::oldest_snapshot_xmin(t, clock, sample), b" xmin=# holder=#")
+    plain(
+        table::oldest_snapshot_xmin(t, clock, sample),
+        b" xmin=# holder=#",
+    )
 }
 
 pub fn vacuum(t: Table, clock: u64, sample: u64) -> Table {

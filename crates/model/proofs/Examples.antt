@@ -44,7 +44,8 @@ pub plain-snapshot :
     (lineAfter 2 emptyAt100 ≡ 100)
     × Accepts 2 (reached 2 emptyAt100) (snap 100 50)
     × (shown 2 (reached 2 emptyAt100) (snap 100 50) ≡ plainSnapshot)
-unfolding freshTable run active retained minimum maximum refusal changeAccepted changeOf after snapshotOf shownAccepted shown
+unfolding freshTable run active retained minimum maximum refusal changeAccepted changeOf after
+    snapshotOf shownAccepted shown
 plain-snapshot = (refl, refl, refl)
 
 pub plain-not-covered : SettledBelow (lineAfter 2 emptyAt100) plainSnapshot → ⊥
@@ -99,7 +100,8 @@ pub stale-snapshot :
     × Accepts 2 (reached 2 untilStale) (own (slot 0) (txid 100) 101 50)
     × (shown 2 (reached 2 untilStale) (own (slot 0) (txid 100) 101 50) ≡ snapshot 50 101 (100 ∷ 0 ∷ []) 1)
     × (lineAfter 2 (untilStale ++ own (slot 0) (txid 100) 101 50 ∷ vacuum 101 50 ∷ []) ≡ 100)
-unfolding freshTable run active retained holderFrom lowestEmpty minimum maximum refusal changeAccepted changeOf after snapshotOf shownAccepted shown
+unfolding freshTable run active retained holderFrom lowestEmpty minimum maximum refusal changeAccepted changeOf after
+    snapshotOf shownAccepted shown
 stale-snapshot = (refl, refl, refl, refl)
 
 pub stale-covered :

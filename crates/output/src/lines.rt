@@ -115,7 +115,7 @@ pub fn put_answer(version: Version, buf: &mut [u8], at: usize, n: Numbers, ids: 
     ensures { λ _. do
       slots ← ⟦kinds::SLOTS⟧ .entry
       ⌜ now (buf .exit)
-        ≡ leftText version slots (now (buf .entry)) at (n .count) (answerText version n (take (n .count) (now (ids .entry)))) ⌝ }
+          ≡ leftText version slots (now (buf .entry)) at (n .count) (answerText version n (take (n .count) (now (ids .entry)))) ⌝ }
 {
     let count = n.count;
     if has_room(version, buf.len(), at, count) {

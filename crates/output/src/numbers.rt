@@ -35,7 +35,10 @@ fn xmin_told(answer: Answer, xmin: u64) -> u64
     ensures { λ r. ⌜ r ≡ xminTold answer xmin ⌝ }
 {
     match answer {
-        Answer::Oldest { xmin: found, holder: _ } => found,
+        Answer::Oldest {
+            xmin: found,
+            holder: _,
+        } => found,
         Answer::Begun { slot: _, id: _ } => xmin,
         Answer::Done => xmin,
         Answer::Line { line: _, holder: _ } => xmin,

@@ -28,8 +28,8 @@ pub examples : Examples
 unfolding
     readsOf printsOf everyRefusal whoHolds
     replayOf textOf brokenText callOf printed answerText toldLines restLines holderLine inLines lineText numberText decimal decimalIn
-    told consumed noSnapshot active retained holderFrom lowestEmpty minimum maximum snapshotOf freshTable tellsOf xminTold holderTold numbersOf
-    refusal changeAccepted spent changeOf after answerAccepted answer shownAccepted shown
+    told consumed noSnapshot active retained holderFrom lowestEmpty minimum maximum snapshotOf freshTable
+    tellsOf xminTold holderTold numbersOf refusal changeAccepted spent changeOf after answerAccepted answer shownAccepted shown
     traceOf readText nameAt firstNamed nameLine foundFrom foundIn itemAt allowed fieldsAt fieldRules limit
     linesAt fieldAt numberAt numberFrom numberTail starts
 examples = record {

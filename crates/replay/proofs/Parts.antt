@@ -38,10 +38,12 @@ pub parts-join : (v : Version) (n size at : ℕ) (t : Table) (rs : List Record) 
 unfolding partOf textOf run
 parts-join v n size at t [] = record { text = refl; table = refl }
 parts-join v n size at t (r ∷ rs) =
-    go (fits v n size at (shown n t (callOf r) .count)) (parts-join v n size (at + length (printed v n t (callOf r))) (after n t (callOf r)) rs)
+    go (fits v n size at (shown n t (callOf r) .count))
+    (parts-join v n size (at + length (printed v n t (callOf r))) (after n t (callOf r)) rs)
   where
     go :
-        (b : Bool) → Joins v n (after n t (callOf r)) rs (partOf v n size (at + length (printed v n t (callOf r))) (after n t (callOf r)) rs) →
+        (b : Bool) →
+        Joins v n (after n t (callOf r)) rs (partOf v n size (at + length (printed v n t (callOf r))) (after n t (callOf r)) rs) →
         Joins v n t (r ∷ rs)
         (cond b
         (withText (printed v n t (callOf r)) (partOf v n size (at + length (printed v n t (callOf r))) (after n t (callOf r)) rs))
@@ -50,7 +52,9 @@ parts-join v n size at t (r ∷ rs) =
     go false j = record { text = refl; table = refl }
 
 -- a part that left no record printed them all
-pub part-whole : (v : Version) (n size : ℕ) (t : Table) (rs : List Record) → partOf v n size 0 t rs .left ≡ [] → partOf v n size 0 t rs .text ≡ textOf v n t rs
+pub part-whole :
+    (v : Version) (n size : ℕ) (t : Table) (rs : List Record) → partOf v n size 0 t rs .left ≡ [] →
+    partOf v n size 0 t rs .text ≡ textOf v n t rs
 unfolding textOf
 part-whole v n size t rs e =
     let j = parts-join v n size 0 t rs .text in

@@ -14,17 +14,11 @@ pub struct Progress {
 }
 
 // Runs the records under this header from `from` on until none is left, or the next one has no room.
-pub fn run_part(
-    version: Version,
-    s: &[u8],
-    from: usize,
-    table: Table,
-    buf: &mut [u8],
-) -> Progress
+pub fn run_part(version: Version, s: &[u8], from: usize, table: Table, buf: &mut [u8]) -> Progress
     ensures { λ r. do
       slots ← ⟦kinds::SLOTS⟧ .entry
       ⌜ (Boundary (now (s .entry)) from →
-        PartFits version slots (now (s .entry)) from table (now (buf .entry)) (now (buf .exit)) r) ⌝ }
+          PartFits version slots (now (s .entry)) from table (now (buf .entry)) (now (buf .exit)) r) ⌝ }
 {
     let mut t = table;
     let mut at = from;

@@ -18,8 +18,8 @@ ghost use Rattle.model.specs.Tables.{lent};
 ghost use Rattle.step.specs.Named.{callOf};
 ghost use Rattle.step.specs.Step.{ran, ranLeft};
 
-// Runs a record of a trace with this header on the table that lent these columns and counters. A snapshot has a place for each slot of a table: columns
-// with more slots than that are no table's, and nothing is run on them.
+// Runs a record of a trace with this header on the table that lent these columns and counters. A snapshot has a place for
+// each slot of a table: columns with more slots than that are no table's, and nothing is run on them.
 pub fn run_record<'a>(
     version: Version,
     txids: &'a [u64],
@@ -52,7 +52,12 @@ pub fn run_record<'a>(
     match op {
         Op::Begin => put_plain(version, table::decide_begin(txids, was, number), buf, at),
         Op::End => put_plain(version, table::decide_end(txids, was, slot, id), buf, at),
-        Op::Snap => put_listing(version, table::decide_snap(txids, was, r.clock, r.sample), buf, at),
+        Op::Snap => put_listing(
+            version,
+            table::decide_snap(txids, was, r.clock, r.sample),
+            buf,
+            at,
+        ),
         Op::Own => put_listing(
             version,
             table::decide_own(txids, was, slot, id, r.clock, r.sample),
@@ -72,6 +77,11 @@ pub fn run_record<'a>(
             at,
         ),
         Op::Stamp => put_plain(version, table::decide_stamp(was, number), buf, at),
-        Op::Finish => put_plain(version, table::decide_finish(txids, was, slot, id, number), buf, at),
+        Op::Finish => put_plain(
+            version,
+            table::decide_finish(txids, was, slot, id, number),
+            buf,
+            at,
+        ),
     }
 }

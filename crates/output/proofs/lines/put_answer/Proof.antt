@@ -50,9 +50,16 @@ in-lines-requires c κs =
     let wrote = told .told-lines .ensures in
     let more = rest .rest-lines .ensures in
     let most = ninth .holder-line .ensures in
-    omega
-    (arith, fits-room (a .version) _ (a .buf .now) (a .at) (a .n .count) e, wrote .size, wrote .short, more .size, more .short, most .size,
-    most .short)
+    omega (
+      arith,
+      fits-room (a .version) _ (a .buf .now) (a .at) (a .n .count) e,
+      wrote .size,
+      wrote .short,
+      more .size,
+      more .short,
+      most .size,
+      most .short,
+    )
 
 same-length : tie.Need-same-length
 same-length c = search needs

@@ -35,18 +35,22 @@ unfolding headerAt nameAt firstNamed
 returns-2 c =
     let first = c .before .before .before in
     let key = first .before .before .before in
-    rw
-    (sym (key .before .bytes-at .ensures) ∙ key .if1 .taken, sym (first .before .bytes-at2 .ensures) ∙ first .if2 .left,
-    sym (c .before .bytes-at3 .ensures) ∙ c .if3 .taken)
+    rw (
+      sym (key .before .bytes-at .ensures) ∙ key .if1 .taken,
+      sym (first .before .bytes-at2 .ensures) ∙ first .if2 .left,
+      sym (c .before .bytes-at3 .ensures) ∙ c .if3 .taken,
+    )
 
 returns-3 : tie.Need-returns-3
 unfolding headerAt nameAt firstNamed
 returns-3 c =
     let first = c .before .before .before in
     let key = first .before .before .before in
-    rw
-    (sym (key .before .bytes-at .ensures) ∙ key .if1 .taken, sym (first .before .bytes-at2 .ensures) ∙ first .if2 .left,
-    sym (c .before .bytes-at3 .ensures) ∙ c .if3 .left)
+    rw (
+      sym (key .before .bytes-at .ensures) ∙ key .if1 .taken,
+      sym (first .before .bytes-at2 .ensures) ∙ first .if2 .left,
+      sym (c .before .bytes-at3 .ensures) ∙ c .if3 .left,
+    )
 
 returns-4 : tie.Need-returns-4
 unfolding headerAt nameAt firstNamed
