@@ -81,10 +81,10 @@ pub extern "C" fn oldest(layout: u64, rounds: u64) -> u64 {
     let mut sum = 0u64;
     for _ in 0..rounds {
         let clock = table.clock().saturating_add(1);
-        let Ok(xmin) = table.oldest_snapshot_xmin(clock, clock) else {
+        let Ok(oldest) = table.oldest_snapshot_xmin(clock, clock) else {
             continue;
         };
-        sum = sum.wrapping_add(xmin);
+        sum = sum.wrapping_add(oldest.xmin).wrapping_add(oldest.holder);
     }
     sum
 }

@@ -1,9 +1,10 @@
 //! Why a line breaks a rule of its text. Which line it is the library says; nothing here decides whether it breaks.
 
-/// A text of items of six lines: the word of line 1, what an item is called, its first key, its kinds with the fields that
-/// each reads, and its fourth key.
+/// A text of items of six lines: the word and the versions of line 1, what an item is called, its first key, its kinds with
+/// the fields that each reads, and its fourth key.
 struct Items {
     text: &'static str,
+    versions: &'static [&'static str],
     item: &'static str,
     key: &'static str,
     kinds: &'static [(&'static str, &'static [&'static str])],
@@ -13,6 +14,7 @@ struct Items {
 
 const TRACE: Items = Items {
     text: "trace",
+    versions: &["proc-1", "proc-2"],
     item: "record",
     key: "op",
     kinds: &[
@@ -31,6 +33,7 @@ const TRACE: Items = Items {
 
 const WAIT: Items = Items {
     text: "wait",
+    versions: &["proc-1"],
     item: "event",
     key: "event",
     kinds: &[
@@ -63,7 +66,7 @@ pub fn of_table(text: &[u8], line: usize, after: usize) -> String {
         );
     }
     let key = match line {
-        0 | 1 => return first_line(text, "table"),
+        0 | 1 => return first_line(text, "table", &["proc-1"]),
         _ if line >= after => ["clock", "sample", "line"][(line - after).min(2)],
         _ => ["txid", "xmin"][line % 2],
     };
@@ -175,7 +178,7 @@ impl Items {
             return "It is longer than 65,536 bytes.".to_string();
         }
         if line == 1 {
-            return first_line(text, self.text);
+            return first_line(text, self.text, self.versions);
         }
         let place = (line - 2) % 6;
         let key = self.keys()[place];
@@ -233,14 +236,20 @@ impl Items {
     }
 }
 
-/// Line 1 of a text, a word and its version.
-fn first_line(text: &[u8], word: &str) -> String {
-    let right = format!("{word}=proc-1");
-    Line::of(text, 1).why(text, &format!("`{right}`"), |found| {
+/// Line 1 of a text, a word and one of its versions.
+fn first_line(text: &[u8], word: &str, versions: &[&str]) -> String {
+    let headers: Vec<String> = versions
+        .iter()
+        .map(|version| format!("{word}={version}"))
+        .collect();
+    let near = |found: &[u8], right: &[u8]| found.starts_with(right) || found.trim_ascii() == right;
+    let expected = format!("`{}`", headers.join("` or `"));
+    Line::of(text, 1).why(text, &expected, |found| {
+        let mut rights = headers.iter().map(String::as_bytes);
         if found.starts_with(b"\xef\xbb\xbf") {
             "it begins with a byte order mark".to_string()
-        } else if found.starts_with(right.as_bytes()) || found.trim_ascii() == right.as_bytes() {
-            after(found, right.as_bytes())
+        } else if let Some(right) = rights.find(|right| near(found, right)) {
+            after(found, right)
         } else if value(found, word).is_some() {
             "no such version is known".to_string()
         } else {

@@ -5,10 +5,11 @@ use table::Answer;
 
 // What a round adds to the checksum.
 fn marked(sum: u64, answer: Answer) -> u64 {
-    let Answer::Oldest(xmin) = answer else {
+    let Answer::Oldest { xmin, holder } = answer else {
         return sum;
     };
-    wrapping_add_u64(sum, xmin)
+    let sum = wrapping_add_u64(sum, xmin);
+    wrapping_add_u64(sum, holder)
 }
 
 pub fn lent(layout: u64, rounds: u64) -> u64 {

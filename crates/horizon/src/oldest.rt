@@ -1,4 +1,5 @@
-// The oldest retained xmin: the smallest of sample and the snapshot_xmin of taken slots, after the observation.
+// The oldest retained xmin: the smallest of sample and the snapshot_xmin of taken slots, after the observation; and who holds it.
+use crate::NOBODY;
 use kinds::Verdict;
 use model::Answer;
 use model::Change;
@@ -34,13 +35,14 @@ pub fn decide_oldest<'a>(
         },
         Verdict::Pass => {
             let xmin = scans::oldest_retained(txids, xmins, sample);
+            let holder = scans::lowest_holder(txids, xmins, xmin, NOBODY);
             let counters = changes::observed(was, clock, sample);
             Decision {
                 change: Change {
                     slot: SlotChange::Stays,
                     counters,
                 },
-                answer: Answer::Oldest(xmin),
+                answer: Answer::Oldest { xmin, holder },
             }
         }
     }

@@ -1,4 +1,5 @@
-// Vacuum: what oldest finds, then the line is the larger of the former line and it.
+// Vacuum: what oldest finds, and whom it names; then the line is the larger of the former line and what was found.
+use crate::NOBODY;
 use kinds::Verdict;
 use model::Answer;
 use model::Change;
@@ -35,6 +36,7 @@ pub fn decide_vacuum<'a>(
         Verdict::Pass => {
             let xmin = scans::oldest_retained(txids, xmins, sample);
             let line = kinds::greater(was.vacuum_line, xmin);
+            let holder = scans::lowest_holder(txids, xmins, xmin, NOBODY);
             Decision {
                 change: Change {
                     slot: SlotChange::Stays,
@@ -44,7 +46,7 @@ pub fn decide_vacuum<'a>(
                         vacuum_line: line,
                     },
                 },
-                answer: Answer::Line(line),
+                answer: Answer::Line { line, holder },
             }
         }
     }

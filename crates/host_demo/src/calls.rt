@@ -12,13 +12,20 @@ use table::Table;
 pub fn value(called: Outcome) -> u64 {
     let answer = called.answer;
     match answer {
-        Answer::Oldest(xmin) => xmin,
-        Answer::Line(line) => line,
+        Answer::Oldest { xmin, holder: _ } => xmin,
+        Answer::Line { line, holder: _ } => line,
         Answer::Begun { slot: _, id: _ } => 0,
         Answer::Done => 0,
         Answer::Stamped(_) => 0,
         Answer::Refused(_) => 0,
     }
+}
+
+// The slot that oldest and vacuum name; else 0.
+pub fn holder(called: Outcome) -> u64 {
+    let answer = called.answer;
+    let numbers = output::numbers_of(answer, 0, 0, 0, 0);
+    numbers.holder
 }
 
 // The number of an answer, and what it carries.
@@ -31,12 +38,12 @@ pub fn answered(answer: Answer) {
     );
 }
 
-// `rest` has a `#` where the call answers a value.
+// `rest` has a `#` where the call answers a value, and a second one where it names a holder.
 fn plain(called: Outcome, rest: &[u8]) -> Table {
     let answer = called.answer;
     let next = called.table;
     answered(answer);
-    say::line(rest, &[value(called)]);
+    say::line(rest, &[value(called), holder(called)]);
     say::table(next);
     next
 }
@@ -77,12 +84,15 @@ pub fn own(t: Table, slot: u16, id: u64, clock: u64, sample: u64) -> Table {
 
 pub fn oldest(t: Table, clock: u64, sample: u64) -> Table {
     say::line(b"oldest #/#", &[clock, sample]);
-    plain(table::oldest_snapshot_xmin(t, clock, sample), b" xmin=#")
+    plain(
+        table::oldest_snapshot_xmin(t, clock, sample),
+        b" xmin=# holder=#",
+    )
 }
 
 pub fn vacuum(t: Table, clock: u64, sample: u64) -> Table {
     say::line(b"vacuum #/#", &[clock, sample]);
-    plain(table::vacuum(t, clock, sample), b" vacuum=#")
+    plain(table::vacuum(t, clock, sample), b" vacuum=# holder=#")
 }
 
 pub fn stamp(t: Table, number: u64) -> Table {

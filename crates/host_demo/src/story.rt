@@ -2,6 +2,7 @@
 // host, which hands in what its atomics gave; the table that comes back is the next one in.
 use crate::calls::begin;
 use crate::calls::finish;
+use crate::calls::holder;
 use crate::calls::value;
 use crate::say;
 use kinds::SlotNo;
@@ -35,7 +36,7 @@ fn read(shown: Snapshot, new: Txid) -> u64 {
 }
 
 // A page asks for its top tile before the re-encode is done, and for its bottom tile after: both are the old ones. The old
-// tiles may go once the id that replaced them is below the line.
+// tiles may go once the id that replaced them is below the line. Who holds it back is the re-encode, then the page, then nobody.
 fn page(t: Table, encode: SlotNo, new: Txid) -> Table {
     let joined = table::begin_transaction(t, Stamp(4));
     let answer = joined.answer;
@@ -51,8 +52,17 @@ fn page(t: Table, encode: SlotNo, new: Txid) -> Table {
     let left = table::end_transaction(after.table, slot, id);
     let last = table::vacuum(left.table, 6, 6);
     say::line(
-        b"page: top=# line=# line=# bottom=# line=#\n",
-        &[top, value(before), value(after), bottom, value(last)],
+        b"page: top=# line=# holder=# line=# holder=# bottom=# line=# holder=#\n",
+        &[
+            top,
+            value(before),
+            holder(before),
+            value(after),
+            holder(after),
+            bottom,
+            value(last),
+            holder(last),
+        ],
     );
     last.table
 }

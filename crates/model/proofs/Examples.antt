@@ -13,12 +13,12 @@ use Rattle.kinds.specs.declared.refusal.Verdict.the-variants.{Refuse}
 use Rattle.settled.specs.declared.Snapshot.{Snapshot}
 use Rattle.settled.specs.Settled.{listed, settledIn}
 use Rattle.kinds.specs.Refusals.{told, consumed}
-use Rattle.model.specs.Tally.{active, retained, lowestEmpty, minimum, maximum, snapshotOf}
+use Rattle.model.specs.Tally.{active, retained, holderFrom, holderOf, noHolder, lowestEmpty, minimum, maximum, snapshotOf}
 use Rattle.model.specs.declared.answer.Answer.the-variants.{Begun, Done, Oldest, Line, Stamped, Refused}
-use Rattle.model.specs.Answers.{tellsOf, xminTold, numbersOf, numbersBeside}
+use Rattle.model.specs.Answers.{tellsOf, xminTold, holderTold, numbersOf, numbersBeside}
 use Rattle.model.specs.Tables.{freshTable, clockOf}
-use Rattle.model.specs.Calls.{Call, begin, end, snap, own, vacuum, stamp, finish, refusal, changeAccepted, changeOf, spent, after}
-use Rattle.model.specs.Calls.{answerAccepted, answer, shownAccepted, shown}
+use Rattle.model.specs.Calls.{Call, begin, end, snap, own, oldest, vacuum, stamp, finish, refusal}
+use Rattle.model.specs.Calls.{changeAccepted, changeOf, spent, after, answerAccepted, answer, shownAccepted, shown}
 use Rattle.model.specs.Check.{slotsPass, differ, passes, tablePasses}
 use Rattle.model.specs.Accepted.{Registered}
 use Rattle.model.specs.History.{run, reached, Accepts, Never, lastFrom, lastOwn}
@@ -46,7 +46,8 @@ pub plain-snapshot :
     (lineAfter 2 emptyAt100 ≡ 100)
     × Accepts 2 (reached 2 emptyAt100) (snap 100 50)
     × (shown 2 (reached 2 emptyAt100) (snap 100 50) ≡ plainSnapshot)
-unfolding freshTable run active retained minimum maximum refusal changeAccepted changeOf after snapshotOf shownAccepted shown
+unfolding freshTable run active retained minimum maximum refusal changeAccepted changeOf after
+    snapshotOf shownAccepted shown
 plain-snapshot = (refl, refl, refl)
 
 pub plain-not-covered : SettledBelow (lineAfter 2 emptyAt100) plainSnapshot → ⊥
@@ -71,7 +72,7 @@ pub replaced-snapshot :
     (lastOwn 2 (slot 1) (txid 2) untilFirst ≡ some firstSnapshot)
     × (lastOwn 2 (slot 1) (txid 2) untilSecond ≡ some secondSnapshot)
     × (lineAfter 2 untilSecond ≡ 2)
-unfolding freshTable run active retained lowestEmpty minimum maximum refusal changeAccepted changeOf after snapshotOf
+unfolding freshTable run active retained holderFrom lowestEmpty minimum maximum refusal changeAccepted changeOf after snapshotOf
     shownAccepted shown lastFrom
 replaced-snapshot = (refl, refl, refl)
 
@@ -82,7 +83,7 @@ replaced-not-covered h = true≢false (sym (h 1 (omega arith) (rw (replaced-snap
 -- Covered, with a line above 1: the one that took its place
 
 pub second-registered : Registered (reached 2 untilSecond) (slot 1) (txid 2)
-unfolding freshTable run active retained lowestEmpty minimum maximum refusal changeAccepted changeOf after
+unfolding freshTable run active retained holderFrom lowestEmpty minimum maximum refusal changeAccepted changeOf after
 second-registered = record { not-zero = λ e. omega arith; holds = refl }
 
 pub second-covered : Covered 2 untilSecond secondSnapshot
@@ -101,7 +102,8 @@ pub stale-snapshot :
     × Accepts 2 (reached 2 untilStale) (own (slot 0) (txid 100) 101 50)
     × (shown 2 (reached 2 untilStale) (own (slot 0) (txid 100) 101 50) ≡ snapshot 50 101 (100 ∷ 0 ∷ []) 1)
     × (lineAfter 2 (untilStale ++ own (slot 0) (txid 100) 101 50 ∷ vacuum 101 50 ∷ []) ≡ 100)
-unfolding freshTable run active retained lowestEmpty minimum maximum refusal changeAccepted changeOf after snapshotOf shownAccepted shown
+unfolding freshTable run active retained holderFrom lowestEmpty minimum maximum refusal changeAccepted changeOf after
+    snapshotOf shownAccepted shown
 stale-snapshot = (refl, refl, refl, refl)
 
 pub stale-covered :
@@ -156,8 +158,20 @@ pub vacuums :
     Accepts 2 (reached 2 untilSecond) (vacuum 3 1)
     × Gives 2 (untilFirst ++ end (slot 0) (txid 1) ∷ own (slot 1) (txid 2) 3 3 ∷ []) 3 3 2
     × Gives 2 untilSecond 3 1 2
-unfolding freshTable run active retained lowestEmpty minimum maximum refusal changeAccepted changeOf after answerAccepted answer
-vacuums = (refl, refl, refl)
+unfolding freshTable run active retained holderFrom lowestEmpty minimum maximum refusal changeAccepted changeOf after answerAccepted answer
+vacuums = (refl, (1, refl), (65535, refl))
+
+-- The holder: the lowest of two that retain it; no empty slot; a slot also where the sample is as low; and of a vacuum that
+-- keeps the line 5, the holder of what oldest finds: nobody's sample 3, and then a snapshot_xmin of 3
+
+pub holders :
+    (holderOf (9 ∷ 4 ∷ 7 ∷ []) (8 ∷ 3 ∷ 3 ∷ []) 3 noHolder ≡ 1)
+    × (holderOf (0 ∷ 4 ∷ []) (0 ∷ 4 ∷ []) 0 noHolder ≡ 65535)
+    × (answer 2 (reached 2 (begin (number 5) ∷ [])) (oldest 9 5) ≡ Oldest 5 0)
+    × (answer 2 (reached 2 (begin (number 5) ∷ vacuum 9 5 ∷ [])) (vacuum 9 3) ≡ Line 5 65535)
+    × (answer 2 (reached 2 (begin (number 5) ∷ vacuum 9 5 ∷ own (slot 0) (txid 5) 9 3 ∷ [])) (vacuum 9 9) ≡ Line 5 0)
+unfolding freshTable run active retained holderFrom lowestEmpty minimum maximum refusal changeAccepted changeOf after answerAccepted answer
+holders = (refl, refl, refl, refl, refl)
 
 -- The bound on the clock is reached: two stamps, each at the farthest number, take it to 1 + 2·(2^32 + 1). An observation may
 -- take it to its end in one call
@@ -181,12 +195,12 @@ observation-jumps = (refl, refl)
 -- The twelve rows, and the orders, at four slots, so that a wrong row is refused here
 
 edges-at-four : (any : Stamp) → RowsHold 4 (rows 4 any)
-unfolding consumed active retained lowestEmpty minimum maximum snapshotOf freshTable refusal changeAccepted changeOf spent after
+unfolding consumed active retained holderFrom lowestEmpty minimum maximum snapshotOf freshTable refusal changeAccepted changeOf spent after
     answerAccepted answer shownAccepted shown seenFrom seenIn said rows
 edges-at-four any = refl
 
 orders-at-four : RowsHold 4 (orders 4)
-unfolding consumed active retained lowestEmpty minimum maximum snapshotOf freshTable refusal changeAccepted changeOf spent after
+unfolding consumed active retained holderFrom lowestEmpty minimum maximum snapshotOf freshTable refusal changeAccepted changeOf spent after
     answerAccepted answer shownAccepted shown seenFrom seenIn said orders
 orders-at-four = refl
 
@@ -203,16 +217,16 @@ beside xmin xmax = snapshot xmin xmax (9 ∷ 0 ∷ []) 1
 
 pub answers-in-numbers :
     (numbersBeside (Begun (slot 3) (txid 5)) (snapshot 0 0 [] 0) 7
-    ≡ record { told = told-numbers 0 3 5 0; xmin = 0; xmax = 0; «vacuum_line» = 7; count = 0 })
+    ≡ record { told = told-numbers 0 3 5 0; xmin = 0; xmax = 0; «vacuum_line» = 7; count = 0; holder = 0 })
     × (numbersBeside Done (beside 4 6) 7
-    ≡ record { told = told-numbers 0 0 0 0; xmin = 4; xmax = 6; «vacuum_line» = 7; count = 1 })
-    × (numbersBeside (Oldest 8) (snapshot 0 0 [] 0) 7
-    ≡ record { told = told-numbers 0 0 0 0; xmin = 8; xmax = 0; «vacuum_line» = 7; count = 0 })
-    × (numbersBeside (Line 9) (snapshot 0 0 [] 0) 9
-    ≡ record { told = told-numbers 0 0 0 0; xmin = 0; xmax = 0; «vacuum_line» = 9; count = 0 })
+    ≡ record { told = told-numbers 0 0 0 0; xmin = 4; xmax = 6; «vacuum_line» = 7; count = 1; holder = 0 })
+    × (numbersBeside (Oldest 8 3) (snapshot 0 0 [] 0) 7
+    ≡ record { told = told-numbers 0 0 0 0; xmin = 8; xmax = 0; «vacuum_line» = 7; count = 0; holder = 3 })
+    × (numbersBeside (Line 9 4) (snapshot 0 0 [] 0) 9
+    ≡ record { told = told-numbers 0 0 0 0; xmin = 0; xmax = 0; «vacuum_line» = 9; count = 0; holder = 4 })
     × (numbersBeside (Stamped (number 6)) (snapshot 0 0 [] 0) 7
-    ≡ record { told = told-numbers 0 0 6 0; xmin = 0; xmax = 0; «vacuum_line» = 7; count = 0 })
+    ≡ record { told = told-numbers 0 0 6 0; xmin = 0; xmax = 0; «vacuum_line» = 7; count = 0; holder = 0 })
     × (numbersBeside (Refused (SlotOwnershipMismatch (slot 3) (txid 5) (txid 2))) (snapshot 0 0 [] 0) 7
-    ≡ record { told = told-numbers 3 3 5 2; xmin = 0; xmax = 0; «vacuum_line» = 7; count = 0 })
-unfolding told tellsOf xminTold numbersOf
+    ≡ record { told = told-numbers 3 3 5 2; xmin = 0; xmax = 0; «vacuum_line» = 7; count = 0; holder = 0 })
+unfolding told tellsOf xminTold holderTold numbersOf
 answers-in-numbers = (refl, refl, refl, refl, refl, refl)

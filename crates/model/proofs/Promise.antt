@@ -120,22 +120,22 @@ covered-test-yes n cs s x c h l =
 
 -- a vacuum that answers a line leaves it in the table
 pub given-line :
-    (n : ℕ) (t : Table) (clock sample line : ℕ) → answer n t (vacuum clock sample) ≡ Line line →
+    (n : ℕ) (t : Table) (clock sample line holder : ℕ) → answer n t (vacuum clock sample) ≡ Line line holder →
     line ≡ lineOf (after n t (vacuum clock sample))
 unfolding answerAccepted answer changeAccepted changeOf after
-given-line n t clock sample line e = go (refusal n t (vacuum clock sample)) e
+given-line n t clock sample line holder e = go (refusal n t (vacuum clock sample)) e
   where
     go :
-        (v : Verdict) → answerBy v t (vacuum clock sample) ≡ Line line →
+        (v : Verdict) → answerBy v t (vacuum clock sample) ≡ Line line holder →
         line ≡ lineOf (applied t (changeBy v t (vacuum clock sample)))
     go Pass q = sym (ap line-given q)
-    go (Refuse r) q = absurd (refused-not-line r line q)
+    go (Refuse r) q = absurd (refused-not-line r line holder q)
 
 vacuum-is-line :
     (n : ℕ) (cs : List Call) (clock sample line : ℕ) → Gives n cs clock sample line →
     line ≡ lineAfter n (cs ++ vacuum clock sample ∷ [])
 vacuum-is-line n cs clock sample line e =
-    given-line n (reached n cs) clock sample line e
+    given-line n (reached n cs) clock sample line (e .0) (e .1)
     ∙ ap (λ (t : Table). lineOf t) (sym (run-snoc n (freshTable n) cs (vacuum clock sample)))
 
 vacuum-from-then :
@@ -151,7 +151,7 @@ vacuum-promise n =
       is-line = vacuum-is-line n;
       never-falls = λ before after clock sample line clock′ sample′ line′ e e′.
           le-trans (vacuum-from-then n before after clock sample line e)
-          (rw (given-line n _ clock′ sample′ line′ e′)
+          (rw (given-line n _ clock′ sample′ line′ (e′ .0) (e′ .1))
           (line-after n (reached n (before ++ vacuum clock sample ∷ after)) (vacuum clock′ sample′)));
       held = λ cs clock sample line e s c.
           rw (vacuum-is-line n cs clock sample line e) (covered-settled n (cs ++ vacuum clock sample ∷ []) s c);

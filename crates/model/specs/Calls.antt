@@ -21,7 +21,7 @@ use Rattle.model.specs.declared.answer.Decision.{Decision}
 use Rattle.model.specs.declared.answer.SnapshotDecision.{SnapshotDecision}
 use Rattle.model.specs.declared.answer.Outcome.{Outcome}
 use Rattle.model.specs.declared.answer.SnapshotOutcome.{SnapshotOutcome}
-use Rattle.model.specs.Tally.{active, lowestEmpty, xminOf, snapshotOf, oldestOf}
+use Rattle.model.specs.Tally.{active, lowestEmpty, xminOf, snapshotOf, oldestOf, holderOf, noHolder}
 use Rattle.model.specs.Tables.{lineOf, clockOf}
 use Rattle.model.specs.Changes.{change, pastNumber, observed, withLine, applied}
 use Rattle.model.specs.Tests.{ownerTest, reservationTest, fullTest, observationTest}
@@ -51,6 +51,10 @@ refusal n t (finish slot id number) = then (ownerTest n (t .txids) slot id) (res
 -- what oldest finds on this table
 abbrev pub oldestIn : Table → ℕ → ℕ
 oldestIn t sample = oldestOf (t .txids) (t .«snapshot_xmins») sample
+
+-- who holds that back: the lowest taken slot that retains it
+abbrev pub holderIn : Table → ℕ → ℕ
+holderIn t sample = holderOf (t .txids) (t .«snapshot_xmins») (oldestIn t sample) noHolder
 
 -- the line that a vacuum leaves
 abbrev pub raisedLine : Table → ℕ → ℕ
@@ -92,8 +96,8 @@ answerAccepted t (begin number) = Begun (slot (lowestEmpty (t .txids))) (txidOf 
 answerAccepted t (end slot id) = Done
 answerAccepted t (snap clock sample) = Done
 answerAccepted t (own slot id clock sample) = Done
-answerAccepted t (oldest clock sample) = Oldest (oldestIn t sample)
-answerAccepted t (vacuum clock sample) = Line (raisedLine t sample)
+answerAccepted t (oldest clock sample) = Oldest (oldestIn t sample) (holderIn t sample)
+answerAccepted t (vacuum clock sample) = Line (raisedLine t sample) (holderIn t sample)
 answerAccepted t (stamp number) = Stamped number
 answerAccepted t (finish slot id number) = Stamped number
 

@@ -39,9 +39,9 @@ pub record Promise (n : ℕ) : Type 0 where
       (before after : List Call) (c : Call) → takesSnapshot c ≡ true → Accepts n (reached n (before ++ after)) c →
       SettledBelow (lineAfter n before) (shown n (reached n (before ++ after)) c)
 
--- a vacuum at the end of a history answers this line: it is given out
+-- a vacuum at the end of a history answers this line, whoever it names: it is given out
 abbrev pub Gives : ℕ → List Call → ℕ → ℕ → ℕ → Type 0
-Gives n cs clock sample line = answer n (reached n cs) (vacuum clock sample) ≡ Line line
+Gives n cs clock sample line = (holder : ℕ) × (answer n (reached n cs) (vacuum clock sample) ≡ Line line holder)
 
 -- the same, said of the lines that vacuum answers
 pub record VacuumPromise (n : ℕ) : Type 0 where

@@ -123,14 +123,14 @@ rows n any =
           ∷ seen n (Refused (SlotOwnershipMismatch (slot 0) (txid 5) (txid 0))) 6 1
           ∷ [];
     }
-    -- P12 empty table, vacuum 100/100, then 100/50: line 100 both times; oldest with 50 answers 50
+    -- P12 empty table, vacuum 100/100, then 100/50: line 100 both times; oldest with 50 answers 50; no slot holds it
     ∷ record {
       start = freshTable n;
       calls = vacuum 100 100 ∷ vacuum 100 50 ∷ oldest 100 50 ∷ [];
       sees =
-          seen n (Line 100) 100 100
-          ∷ seen n (Line 100) 100 100
-          ∷ seen n (Oldest 50) 100 100
+          seen n (Line 100 65535) 100 100
+          ∷ seen n (Line 100 65535) 100 100
+          ∷ seen n (Oldest 50 65535) 100 100
           ∷ [];
     }
     ∷ []

@@ -13,10 +13,10 @@ pub enum Answer {
     Begun { slot: SlotNo, id: Txid },
     // End, and the snapshot calls, whose snapshot stands beside the answer.
     Done,
-    // Oldest: the oldest retained xmin.
-    Oldest(u64),
-    // Vacuum: the line.
-    Line(u64),
+    // Oldest: the oldest retained xmin, and who holds it back: the lowest taken slot that retains it, else 65,535.
+    Oldest { xmin: u64, holder: u64 },
+    // Vacuum: the line, and the holder that oldest would name.
+    Line { line: u64, holder: u64 },
     // Stamp and finish: the stamp.
     Stamped(Stamp),
     Refused(Refusal),
@@ -29,6 +29,7 @@ pub struct Numbers {
     pub xmax: u64,
     pub vacuum_line: u64,
     pub count: usize,
+    pub holder: u64,
 }
 
 // What a call decides on lent columns: who owns the table makes the change.

@@ -16,8 +16,10 @@ use Rattle.text.specs.Keys.{inKey}
 use Rattle.text.specs.Line.{lineText}
 use Rattle.text.specs.Write.{spliced, putAt, written}
 use Rattle.text.proofs.Decimal.{length-word}
+use Rattle.trace.specs.declared.Version.{Version}
+use Rattle.trace.specs.declared.Version.the-variants.{Proc1, Proc2}
 use Rattle.text.proofs.Splice.{splice-length, splice-none, splice-append, room, line-length}
-use Rattle.output.specs.Output.{inLines, need, fits, putText, leftText}
+use Rattle.output.specs.Output.{inLines, holderRoom, need, fits, putText, leftText}
 use Rattle.output.specs.Wrote.{Wrote}
 
 line-short : (key : List ℕ) (n : ℕ) → n < 2 ^ 64 → length (lineText key n) ≤ length key + 21
@@ -84,22 +86,27 @@ unfolding inLines
 one-more-id ids i h =
     rw (add-one, take-suc ids i 0) (sym (in-lines-append (take i ids) (getD ids i 0 ∷ []) ∙ rw append-nil))
 
+-- the ninth line is given 28 bytes at most
+pub holder-few : (v : Version) → holderRoom v ≤ 28
+holder-few Proc1 = omega arith
+holder-few Proc2 = omega arith
+
 -- a record that has room, and one that has none
-module _ (n : ℕ) (xs : List ℕ) (at count : ℕ) where
-  pub fits-room : fits n (length xs) at count ≡ true → at + (224 + 24 * count) ≤ length xs
+module _ (v : Version) (n : ℕ) (xs : List ℕ) (at count : ℕ) where
+  pub fits-room : fits v n (length xs) at count ≡ true → at + (224 + holderRoom v + 24 * count) ≤ length xs
   fits-room e =
-      let (a, b) = and-eq-true-iff (leb count n) (leb (need count) (length xs - at)) .0 e in
-      let h = leb-true (need count) (length xs - at) b in
+      let (a, b) = and-eq-true-iff (leb count n) (leb (need v count) (length xs - at)) .0 e in
+      let h = leb-true (need v count) (length xs - at) b in
       omega arith
 
   module _ (t : List ℕ) where
     pub put-room :
-        {ys : List ℕ} {past most : ℕ} → fits n (length xs) at count ≡ true → Wrote xs at t ys past most →
-        (Past past ≡ putText n xs at count t) × (ys ≡ leftText n xs at count t)
+        {ys : List ℕ} {past most : ℕ} → fits v n (length xs) at count ≡ true → Wrote xs at t ys past most →
+        (Past past ≡ putText v n xs at count t) × (ys ≡ leftText v n xs at count t)
     unfolding putText leftText
     put-room e w = (rw e (ap Past (w .end)), rw e (w .left))
 
     pub put-no-room :
-        fits n (length xs) at count ≡ false → (NoRoom ≡ putText n xs at count t) × (xs ≡ leftText n xs at count t)
+        fits v n (length xs) at count ≡ false → (NoRoom ≡ putText v n xs at count t) × (xs ≡ leftText v n xs at count t)
     unfolding putText leftText
     put-no-room e = (rw e, rw e)

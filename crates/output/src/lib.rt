@@ -1,4 +1,4 @@
-// What an answer prints: its numbers, and their text in eight lines, then a line for each listed id.
+// What an answer prints: its numbers, and their text in eight lines, under proc-2 in nine, then a line for each listed id.
 mod lines;
 mod numbers;
 

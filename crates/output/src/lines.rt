@@ -3,13 +3,14 @@ use kinds::SLOTS;
 use kinds::Told;
 use model::Numbers;
 use text::Put;
+use trace::Version;
 ghost use mathlib.Core.Path.{_≡_};
 ghost use mathlib.Core.List.{_++_};
 ghost use Prim.Native.Nat.{_+_, _*_, _≤_};
 ghost use lib.ListN.{length, take};
 ghost use Rattle.text.specs.Keys.{inKey};
 ghost use Rattle.text.specs.Line.{lineText};
-ghost use Rattle.output.specs.Output.{toldLines, restLines, inLines, answerText, fits, putText, leftText};
+ghost use Rattle.output.specs.Output.{toldLines, restLines, holderLine, inLines, answerText, holderRoom, fits, putText, leftText};
 ghost use Rattle.output.specs.Wrote.{Wrote};
 
 // The line of `key` and n, where the caller has seen that there is room: a number takes 20 digits at most.
@@ -46,6 +47,17 @@ fn rest_lines(buf: &mut [u8], at: usize, n: Numbers) -> usize
     line(buf, c, b"count=", n.count as u64)
 }
 
+// The ninth, under a header that has it.
+fn holder_line(buf: &mut [u8], at: usize, version: Version, holder: u64) -> usize
+    requires { ⌜ at + holderRoom version ≤ length (now buf) ⌝ }
+    ensures { λ r. ⌜ Wrote (now (buf .entry)) at (holderLine version holder) (now (buf .exit)) r (holderRoom version) ⌝ }
+{
+    match version {
+        Version::Proc1 => at,
+        Version::Proc2 => line(buf, at, b"holder=", holder),
+    }
+}
+
 fn in_line(buf: &mut [u8], at: usize, id: u64) -> usize
     requires { ⌜ at + 24 ≤ length (now buf) ⌝ }
     ensures { λ r. ⌜ Wrote (now (buf .entry)) at (lineText inKey id) (now (buf .exit)) r 24 ⌝ }
@@ -71,9 +83,19 @@ fn in_lines(buf: &mut [u8], at: usize, ids: &[u64], count: usize) -> usize
     past
 }
 
+// The bytes that the ninth line is given.
+fn holder_room(version: Version) -> usize
+    ensures { λ r. ⌜ r ≡ holderRoom version ⌝ }
+{
+    match version {
+        Version::Proc1 => 0,
+        Version::Proc2 => 28,
+    }
+}
+
 // Whether a record that lists `count` ids has room from `at` on.
-fn has_room(size: usize, at: usize, count: usize) -> bool
-    ensures { λ r. do ⌜ r ≡ fits (← ⟦kinds::SLOTS⟧ .entry) size at count ⌝ }
+fn has_room(version: Version, size: usize, at: usize, count: usize) -> bool
+    ensures { λ r. do ⌜ r ≡ fits version (← ⟦kinds::SLOTS⟧ .entry) size at count ⌝ }
 {
     if SLOTS < count {
         return false;
@@ -81,24 +103,27 @@ fn has_room(size: usize, at: usize, count: usize) -> bool
     if size < at {
         return false;
     }
-    224 + 24 * count <= size - at
+    let more = holder_room(version);
+    224 + more + 24 * count <= size - at
 }
 
-// The eight lines and a line for each of the first `count` ids, where they have room.
-pub fn put_answer(buf: &mut [u8], at: usize, n: Numbers, ids: &[u64]) -> Put
+// The eight lines, or nine, and a line for each of the first `count` ids, where they have room.
+pub fn put_answer(version: Version, buf: &mut [u8], at: usize, n: Numbers, ids: &[u64]) -> Put
     ensures { λ r. do
       slots ← ⟦kinds::SLOTS⟧ .entry
-      ⌜ r ≡ putText slots (now (buf .entry)) at (n .count) (answerText n (take (n .count) (now (ids .entry)))) ⌝ }
+      ⌜ r ≡ putText version slots (now (buf .entry)) at (n .count) (answerText version n (take (n .count) (now (ids .entry)))) ⌝ }
     ensures { λ _. do
       slots ← ⟦kinds::SLOTS⟧ .entry
-      ⌜ now (buf .exit) ≡ leftText slots (now (buf .entry)) at (n .count) (answerText n (take (n .count) (now (ids .entry)))) ⌝ }
+      ⌜ now (buf .exit)
+          ≡ leftText version slots (now (buf .entry)) at (n .count) (answerText version n (take (n .count) (now (ids .entry)))) ⌝ }
 {
     let count = n.count;
-    if has_room(buf.len(), at, count) {
+    if has_room(version, buf.len(), at, count) {
         let told = n.told;
         let four = told_lines(buf, at, told);
         let eight = rest_lines(buf, four, n);
-        let past = in_lines(buf, eight, ids, count);
+        let nine = holder_line(buf, eight, version, n.holder);
+        let past = in_lines(buf, nine, ids, count);
         return Put::Past(past);
     }
     Put::NoRoom

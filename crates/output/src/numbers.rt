@@ -3,7 +3,7 @@ use kinds::Told;
 use model::Answer;
 use model::Numbers;
 ghost use mathlib.Core.Path.{_≡_};
-ghost use Rattle.model.specs.Answers.{acceptedWith, tellsOf, xminTold, numbersOf};
+ghost use Rattle.model.specs.Answers.{acceptedWith, tellsOf, xminTold, holderTold, numbersOf};
 
 fn accepted_with(slot: u64, id: u64) -> Told
     ensures { λ t. ⌜ t ≡ acceptedWith slot id ⌝ }
@@ -23,8 +23,8 @@ fn tells_of(answer: Answer) -> Told
     match answer {
         Answer::Begun { slot, id } => accepted_with(slot.0 as u64, id.0),
         Answer::Done => accepted_with(0, 0),
-        Answer::Oldest(_) => accepted_with(0, 0),
-        Answer::Line(_) => accepted_with(0, 0),
+        Answer::Oldest { xmin: _, holder: _ } => accepted_with(0, 0),
+        Answer::Line { line: _, holder: _ } => accepted_with(0, 0),
         Answer::Stamped(stamp) => accepted_with(0, stamp.0),
         Answer::Refused(r) => kinds::tell(r),
     }
@@ -35,12 +35,29 @@ fn xmin_told(answer: Answer, xmin: u64) -> u64
     ensures { λ r. ⌜ r ≡ xminTold answer xmin ⌝ }
 {
     match answer {
-        Answer::Oldest(found) => found,
+        Answer::Oldest {
+            xmin: found,
+            holder: _,
+        } => found,
         Answer::Begun { slot: _, id: _ } => xmin,
         Answer::Done => xmin,
-        Answer::Line(_) => xmin,
+        Answer::Line { line: _, holder: _ } => xmin,
         Answer::Stamped(_) => xmin,
         Answer::Refused(_) => xmin,
+    }
+}
+
+// Whom oldest and vacuum name; 0 for every other answer.
+fn holder_told(answer: Answer) -> u64
+    ensures { λ r. ⌜ r ≡ holderTold answer ⌝ }
+{
+    match answer {
+        Answer::Oldest { xmin: _, holder } => holder,
+        Answer::Line { line: _, holder } => holder,
+        Answer::Begun { slot: _, id: _ } => 0,
+        Answer::Done => 0,
+        Answer::Stamped(_) => 0,
+        Answer::Refused(_) => 0,
     }
 }
 
@@ -50,11 +67,13 @@ pub fn numbers_of(answer: Answer, xmin: u64, xmax: u64, count: usize, vacuum_lin
 {
     let told = tells_of(answer);
     let xmin = xmin_told(answer, xmin);
+    let holder = holder_told(answer);
     Numbers {
         told,
         xmin,
         xmax,
         vacuum_line,
         count,
+        holder,
     }
 }

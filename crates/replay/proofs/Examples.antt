@@ -5,9 +5,9 @@ use lib.ListN.{length}
 use borrow.Author.Tests.{lt-ltb}
 use Rattle.kinds.specs.Refusals.{told, consumed}
 use Rattle.settled.specs.Snapshots.{noSnapshot}
-use Rattle.model.specs.Tally.{active, retained, lowestEmpty, minimum, maximum, snapshotOf}
+use Rattle.model.specs.Tally.{active, retained, holderFrom, lowestEmpty, minimum, maximum, snapshotOf}
 use Rattle.model.specs.Tables.{freshTable}
-use Rattle.model.specs.Answers.{tellsOf, xminTold, numbersOf}
+use Rattle.model.specs.Answers.{tellsOf, xminTold, holderTold, numbersOf}
 use Rattle.model.specs.Calls.{refusal, changeAccepted, spent, changeOf, after, answerAccepted, answer, shownAccepted, shown}
 use Rattle.text.specs.Decimal.{decimalIn, decimal, numberText, numberTail, numberFrom, numberAt}
 use Rattle.text.specs.Bytes.{starts}
@@ -19,21 +19,23 @@ use Rattle.grammar.specs.Named.{itemAt}
 use Rattle.grammar.specs.Texts.{readText}
 use Rattle.trace.specs.Version.{allowed}
 use Rattle.trace.specs.Trace.{traceOf}
-use Rattle.output.specs.Output.{toldLines, restLines, inLines, answerText, printed}
+use Rattle.output.specs.Output.{toldLines, restLines, holderLine, inLines, answerText, printed}
 use Rattle.step.specs.Named.{callOf}
 use Rattle.replay.specs.Replay.{textOf, brokenText, replayOf}
-use Rattle.replay.specs.Examples.{readsOf, printsOf, everyRefusal, Examples}
+use Rattle.replay.specs.Examples.{readsOf, printsOf, everyRefusal, whoHolds, Examples}
 
 pub examples : Examples
 unfolding
-    readsOf printsOf everyRefusal
-    replayOf textOf brokenText callOf printed answerText toldLines restLines inLines lineText numberText decimal decimalIn
-    told consumed noSnapshot active retained lowestEmpty minimum maximum snapshotOf freshTable tellsOf xminTold numbersOf
-    refusal changeAccepted spent changeOf after answerAccepted answer shownAccepted shown
+    readsOf printsOf everyRefusal whoHolds
+    replayOf textOf brokenText callOf printed answerText toldLines restLines holderLine inLines lineText numberText decimal decimalIn
+    told consumed noSnapshot active retained holderFrom lowestEmpty minimum maximum snapshotOf freshTable
+    tellsOf xminTold holderTold numbersOf refusal changeAccepted spent changeOf after answerAccepted answer shownAccepted shown
     traceOf readText nameAt firstNamed nameLine foundFrom foundIn itemAt allowed fieldsAt fieldRules limit
     linesAt fieldAt numberAt numberFrom numberTail starts
 examples = record {
   whole-case = refl;
+  whole-case-2 = refl;
+  holders = refl;
   every-refusal = refl;
   no-record = refl;
   empty = refl;

@@ -20,6 +20,7 @@ use Rattle.text.specs.Line.{lineText}
 use Rattle.trace.specs.declared.Record.{Record}
 use Rattle.grammar.specs.Texts.{Read, Whole, Broken}
 use Rattle.trace.specs.declared.Version.{Version}
+use Rattle.trace.specs.declared.Version.the-variants.{Proc1}
 use Rattle.trace.specs.Trace.{traceOf}
 use Rattle.output.specs.Output.{printed, need, fits}
 use Rattle.step.specs.Named.{callOf}
@@ -29,30 +30,34 @@ use Rattle.replay.proofs.Room.{room-fits}
 use Rattle.replay.specs.Into.{whole, cut, textIn, intoEnd, intoBy, intoOf}
 
 -- what a part printed, and then what its table prints for the records it left, is what all the records print
-pub record Joins (n : ℕ) (t : Table) (rs : List Record) (p : Part) : Type 0 where
-  pub text : textOf n t rs ≡ p .text ++ textOf n (p .table) (p .left)
+pub record Joins (v : Version) (n : ℕ) (t : Table) (rs : List Record) (p : Part) : Type 0 where
+  pub text : textOf v n t rs ≡ p .text ++ textOf v n (p .table) (p .left)
   pub table : run n t (callsOf rs) ≡ run n (p .table) (callsOf (p .left))
 
-pub parts-join : (n size at : ℕ) (t : Table) (rs : List Record) → Joins n t rs (partOf n size at t rs)
+pub parts-join : (v : Version) (n size at : ℕ) (t : Table) (rs : List Record) → Joins v n t rs (partOf v n size at t rs)
 unfolding partOf textOf run
-parts-join n size at t [] = record { text = refl; table = refl }
-parts-join n size at t (r ∷ rs) =
-    go (fits n size at (shown n t (callOf r) .count)) (parts-join n size (at + length (printed n t (callOf r))) (after n t (callOf r)) rs)
+parts-join v n size at t [] = record { text = refl; table = refl }
+parts-join v n size at t (r ∷ rs) =
+    go (fits v n size at (shown n t (callOf r) .count))
+    (parts-join v n size (at + length (printed v n t (callOf r))) (after n t (callOf r)) rs)
   where
     go :
-        (b : Bool) → Joins n (after n t (callOf r)) rs (partOf n size (at + length (printed n t (callOf r))) (after n t (callOf r)) rs) →
-        Joins n t (r ∷ rs)
+        (b : Bool) →
+        Joins v n (after n t (callOf r)) rs (partOf v n size (at + length (printed v n t (callOf r))) (after n t (callOf r)) rs) →
+        Joins v n t (r ∷ rs)
         (cond b
-        (withText (printed n t (callOf r)) (partOf n size (at + length (printed n t (callOf r))) (after n t (callOf r)) rs))
+        (withText (printed v n t (callOf r)) (partOf v n size (at + length (printed v n t (callOf r))) (after n t (callOf r)) rs))
         (record { text = []; table = t; left = r ∷ rs }))
     go true j = record { text = rw (j .text, append-assoc); table = j .table }
     go false j = record { text = refl; table = refl }
 
 -- a part that left no record printed them all
-pub part-whole : (n size : ℕ) (t : Table) (rs : List Record) → partOf n size 0 t rs .left ≡ [] → partOf n size 0 t rs .text ≡ textOf n t rs
+pub part-whole :
+    (v : Version) (n size : ℕ) (t : Table) (rs : List Record) → partOf v n size 0 t rs .left ≡ [] →
+    partOf v n size 0 t rs .text ≡ textOf v n t rs
 unfolding textOf
-part-whole n size t rs e =
-    let j = parts-join n size 0 t rs .text in
+part-whole v n size t rs e =
+    let j = parts-join v n size 0 t rs .text in
     sym (j ∙ rw (e, append-nil))
 
 end-whole :
@@ -79,8 +84,8 @@ whole-is-replay n size s {text} e = go (traceOf s) e
     go : (f : Read Version Record) → intoBy n size f ≡ whole text → text ≡ replayBy n f
     go (Broken line) h = broken-whole (leb 33 size) line h
     go (Whole v rs) h =
-        let w = end-whole size (length rs) (partOf n size 0 (freshTable n) rs .left) (partOf n size 0 (freshTable n) rs .text) h in
-        w .1 ∙ ap (λ (t : List ℕ). t ++ lineText recordsKey (length rs)) (part-whole n size (freshTable n) rs (w .0))
+        let w = end-whole size (length rs) (partOf v n size 0 (freshTable n) rs .left) (partOf v n size 0 (freshTable n) rs .text) h in
+        w .1 ∙ ap (λ (t : List ℕ). t ++ lineText recordsKey (length rs)) (part-whole v n size (freshTable n) rs (w .0))
 
 -- and any replay into a buffer leaves a beginning of that text
 pub record Beginning (t whole : List ℕ) : Type 0 where
@@ -88,24 +93,24 @@ pub record Beginning (t whole : List ℕ) : Type 0 where
   pub joined : whole ≡ t ++ rest
 
 end-begins :
-    (n size count : ℕ) (rs : List Record) (p : Part) → Joins n (freshTable n) rs p →
-    Beginning (textIn (intoEnd size count (p .left) (p .text))) (textOf n (freshTable n) rs ++ lineText recordsKey count)
+    (v : Version) (n size count : ℕ) (rs : List Record) (p : Part) → Joins v n (freshTable n) rs p →
+    Beginning (textIn (intoEnd size count (p .left) (p .text))) (textOf v n (freshTable n) rs ++ lineText recordsKey count)
 unfolding textOf
-end-begins n size count rs p j = go (p .left) refl
+end-begins v n size count rs p j = go (p .left) refl
   where
-    more : Beginning (p .text) (textOf n (freshTable n) rs ++ lineText recordsKey count)
-    more = record { rest = textOf n (p .table) (p .left) ++ lineText recordsKey count; joined = rw (j .text, append-assoc) }
+    more : Beginning (p .text) (textOf v n (freshTable n) rs ++ lineText recordsKey count)
+    more = record { rest = textOf v n (p .table) (p .left) ++ lineText recordsKey count; joined = rw (j .text, append-assoc) }
 
     go :
         (l : List Record) → p .left ≡ l →
-        Beginning (textIn (intoEnd size count l (p .text))) (textOf n (freshTable n) rs ++ lineText recordsKey count)
+        Beginning (textIn (intoEnd size count l (p .text))) (textOf v n (freshTable n) rs ++ lineText recordsKey count)
     go (r ∷ ls) e = more
     go [] e = ends (leb (length (p .text) + length (lineText recordsKey count)) size)
       where
         ends :
             (b : Bool) →
             Beginning (textIn (cond b (whole (p .text ++ lineText recordsKey count)) (cut (p .text))))
-            (textOf n (freshTable n) rs ++ lineText recordsKey count)
+            (textOf v n (freshTable n) rs ++ lineText recordsKey count)
         ends true = record { rest = []; joined = rw (j .text, e, append-nil (p .text), append-nil (p .text ++ lineText recordsKey count)) }
         ends false = more
 
@@ -120,31 +125,38 @@ into-begins n size s = go (traceOf s)
     go : (f : Read Version Record) → Beginning (textIn (intoBy n size f)) (replayBy n f)
     go (Broken line) = broken (leb 33 size) line
     go (Whole v rs) =
-        end-begins n size (length rs) rs (partOf n size 0 (freshTable n) rs) (parts-join n size 0 (freshTable n) rs)
+        end-begins v n size (length rs) rs (partOf v n size 0 (freshTable n) rs) (parts-join v n size 0 (freshTable n) rs)
 
 -- with room for the whole text and for one record of the most ids, every record goes in
 all-fit :
-    (n size at : ℕ) (t : Table) (rs : List Record) → Good n t → at + length (textOf n t rs) + need n ≤ size →
-    partOf n size at t rs .left ≡ []
+    (v : Version) (n size at : ℕ) (t : Table) (rs : List Record) → Good n t → at + length (textOf v n t rs) + need v n ≤ size →
+    partOf v n size at t rs .left ≡ []
 unfolding partOf textOf
-all-fit n size at t [] g h = refl
-all-fit n size at t (r ∷ rs) g h =
-    let out = printed n t (callOf r) in
+all-fit v n size at t [] g h = refl
+all-fit v n size at t (r ∷ rs) g h =
+    let out = printed v n t (callOf r) in
     let next = after n t (callOf r) in
-    let long = length-append out (textOf n next rs) in
-    rw (room-fits n size at t (callOf r) g (omega arith))
-    (all-fit n size (at + length out) next rs (good-after n t (callOf r) g) (omega (arith, long)))
+    let long = length-append out (textOf v n next rs) in
+    rw (room-fits v n size at t (callOf r) g (omega arith))
+    (all-fit v n size (at + length out) next rs (good-after n t (callOf r) g) (omega (arith, long)))
 
-pub room-is-whole : (n size : ℕ) (s : List ℕ) → length (replayOf n s) + need n ≤ size → intoOf n size s ≡ whole (replayOf n s)
+-- the header of a text; one that is no trace needs no more room than proc-1's
+abbrev pub headed : Read Version Record → Version
+headed (Whole v rs) = v
+headed (Broken line) = Proc1
+
+pub room-is-whole :
+    (n size : ℕ) (s : List ℕ) → length (replayOf n s) + need (headed (traceOf s)) n ≤ size →
+    intoOf n size s ≡ whole (replayOf n s)
 unfolding intoOf replayOf
 room-is-whole n size s = go (traceOf s)
   where
-    go : (f : Read Version Record) → length (replayBy n f) + need n ≤ size → intoBy n size f ≡ whole (replayBy n f)
+    go : (f : Read Version Record) → length (replayBy n f) + need (headed f) n ≤ size → intoBy n size f ≡ whole (replayBy n f)
     go (Broken line) h = rw (le-leb 33 size (omega arith))
     go (Whole v rs) h =
-        let text = textOf n (freshTable n) rs in
+        let text = textOf v n (freshTable n) rs in
         let line = lineText recordsKey (length rs) in
         let long = length-append text line in
-        let none = all-fit n size 0 (freshTable n) rs (good-fresh n) (omega (arith, long)) in
-        let same = part-whole n size (freshTable n) rs none in
+        let none = all-fit v n size 0 (freshTable n) rs (good-fresh n) (omega (arith, long)) in
+        let same = part-whole v n size (freshTable n) rs none in
         rw (none, same, le-leb (length text + length line) size (omega (arith, long)))

@@ -20,9 +20,11 @@ use Rattle.trace.specs.declared.Reading.the-variants.{Broken}
 use Rattle.grammar.specs.Texts as texts
 use Rattle.grammar.specs.Texts.{Read}
 use Rattle.trace.specs.declared.Version.{Version}
+use Rattle.trace.specs.declared.Version.the-variants.{Proc2}
 use Rattle.trace.specs.Trace.{traceOf, reading}
 use Rattle.trace.proofs.Refusal.{trace-breaks}
 use Rattle.output.specs.Output.{need}
+use Rattle.output.proofs.Wrote.{holder-few}
 use Rattle.replay.specs.Replay.{textOf, brokenText, replayBy, replayOf}
 use Rattle.replay.specs.Part.{partOf}
 use Rattle.replay.specs.Sent.{partsOf, piecesBy, piecesOf, handed, stopped, PieceNext, WentFits, isTrace, AllWent, SomeWent, SentFits}
@@ -36,20 +38,20 @@ use Rattle.replay.proofs.Room.{part-good, part-goes-on}
 use Rattle.replay.proofs.Next.{begins-with}
 
 parts-joined :
-    (k n : ℕ) (t : Table) (rs : List Record) → Good n t → need n ≤ 65536 → length rs ≤ k →
-    joined (partsOf k n 65536 t rs) ≡ textOf n t rs
+    (k : ℕ) (v : Version) (n : ℕ) (t : Table) (rs : List Record) → Good n t → need v n ≤ 65536 → length rs ≤ k →
+    joined (partsOf k v n 65536 t rs) ≡ textOf v n t rs
 unfolding partsOf textOf joined
-parts-joined zero n t [] g room h = refl
-parts-joined zero n t (r ∷ rs) g room h = absurd (omega arith)
-parts-joined (suc k) n t [] g room h = refl
-parts-joined (suc k) n t (r ∷ rs) g room h =
-    let on = part-goes-on n 65536 t r rs g room in
-    let p = partOf n 65536 0 t (r ∷ rs) in
-    let more = parts-joined k n (p .table) (p .left) (part-good n 65536 t (r ∷ rs) g) room (omega (arith, on)) in
-    rw more (sym (parts-join n 65536 0 t (r ∷ rs) .text))
+parts-joined zero v n t [] g room h = refl
+parts-joined zero v n t (r ∷ rs) g room h = absurd (omega arith)
+parts-joined (suc k) v n t [] g room h = refl
+parts-joined (suc k) v n t (r ∷ rs) g room h =
+    let on = part-goes-on v n 65536 t r rs g room in
+    let p = partOf v n 65536 0 t (r ∷ rs) in
+    let more = parts-joined k v n (p .table) (p .left) (part-good v n 65536 t (r ∷ rs) g) room (omega (arith, on)) in
+    rw more (sym (parts-join v n 65536 0 t (r ∷ rs) .text))
 
 -- one after the other, the pieces are what the trace prints
-pub pieces-joined : (n : ℕ) (s : List ℕ) → need n ≤ 65536 → joined (piecesOf n s) ≡ replayOf n s
+pub pieces-joined : (n : ℕ) (s : List ℕ) → need Proc2 n ≤ 65536 → joined (piecesOf n s) ≡ replayOf n s
 unfolding piecesOf replayOf joined
 pieces-joined n s room = go (traceOf s)
   where
@@ -57,30 +59,30 @@ pieces-joined n s room = go (traceOf s)
     go (texts.Broken line) = append-nil (brokenText line)
     go (texts.Whole v rs) =
         let last = lineText recordsKey (length rs) in
-        let run = parts-joined (length rs) n (freshTable n) rs (good-fresh n) room (omega arith) in
-        joined-append (partsOf (length rs) n 65536 (freshTable n) rs) (last ∷ []) ∙ rw (run, append-nil last)
+        let run = parts-joined (length rs) v n (freshTable n) rs (good-fresh n) (omega (arith, holder-few v)) (omega arith) in
+        joined-append (partsOf (length rs) v n 65536 (freshTable n) rs) (last ∷ []) ∙ rw (run, append-nil last)
 
-parts-few : (k n : ℕ) (t : Table) (rs : List Record) → length (partsOf k n 65536 t rs) ≤ k
+parts-few : (k : ℕ) (v : Version) (n : ℕ) (t : Table) (rs : List Record) → length (partsOf k v n 65536 t rs) ≤ k
 unfolding partsOf
-parts-few zero n t rs = omega arith
-parts-few (suc k) n t [] = omega arith
-parts-few (suc k) n t (r ∷ rs) =
-    let p = partOf n 65536 0 t (r ∷ rs) in
-    omega (arith, parts-few k n (p .table) (p .left))
+parts-few zero v n t rs = omega arith
+parts-few (suc k) v n t [] = omega arith
+parts-few (suc k) v n t (r ∷ rs) =
+    let p = partOf v n 65536 0 t (r ∷ rs) in
+    omega (arith, parts-few k v n (p .table) (p .left))
 
 pub pieces-few :
     (n : ℕ) (s : List ℕ) (v : Version) (rs : List Record) → traceOf s ≡ texts.Whole v rs → length (piecesOf n s) ≤ length rs + 1
 unfolding piecesOf
 pieces-few n s v rs e =
-    let parts = partsOf (length rs) n 65536 (freshTable n) rs in
+    let parts = partsOf (length rs) v n 65536 (freshTable n) rs in
     let size = length-append parts (lineText recordsKey (length rs) ∷ []) in
-    rw e (omega (arith, size, parts-few (length rs) n (freshTable n) rs))
+    rw e (omega (arith, size, parts-few (length rs) v n (freshTable n) rs))
 
 -- no records, no parts
-pub no-parts : (k n : ℕ) (t : Table) → partsOf k n 65536 t [] ≡ []
+pub no-parts : (k : ℕ) (v : Version) (n : ℕ) (t : Table) → partsOf k v n 65536 t [] ≡ []
 unfolding partsOf
-no-parts zero n t = refl
-no-parts (suc k) n t = refl
+no-parts zero v n t = refl
+no-parts (suc k) v n t = refl
 
 -- what handing a piece on answers
 pub went-on : (h : Handed) {w : Went} {r : Handed} → WentFits h w → w ≡ On r → r ≡ handed (h .to) (h .pieces + 1)

@@ -15,6 +15,7 @@ use Rattle.model.specs.Facts.{Good}
 use Rattle.model.proofs.Tally.{active-length}
 use Rattle.model.proofs.Facts.{good-after}
 use Rattle.trace.specs.declared.Record.{Record}
+use Rattle.trace.specs.declared.Version.{Version}
 use Rattle.settled.specs.Snapshots.{noSnapshot}
 use Rattle.model.specs.Tally.{snapshotOf}
 use Rattle.output.specs.Output.{printed, need, fits}
@@ -42,42 +43,42 @@ shown-few n t c = go (refusal n t c)
     go (Refuse r) = omega arith
 
 pub room-fits :
-    (n size at : ℕ) (t : Table) (c : Call) → Good n t → at + need n ≤ size → fits n size at (shown n t c .count) ≡ true
-room-fits n size at t c g h =
+    (v : Version) (n size at : ℕ) (t : Table) (c : Call) → Good n t → at + need v n ≤ size → fits v n size at (shown n t c .count) ≡ true
+room-fits v n size at t c g h =
     let many = shown n t c .count in
     let few : many ≤ n = omega (arith, shown-few n t c, g .txid-column) in
-    let room : need many ≤ size - at = omega arith in
-    rw (le-leb many n few, le-leb (need many) (size - at) room)
+    let room : need v many ≤ size - at = omega arith in
+    rw (le-leb many n few, le-leb (need v many) (size - at) room)
 
-module _ (n size : ℕ) where
+module _ (v : Version) (n size : ℕ) where
   -- a part leaves no more records than there were, and a table with the facts of the check
   record Left (rs : List Record) (p : Part) : Type 0 where
     few : length (p .left) ≤ length rs
     good : Good n (p .table)
 
-  part-left : (at : ℕ) (t : Table) (rs : List Record) → Good n t → Left rs (partOf n size at t rs)
+  part-left : (at : ℕ) (t : Table) (rs : List Record) → Good n t → Left rs (partOf v n size at t rs)
   unfolding partOf
   part-left at t [] g = record { few = omega arith; good = g }
   part-left at t (r ∷ rs) g =
-      go (fits n size at (shown n t (callOf r) .count))
-      (part-left (at + length (printed n t (callOf r))) (after n t (callOf r)) rs (good-after n t (callOf r) g))
+      go (fits v n size at (shown n t (callOf r) .count))
+      (part-left (at + length (printed v n t (callOf r))) (after n t (callOf r)) rs (good-after n t (callOf r) g))
     where
       go :
-          (b : Bool) → Left rs (partOf n size (at + length (printed n t (callOf r))) (after n t (callOf r)) rs) →
+          (b : Bool) → Left rs (partOf v n size (at + length (printed v n t (callOf r))) (after n t (callOf r)) rs) →
           Left (r ∷ rs)
           (cond b
-          (withText (printed n t (callOf r)) (partOf n size (at + length (printed n t (callOf r))) (after n t (callOf r)) rs))
+          (withText (printed v n t (callOf r)) (partOf v n size (at + length (printed v n t (callOf r))) (after n t (callOf r)) rs))
           (record { text = []; table = t; left = r ∷ rs }))
       go true l = record { few = omega (arith, l .few); good = l .good }
       go false l = record { few = omega arith; good = g }
 
-  pub part-good : (t : Table) (rs : List Record) → Good n t → Good n (partOf n size 0 t rs .table)
+  pub part-good : (t : Table) (rs : List Record) → Good n t → Good n (partOf v n size 0 t rs .table)
   part-good t rs g = part-left 0 t rs g .good
 
   -- and fewer from an empty buffer
   pub part-goes-on :
-      (t : Table) (r : Record) (rs : List Record) → Good n t → need n ≤ size → length (partOf n size 0 t (r ∷ rs) .left) ≤ length rs
+      (t : Table) (r : Record) (rs : List Record) → Good n t → need v n ≤ size → length (partOf v n size 0 t (r ∷ rs) .left) ≤ length rs
   unfolding partOf
   part-goes-on t r rs g h =
-      rw (room-fits n size 0 t (callOf r) g (omega arith))
-      (part-left (0 + length (printed n t (callOf r))) (after n t (callOf r)) rs (good-after n t (callOf r) g) .few)
+      rw (room-fits v n size 0 t (callOf r) g (omega arith))
+      (part-left (0 + length (printed v n t (callOf r))) (after n t (callOf r)) rs (good-after n t (callOf r) g) .few)

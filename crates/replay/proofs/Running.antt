@@ -15,6 +15,7 @@ use Rattle.text.specs.declared.Put.the-variants.{Past, NoRoom}
 use Rattle.text.specs.Write.{spliced}
 use Rattle.text.proofs.Splice.{splice-none, splice-append}
 use Rattle.trace.specs.declared.Record.{Record}
+use Rattle.trace.specs.declared.Version.{Version}
 use Rattle.trace.specs.declared.RecordAt.the-variants.{Is}
 use Rattle.trace.specs.Record.{recordAt}
 use Rattle.trace.specs.Trace.{recordsFrom, Boundary}
@@ -31,52 +32,52 @@ unfolding spliced
 inside-of xs at t h e = omega (arith, simp (length-append, length-take, length-drop) at e)
 
 -- a text that was put had room; one that was not, had none
-module _ (n : ℕ) (xs : List ℕ) (at count : ℕ) (t : List ℕ) where
-  put-fits : {past : ℕ} → Past past ≡ putText n xs at count t → fits n (length xs) at count ≡ true
+module _ (v : Version) (n : ℕ) (xs : List ℕ) (at count : ℕ) (t : List ℕ) where
+  put-fits : {past : ℕ} → Past past ≡ putText v n xs at count t → fits v n (length xs) at count ≡ true
   unfolding putText
-  put-fits {past} e = go (fits n (length xs) at count) refl
+  put-fits {past} e = go (fits v n (length xs) at count) refl
     where
-      go : (b : Bool) → fits n (length xs) at count ≡ b → b ≡ true
+      go : (b : Bool) → fits v n (length xs) at count ≡ b → b ≡ true
       go true q = refl
       go false q = let h : Past past ≡ NoRoom = rw q at e in let z : _≡_ {A = ℕ} 0 1 = cc in absurd (omega arith)
 
-  not-put-fits : NoRoom ≡ putText n xs at count t → fits n (length xs) at count ≡ false
+  not-put-fits : NoRoom ≡ putText v n xs at count t → fits v n (length xs) at count ≡ false
   unfolding putText
-  not-put-fits e = go (fits n (length xs) at count) refl
+  not-put-fits e = go (fits v n (length xs) at count) refl
     where
-      go : (b : Bool) → fits n (length xs) at count ≡ b → b ≡ false
+      go : (b : Bool) → fits v n (length xs) at count ≡ b → b ≡ false
       go false q = refl
       go true q = let h : NoRoom ≡ Past (at + length t) = rw q at e in let z : _≡_ {A = ℕ} 0 1 = cc in absurd (omega arith)
 
-  put-past : {past : ℕ} → Past past ≡ putText n xs at count t → past ≡ at + length t
+  put-past : {past : ℕ} → Past past ≡ putText v n xs at count t → past ≡ at + length t
   unfolding putText
   put-past {past} e = let h : Past past ≡ Past (at + length t) = rw (put-fits e) at e in cc
 
-  put-left : {past : ℕ} {ys : List ℕ} → Past past ≡ putText n xs at count t → ys ≡ leftText n xs at count t → ys ≡ spliced xs at t
+  put-left : {past : ℕ} {ys : List ℕ} → Past past ≡ putText v n xs at count t → ys ≡ leftText v n xs at count t → ys ≡ spliced xs at t
   unfolding leftText
   put-left e q = rw (put-fits e) at q
 
-  not-put-left : {ys : List ℕ} → NoRoom ≡ putText n xs at count t → ys ≡ leftText n xs at count t → ys ≡ xs
+  not-put-left : {ys : List ℕ} → NoRoom ≡ putText v n xs at count t → ys ≡ leftText v n xs at count t → ys ≡ xs
   unfolding leftText
   not-put-left e q = rw (not-put-fits e) at q
 
 -- what running one call leaves, on a table of n slots
-pub record RanThere (n : ℕ) (t : Table) (c : Call) (xs : List ℕ) (at : ℕ) (ys : List ℕ) (o : Ran) : Type 0 where
-  pub put : o .put ≡ putText n xs at (shown n t c .count) (printed n t c)
-  pub left : ys ≡ leftText n xs at (shown n t c .count) (printed n t c)
+pub record RanThere (v : Version) (n : ℕ) (t : Table) (c : Call) (xs : List ℕ) (at : ℕ) (ys : List ℕ) (o : Ran) : Type 0 where
+  pub put : o .put ≡ putText v n xs at (shown n t c .count) (printed v n t c)
+  pub left : ys ≡ leftText v n xs at (shown n t c .count) (printed v n t c)
   pub table : applied t (o .change) ≡ after n t c
 
 pub ran-there :
-    {n : ℕ} {t : Table} {c : Call} {xs : List ℕ} {at : ℕ} {ys : List ℕ} {o : Ran} → length (t .txids) ≡ n →
-    o ≡ ran n t c xs at → ys ≡ ranLeft n t c xs at → RanThere n t c xs at ys o
+    {v : Version} {n : ℕ} {t : Table} {c : Call} {xs : List ℕ} {at : ℕ} {ys : List ℕ} {o : Ran} → length (t .txids) ≡ n →
+    o ≡ ran v n t c xs at → ys ≡ ranLeft v n t c xs at → RanThere v n t c xs at ys o
 unfolding ran ranLeft after
-ran-there {n} {t} {c} {xs} {at} {ys} {o} few e l =
+ran-there {v} {n} {t} {c} {xs} {at} {ys} {o} few e l =
     let ok = le-leb (length (t .txids)) n (omega arith) in
-    let is : o ≡ ranOf n t c xs at = e ∙ rw ok in
-    let there : ys ≡ leftOf n t c xs at = l ∙ rw ok in
+    let is : o ≡ ranOf v n t c xs at = e ∙ rw ok in
+    let there : ys ≡ leftOf v n t c xs at = l ∙ rw ok in
     record { put = rw is; left = there; table = rw is }
 
-pub record Running (n : ℕ) (s : List ℕ) (from : ℕ) (t₀ : Table) (xs ys : List ℕ) (t : Table) (at filled : ℕ) : Type 0 where
+pub record Running (v : Version) (n : ℕ) (s : List ℕ) (from : ℕ) (t₀ : Table) (xs ys : List ℕ) (t : Table) (at filled : ℕ) : Type 0 where
   pub done : List ℕ
   pub text : ys ≡ spliced xs 0 done
   pub size : length ys ≡ length xs
@@ -84,30 +85,30 @@ pub record Running (n : ℕ) (s : List ℕ) (from : ℕ) (t₀ : Table) (xs ys :
   pub inside : filled ≤ length xs
   pub few : length (t .txids) ≡ n
   pub boundary : Boundary s at
-  pub rest : partOf n (length xs) 0 t₀ (recordsFrom s from) ≡ withText done (partOf n (length xs) filled t (recordsFrom s at))
+  pub rest : partOf v n (length xs) 0 t₀ (recordsFrom s from) ≡ withText done (partOf v n (length xs) filled t (recordsFrom s at))
 
-module _ (n : ℕ) (s : List ℕ) (from : ℕ) (t₀ : Table) (xs : List ℕ) where
-  pub running-start : length (t₀ .txids) ≡ n → Boundary s from → Running n s from t₀ xs xs t₀ from 0
+module _ (v : Version) (n : ℕ) (s : List ℕ) (from : ℕ) (t₀ : Table) (xs : List ℕ) where
+  pub running-start : length (t₀ .txids) ≡ n → Boundary s from → Running v n s from t₀ xs xs t₀ from 0
   running-start k h =
       record { done = []; text = splice-none xs 0; size = refl; count = refl; inside = omega arith; few = k; boundary = h; rest = refl }
 
-  module _ {ys : List ℕ} {t : Table} {at filled : ℕ} (w : Running n s from t₀ xs ys t at filled) where
+  module _ {ys : List ℕ} {t : Table} {at filled : ℕ} (w : Running v n s from t₀ xs ys t at filled) where
     -- one record more
     pub running-more :
         (r : Record) (e : ℕ) {o : Ran} {zs : List ℕ} {past : ℕ} {u : Table} → recordAt s at ≡ Is r e →
-        RanThere n t (callOf r) ys filled zs o → o .put ≡ Past past → length zs ≡ length ys → u ≡ applied t (o .change) →
-        length (u .txids) ≡ n → Running n s from t₀ xs zs u e past
+        RanThere v n t (callOf r) ys filled zs o → o .put ≡ Past past → length zs ≡ length ys → u ≡ applied t (o .change) →
+        length (u .txids) ≡ n → Running v n s from t₀ xs zs u e past
     unfolding partOf
-    running-more r e {o} {zs} {past} {u} q a p k v few′ =
+    running-more r e {o} {zs} {past} {u} q a p k made few′ =
         let m = next-record s at r e (w .boundary) q in
-        let out = printed n t (callOf r) in
+        let out = printed v n t (callOf r) in
         let many = shown n t (callOf r) .count in
         let put = sym p ∙ a .put in
-        let ok : fits n (length xs) filled many ≡ true = rw (← w .size) (put-fits n ys filled many out put) in
-        let end = put-past n ys filled many out put in
-        let left = put-left n ys filled many out put (a .left) in
+        let ok : fits v n (length xs) filled many ≡ true = rw (← w .size) (put-fits v n ys filled many out put) in
+        let end = put-past v n ys filled many out put in
+        let left = put-left v n ys filled many out put (a .left) in
         let bound = inside-of ys filled out (omega (arith, w .size, w .inside)) (ap length (sym left) ∙ k) in
-        let next : u ≡ after n t (callOf r) = v ∙ a .table in
+        let next : u ≡ after n t (callOf r) = made ∙ a .table in
         record {
           done = w .done ++ out;
           text =
@@ -122,26 +123,26 @@ module _ (n : ℕ) (s : List ℕ) (from : ℕ) (t₀ : Table) (xs : List ℕ) wh
 
     -- the next record has no room
     pub running-full :
-        (r : Record) (e : ℕ) {o : Ran} {zs : List ℕ} → recordAt s at ≡ Is r e → RanThere n t (callOf r) ys filled zs o →
-        o .put ≡ NoRoom → PartFits n s from t₀ xs zs (record { table = t; at = at; filled = filled })
+        (r : Record) (e : ℕ) {o : Ran} {zs : List ℕ} → recordAt s at ≡ Is r e → RanThere v n t (callOf r) ys filled zs o →
+        o .put ≡ NoRoom → PartFits v n s from t₀ xs zs (record { table = t; at = at; filled = filled })
     unfolding partOf
     running-full r e {o} {zs} q a p =
         let m = next-record s at r e (w .boundary) q in
-        let out = printed n t (callOf r) in
+        let out = printed v n t (callOf r) in
         let many = shown n t (callOf r) .count in
         let put = sym p ∙ a .put in
-        let no : fits n (length xs) filled many ≡ false = rw (← w .size) (not-put-fits n ys filled many out put) in
-        let same = not-put-left n ys filled many out put (a .left) in
-        let stop : partOf n (length xs) filled t (recordsFrom s at) ≡ record { text = []; table = t; left = recordsFrom s at } =
+        let no : fits v n (length xs) filled many ≡ false = rw (← w .size) (not-put-fits v n ys filled many out put) in
+        let same = not-put-left v n ys filled many out put (a .left) in
+        let stop : partOf v n (length xs) filled t (recordsFrom s at) ≡ record { text = []; table = t; left = recordsFrom s at } =
         rw (m .first, no) in
         stopped zs (same ∙ w .text) stop
       where
         stopped :
             (zs : List ℕ) → zs ≡ spliced xs 0 (w .done) →
-            partOf n (length xs) filled t (recordsFrom s at) ≡ record { text = []; table = t; left = recordsFrom s at } →
-            PartFits n s from t₀ xs zs (record { table = t; at = at; filled = filled })
+            partOf v n (length xs) filled t (recordsFrom s at) ≡ record { text = []; table = t; left = recordsFrom s at } →
+            PartFits v n s from t₀ xs zs (record { table = t; at = at; filled = filled })
         stopped zs z stop =
-            let whole : partOf n (length xs) 0 t₀ (recordsFrom s from) ≡ record { text = w .done; table = t; left = recordsFrom s at } =
+            let whole : partOf v n (length xs) 0 t₀ (recordsFrom s from) ≡ record { text = w .done; table = t; left = recordsFrom s at } =
             w .rest ∙ rw (stop, append-nil) in
             record {
               text = rw whole z;
@@ -153,11 +154,11 @@ module _ (n : ℕ) (s : List ℕ) (from : ℕ) (t₀ : Table) (xs : List ℕ) wh
             }
 
     -- no record is left
-    pub running-over : at ≡ length s → PartFits n s from t₀ xs ys (record { table = t; at = at; filled = filled })
+    pub running-over : at ≡ length s → PartFits v n s from t₀ xs ys (record { table = t; at = at; filled = filled })
     unfolding partOf
     running-over h =
         let none = none-left s at h in
-        let whole : partOf n (length xs) 0 t₀ (recordsFrom s from) ≡ record { text = w .done; table = t; left = recordsFrom s at } =
+        let whole : partOf v n (length xs) 0 t₀ (recordsFrom s from) ≡ record { text = w .done; table = t; left = recordsFrom s at } =
         w .rest ∙ rw (none, append-nil) in
         record {
           text = rw whole (w .text);

@@ -20,11 +20,13 @@ use Rattle.trace.specs.declared.Reading.the-variants.{Whole, Broken}
 use Rattle.grammar.specs.Texts as texts
 use Rattle.grammar.specs.Texts.{Read}
 use Rattle.trace.specs.declared.Version.{Version}
+use Rattle.trace.specs.declared.Version.the-variants.{Proc2}
 use Rattle.trace.specs.Trace.{traceOf, reading, recordsFrom, firstRecord, Boundary}
 use Rattle.trace.proofs.Grammar.{accepted, opened}
 use Rattle.trace.proofs.Refusal.{trace-breaks}
 use Rattle.trace.proofs.Loop.{none-left, records-inside, end-only}
 use Rattle.output.specs.Output.{need}
+use Rattle.output.proofs.Wrote.{holder-few}
 use Rattle.replay.specs.Replay.{brokenText}
 use Rattle.replay.specs.Part.{partOf, PartFits}
 use Rattle.replay.specs.declared.border.Handed.{Handed}
@@ -52,58 +54,58 @@ module _ (n : ℕ) (s : List ℕ) (line : ℕ) (e : reading s ≡ Broken line) w
   broken-all {to} g = all-went (handed to 0) (ap isTrace breaks) (one-piece) refl g
 
 -- the parts to come and the last line; `most` is at least how many records are left
-abbrev toCome : ℕ → ℕ → List ℕ → ℕ → Table → ℕ → List (List ℕ)
-toCome most n s count t at = partsOf most n 65536 t (recordsFrom s at) ++ (lineText recordsKey count ∷ [])
+abbrev toCome : ℕ → Version → ℕ → List ℕ → ℕ → Table → ℕ → List (List ℕ)
+toCome most v n s count t at = partsOf most v n 65536 t (recordsFrom s at) ++ (lineText recordsKey count ∷ [])
 
-pub record Sending (n : ℕ) (s : List ℕ) (count : ℕ) (to : ℤ) (t : Table) (at : ℕ) (h : Handed) : Type 0 where
+pub record Sending (v : Version) (n : ℕ) (s : List ℕ) (count : ℕ) (to : ℤ) (t : Table) (at : ℕ) (h : Handed) : Type 0 where
   pub boundary : Boundary s at
   pub good : Good n t
   pub few : length (piecesOf n s) < 2 ^ 64
   pub same : h .to ≡ to
   pub most : ℕ
   pub enough : length (recordsFrom s at) ≤ most
-  pub rest : drop (h .pieces) (piecesOf n s) ≡ toCome most n s count t at
+  pub rest : drop (h .pieces) (piecesOf n s) ≡ toCome most v n s count t at
 
 -- n is the number of slots of the table that a run begins with
 pub from-fresh :
-    {n : ℕ} {t₀ : Table} {s : List ℕ} {count : ℕ} {to : ℤ} {t : Table} {at : ℕ} {h : Handed} → t₀ ≡ freshTable n →
-    Sending (length (t₀ .txids)) s count to t at h → Sending n s count to t at h
-from-fresh {n} {t₀} e w =
+    {v : Version} {n : ℕ} {t₀ : Table} {s : List ℕ} {count : ℕ} {to : ℤ} {t : Table} {at : ℕ} {h : Handed} → t₀ ≡ freshTable n →
+    Sending v (length (t₀ .txids)) s count to t at h → Sending v n s count to t at h
+from-fresh {v} {n} {t₀} e w =
     let size = ap (λ (t : Table). length (t .txids)) e ∙ good-fresh n .txid-column in
     rw size at w
 
 pub to-fresh :
-    {n : ℕ} {t₀ : Table} {s : List ℕ} {count : ℕ} {to : ℤ} {t : Table} {at : ℕ} {h : Handed} → t₀ ≡ freshTable n →
-    Sending n s count to t at h → Sending (length (t₀ .txids)) s count to t at h
-to-fresh {n} {t₀} e w =
+    {v : Version} {n : ℕ} {t₀ : Table} {s : List ℕ} {count : ℕ} {to : ℤ} {t : Table} {at : ℕ} {h : Handed} → t₀ ≡ freshTable n →
+    Sending v n s count to t at h → Sending v (length (t₀ .txids)) s count to t at h
+to-fresh {v} {n} {t₀} e w =
     let size = ap (λ (t : Table). length (t .txids)) e ∙ good-fresh n .txid-column in
     rw size w
 
-module _ (n : ℕ) (s : List ℕ) (count : ℕ) where
-  pub is-whole : (version : Version) → reading s ≡ Whole version count → isTrace (traceOf s) ≡ true
-  is-whole version e = ap isTrace (opened s version count e .records)
+module _ (v : Version) (n : ℕ) (s : List ℕ) (count : ℕ) where
+  pub is-whole : reading s ≡ Whole v count → isTrace (traceOf s) ≡ true
+  is-whole e = ap isTrace (opened s v count e .records)
 
   pub sending-start :
-      {to : ℤ} (version : Version) → reading s ≡ Whole version count →
-      Sending n s count to (freshTable n) firstRecord (handed to 0)
+      {to : ℤ} → reading s ≡ Whole v count →
+      Sending v n s count to (freshTable n) firstRecord (handed to 0)
   unfolding piecesOf
-  sending-start version e =
-      let b = opened s version count e in
+  sending-start e =
+      let b = opened s v count e in
       let rs = recordsFrom s firstRecord in
-      let short = accepted s version rs (b .records) .short in
+      let short = accepted s v rs (b .records) .short in
       let inside = records-inside s firstRecord (b .boundary) in
       record {
         boundary = b .boundary;
         good = good-fresh n;
-        few = omega (arith, short, inside, pieces-few n s version rs (b .records));
+        few = omega (arith, short, inside, pieces-few n s v rs (b .records));
         same = refl;
         most = length rs;
         enough = omega arith;
         rest = rw (b .records) (rw (b .many));
       }
 
-  module _ {to : ℤ} {t : Table} {at : ℕ} {h : Handed} (w : Sending n s count to t at h) where
-    module _ {xs ys : List ℕ} {r : Progress} (p : PartFits n s at t xs ys r) where
+  module _ {to : ℤ} {t : Table} {at : ℕ} {h : Handed} (w : Sending v n s count to t at h) where
+    module _ {xs ys : List ℕ} {r : Progress} (p : PartFits v n s at t xs ys r) where
       -- the next piece is what this part put into the buffer
       record Split : Type 0 where
         most : ℕ
@@ -111,9 +113,9 @@ module _ (n : ℕ) (s : List ℕ) (count : ℕ) where
         less : length (recordsFrom s (r .at)) < length (recordsFrom s at)
         next :
             drop (h .pieces) (piecesOf n s)
-            ≡ partOf n (length xs) 0 t (recordsFrom s at) .text ∷ toCome most n s count (r .table) (r .at)
+            ≡ partOf v n (length xs) 0 t (recordsFrom s at) .text ∷ toCome most v n s count (r .table) (r .at)
 
-      split : length xs ≡ 65536 → need n ≤ 65536 → (at ≡ length s → ⊥) → Split
+      split : length xs ≡ 65536 → need Proc2 n ≤ 65536 → (at ≡ length s → ⊥) → Split
       unfolding partsOf
       split size room more = go (recordsFrom s at) refl (w .most) refl
         where
@@ -121,7 +123,7 @@ module _ (n : ℕ) (s : List ℕ) (count : ℕ) where
           go [] e m f = absurd (more (end-only s at (w .boundary) e))
           go (q ∷ rs) e zero f = absurd (omega (arith, w .enough, ap length e))
           go (q ∷ rs) e (suc m) f =
-              let on = part-goes-on n (length xs) t q rs (w .good) (omega arith) in
+              let on = part-goes-on v n (length xs) t q rs (w .good) (omega (arith, holder-few v)) in
               let left : length (recordsFrom s (r .at)) ≤ length rs = rw (p .left, e) on in
               record {
                 most = m;
@@ -130,7 +132,7 @@ module _ (n : ℕ) (s : List ℕ) (count : ℕ) where
                 next = rw (p .left, p .table, size, e) (rw (f, e) at (w .rest));
               }
 
-      module _ (size : length xs ≡ 65536) (room : need n ≤ 65536) (more : at ≡ length s → ⊥) where
+      module _ (size : length xs ≡ 65536) (room : need Proc2 n ≤ 65536) (more : at ≡ length s → ⊥) where
         pub part-next : PieceNext n s h (r .filled) ys
         part-next = piece-next h xs (w .few) (split size room more .next) (p .filled) (p .text)
 
@@ -138,12 +140,12 @@ module _ (n : ℕ) (s : List ℕ) (count : ℕ) where
         part-less = split size room more .less
 
         -- one piece more
-        pub sending-part : Sending n s count to (r .table) (r .at) (handed (h .to) (h .pieces + 1))
+        pub sending-part : Sending v n s count to (r .table) (r .at) (handed (h .to) (h .pieces + 1))
         sending-part =
             let part = split size room more in
             record {
               boundary = p .boundary;
-              good = rw (p .table) (part-good n (length xs) t (recordsFrom s at) (w .good));
+              good = rw (p .table) (part-good v n (length xs) t (recordsFrom s at) (w .good));
               few = w .few;
               same = w .same;
               most = part .most;
@@ -154,7 +156,7 @@ module _ (n : ℕ) (s : List ℕ) (count : ℕ) where
     -- no record is left: the last line is
     module _ (over : at ≡ length s) where
       last-piece : drop (h .pieces) (piecesOf n s) ≡ lineText recordsKey count ∷ []
-      last-piece = w .rest ∙ rw (none-left s at over, no-parts (w .most) n t)
+      last-piece = w .rest ∙ rw (none-left s at over, no-parts (w .most) v n t)
 
       pub last-next :
           (xs : List ℕ) {ys : List ℕ} {size : ℕ} → size ≡ length (lineText recordsKey count) →
@@ -162,6 +164,6 @@ module _ (n : ℕ) (s : List ℕ) (count : ℕ) where
       last-next xs k put = piece-next h xs (w .few) last-piece k put
 
       pub last-all :
-          {fd : ℤ} {r : Handed} {version : Version} → reading s ≡ Whole version count → h .to ≡ fd →
+          {fd : ℤ} {r : Handed} → reading s ≡ Whole v count → h .to ≡ fd →
           r ≡ handed (h .to) (h .pieces + 1) → AllWent n s fd true r
-      last-all {version = version} e same g = all-went h (is-whole version e) last-piece same g
+      last-all e same g = all-went h (is-whole e) last-piece same g

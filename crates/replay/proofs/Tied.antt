@@ -27,11 +27,11 @@ use Rattle.replay.specs.Tied.{TakesSnapshot, plain, of-transaction, reco
 
 -- records print their text, and those after them start on the table that their calls reach
 pub text-append :
-    (n : ℕ) (t : Table) (before later : List Record) →
-    textOf n t (before ++ later) ≡ textOf n t before ++ textOf n (run n t (callsOf before)) later
+    (v : Version) (n : ℕ) (t : Table) (before later : List Record) →
+    textOf v n t (before ++ later) ≡ textOf v n t before ++ textOf v n (run n t (callsOf before)) later
 unfolding textOf run
-text-append n t [] later = refl
-text-append n t (r ∷ before) later = rw (text-append n (after n t (callOf r)) before later, append-assoc)
+text-append v n t [] later = refl
+text-append v n t (r ∷ before) later = rw (text-append v n (after n t (callOf r)) before later, append-assoc)
 
 calls-snoc : (before : List Record) (r : Record) → callsOf (before ++ r ∷ []) ≡ callsOf before ++ callOf r ∷ []
 calls-snoc [] r = refl
@@ -60,17 +60,17 @@ no-other-xmin n t r xmin of-transaction = go (refusal n t (callBy Own r))
 -- every record of every trace, at every number of slots
 pub tied :
     (n : ℕ) (s : List ℕ) (v : Version) (before : List Record) (r : Record) (later : List Record) →
-    traceOf s ≡ Whole v (before ++ r ∷ later) → Tied n before r s later
+    traceOf s ≡ Whole v (before ++ r ∷ later) → Tied v n before r s later
 unfolding replayOf textOf printed answerText restLines numbersOf recordLines callOf
 tied n s v before r later e =
     let t = reached n (callsOf before) in
     let step = reached-snoc n before r in
-    let line : lineAt n before r ≡ lineOf (after n t (callOf r)) = ap (λ (u : Table). lineOf u) step in
-    let own = printed n t (callOf r) in
+    let line : lineAt v n before r ≡ lineOf (after n t (callOf r)) = ap (λ (u : Table). lineOf u) step in
+    let own = printed v n t (callOf r) in
     let last = lineText recordsKey (length (before ++ r ∷ later)) in
-    let around = text-append n (freshTable n) before (r ∷ later) ∙ sym (append-assoc (textOf n (freshTable n) before) own _) in
+    let around = text-append v n (freshTable n) before (r ∷ later) ∙ sym (append-assoc (textOf v n (freshTable n) before) own _) in
     record {
       stands = rw (e, step) (ap (λ (text : List ℕ). text ++ last) around);
       prints = rw line;
-      snapshot = λ k. rw (line, no-other-xmin n t r (shownAt n before r .xmin) k);
+      snapshot = λ k. rw (line, no-other-xmin n t r (shownAt v n before r .xmin) k);
     }

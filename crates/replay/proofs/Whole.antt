@@ -48,9 +48,10 @@ module _ (n : ℕ) (s xs : List ℕ) where
 
   -- where no record is left nothing is run: the part is empty
   pub part-none :
-      (at : ℕ) (t : Table) → at ≡ length s → Boundary s at → PartFits n s at t xs xs (record { table = t; at = at; filled = 0 })
+      (v : Version) (at : ℕ) (t : Table) → at ≡ length s → Boundary s at →
+      PartFits v n s at t xs xs (record { table = t; at = at; filled = 0 })
   unfolding partOf
-  part-none at t h b =
+  part-none v at t h b =
       let none = none-left s at h in
       record {
         text = rw none (splice-none xs 0);
@@ -63,10 +64,10 @@ module _ (n : ℕ) (s xs : List ℕ) where
 
   module _
       (version : Version) (count : ℕ) (e : reading s ≡ reads.Whole version count) {ys : List ℕ} {at filled : ℕ} {t : Table}
-      (p : PartFits n s firstRecord (freshTable n) xs ys (record { table = t; at = at; filled = filled }))
+      (p : PartFits version n s firstRecord (freshTable n) xs ys (record { table = t; at = at; filled = filled }))
     where
       part : Part
-      part = partOf n (length xs) 0 (freshTable n) (recordsFrom s firstRecord)
+      part = partOf version n (length xs) 0 (freshTable n) (recordsFrom s firstRecord)
 
       into-is : intoOf n (length xs) s ≡ intoEnd (length xs) count (part .left) (part .text)
       unfolding intoOf part

@@ -176,6 +176,34 @@ everyRefusal =
     "answer=3\nslot=1\nid=1\nseen=18446744073709551614\nxmin=0\nxmax=0\nvacuum=18446744073709551614\ncount=0\n"
     ∷ []
 
+-- who holds the tiles, under proc-2: the ninth line of every op, and of a refusal
+unfoldable pub whoHolds : List Row
+whoHolds =
+    -- nobody: the table is empty
+    row "op=oldest\nslot=0\nid=0\nstamp=0\nclock=3\nsample=2\n"
+    "answer=0\nslot=0\nid=0\nseen=0\nxmin=2\nxmax=0\nvacuum=1\ncount=0\nholder=65535\n"
+    ∷ row "op=begin\nslot=0\nid=0\nstamp=4\nclock=0\nsample=0\n"
+    "answer=0\nslot=0\nid=4\nseen=0\nxmin=0\nxmax=0\nvacuum=1\ncount=0\nholder=0\n"
+    ∷ row "op=begin\nslot=0\nid=0\nstamp=6\nclock=0\nsample=0\n"
+    "answer=0\nslot=1\nid=6\nseen=0\nxmin=0\nxmax=0\nvacuum=1\ncount=0\nholder=0\n"
+    -- slot 1 retains 4 too: the lowest of the two is named, and the line rises to it
+    ∷ row "op=own\nslot=1\nid=6\nstamp=0\nclock=9\nsample=9\n"
+    "answer=0\nslot=0\nid=0\nseen=0\nxmin=4\nxmax=9\nvacuum=1\ncount=2\nholder=0\nin=4\nin=6\n"
+    ∷ row "op=vacuum\nslot=0\nid=0\nstamp=0\nclock=9\nsample=9\n"
+    "answer=0\nslot=0\nid=0\nseen=0\nxmin=0\nxmax=0\nvacuum=4\ncount=0\nholder=0\n"
+    ∷ row "op=end\nslot=0\nid=4\nstamp=0\nclock=0\nsample=0\n"
+    "answer=0\nslot=0\nid=0\nseen=0\nxmin=0\nxmax=0\nvacuum=4\ncount=0\nholder=0\n"
+    -- a refusal names none
+    ∷ row "op=vacuum\nslot=0\nid=0\nstamp=0\nclock=8\nsample=8\n"
+    "answer=7\nslot=0\nid=0\nseen=0\nxmin=0\nxmax=0\nvacuum=4\ncount=0\nholder=0\n"
+    -- a snapshot with a stale sample: slot 1 retains 2, below the line ..
+    ∷ row "op=own\nslot=1\nid=6\nstamp=0\nclock=9\nsample=2\n"
+    "answer=0\nslot=0\nid=0\nseen=0\nxmin=2\nxmax=7\nvacuum=4\ncount=1\nholder=0\nin=6\n"
+    -- .. so the line is kept, and the slot that retains 2 is named, not one that retains 4
+    ∷ row "op=vacuum\nslot=0\nid=0\nstamp=0\nclock=9\nsample=9\n"
+    "answer=0\nslot=0\nid=0\nseen=0\nxmin=0\nxmax=0\nvacuum=4\ncount=0\nholder=1\n"
+    ∷ []
+
 pub record Examples : Type 0 where
   -- the whole case (SPEC 10.7)
   pub whole-case :
@@ -186,6 +214,16 @@ pub record Examples : Type 0 where
       ≡ bytes "answer=0\nslot=0\nid=5\nseen=0\nxmin=0\nxmax=0\nvacuum=1\ncount=0\n"
       ++ bytes "answer=0\nslot=0\nid=0\nseen=0\nxmin=3\nxmax=6\nvacuum=1\ncount=1\nin=5\n"
       ++ bytes "records=2\n"
+  -- .. headed proc-2, it gains the ninth line in both records
+  pub whole-case-2 :
+      replayOf 2
+      (bytes "trace=proc-2\n"
+      ++ bytes "op=begin\nslot=0\nid=0\nstamp=5\nclock=0\nsample=0\n"
+      ++ bytes "op=snap\nslot=0\nid=0\nstamp=0\nclock=9\nsample=3\n")
+      ≡ bytes "answer=0\nslot=0\nid=5\nseen=0\nxmin=0\nxmax=0\nvacuum=1\ncount=0\nholder=0\n"
+      ++ bytes "answer=0\nslot=0\nid=0\nseen=0\nxmin=3\nxmax=6\nvacuum=1\ncount=1\nholder=0\nin=5\n"
+      ++ bytes "records=2\n"
+  pub holders : replayOf 2 (bytes "trace=proc-2\n" ++ readsOf whoHolds) ≡ printsOf whoHolds ++ bytes "records=9\n"
   pub every-refusal : replayOf 2 (bytes "trace=proc-1\n" ++ readsOf everyRefusal) ≡ printsOf everyRefusal ++ bytes "records=52\n"
   -- the header alone (SPEC 10.3)
   pub no-record : replayOf 2 (bytes "trace=proc-1\n") ≡ bytes "records=0\n"

@@ -36,7 +36,7 @@ intoEnd size count (r ∷ rs) t = cut t
 -- 33 bytes hold the two lines of refusal 9, whatever the line
 abbrev pub intoBy : ℕ → ℕ → Read Version Record → Into
 intoBy n size (Whole v rs) =
-    intoEnd size (length rs) (partOf n size 0 (freshTable n) rs .left) (partOf n size 0 (freshTable n) rs .text)
+    intoEnd size (length rs) (partOf v n size 0 (freshTable n) rs .left) (partOf v n size 0 (freshTable n) rs .text)
 intoBy n size (Broken line) = cond (leb 33 size) (whole (brokenText line)) (cut [])
 
 unfoldable pub intoOf : ℕ → ℕ → List ℕ → Into

@@ -21,10 +21,10 @@ use Rattle.step.specs.Named.{callOf}
 abbrev pub callsOf : List Record → List Call
 callsOf rs = map callOf rs
 
--- what records print, one after the other
-unfoldable pub textOf : ℕ → Table → List Record → List ℕ
-textOf n t [] = []
-textOf n t (r ∷ rs) = printed n t (callOf r) ++ textOf n (after n t (callOf r)) rs
+-- what records print under a header, one after the other
+unfoldable pub textOf : Version → ℕ → Table → List Record → List ℕ
+textOf v n t [] = []
+textOf v n t (r ∷ rs) = printed v n t (callOf r) ++ textOf v n (after n t (callOf r)) rs
 
 -- refusal 9 prints its number and its line, and nothing else
 unfoldable pub brokenText : ℕ → List ℕ
@@ -32,7 +32,7 @@ brokenText line = lineText answerKey (told (BadTrace line) .number) ++ lineText 
 
 -- a whole trace prints its records and their number; refusal 9 prints two lines, and no record is run
 abbrev pub replayBy : ℕ → Read Version Record → List ℕ
-replayBy n (Whole v rs) = textOf n (freshTable n) rs ++ lineText recordsKey (length rs)
+replayBy n (Whole v rs) = textOf v n (freshTable n) rs ++ lineText recordsKey (length rs)
 replayBy n (Broken line) = brokenText line
 
 unfoldable pub replayOf : ℕ → List ℕ → List ℕ

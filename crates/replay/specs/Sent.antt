@@ -24,15 +24,15 @@ use Rattle.replay.specs.Replay.{brokenText, replayOf}
 use Rattle.replay.specs.Part.{partOf}
 
 -- the parts of a run, each as many records as have room in size bytes; the first number is at least how many records there are
-unfoldable pub partsOf : ℕ → ℕ → ℕ → Table → List Record → List (List ℕ)
-partsOf zero n size t rs = []
-partsOf (suc k) n size t [] = []
-partsOf (suc k) n size t (r ∷ rs) =
-    partOf n size 0 t (r ∷ rs) .text ∷ partsOf k n size (partOf n size 0 t (r ∷ rs) .table) (partOf n size 0 t (r ∷ rs) .left)
+unfoldable pub partsOf : ℕ → Version → ℕ → ℕ → Table → List Record → List (List ℕ)
+partsOf zero v n size t rs = []
+partsOf (suc k) v n size t [] = []
+partsOf (suc k) v n size t (r ∷ rs) =
+    partOf v n size 0 t (r ∷ rs) .text ∷ partsOf k v n size (partOf v n size 0 t (r ∷ rs) .table) (partOf v n size 0 t (r ∷ rs) .left)
 
 -- the pieces of what a trace prints: the parts of its run and the last line; refusal 9 is one piece
 abbrev pub piecesBy : ℕ → Read Version Record → List (List ℕ)
-piecesBy n (texts.Whole v rs) = partsOf (length rs) n 65536 (freshTable n) rs ++ (lineText recordsKey (length rs) ∷ [])
+piecesBy n (texts.Whole v rs) = partsOf (length rs) v n 65536 (freshTable n) rs ++ (lineText recordsKey (length rs) ∷ [])
 piecesBy n (texts.Broken line) = brokenText line ∷ []
 
 unfoldable pub piecesOf : ℕ → List ℕ → List (List ℕ)

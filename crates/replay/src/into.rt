@@ -49,13 +49,13 @@ pub fn replay_into(s: &[u8], out: &mut [u8]) -> Replayed
     let reading = trace::read_trace(s);
     match reading {
         Reading::Broken(line) => put_broken(out, line),
-        Reading::Whole(_, count) => {
+        Reading::Whole(version, count) => {
             let first = trace::first_record();
             if first == s.len() {
                 return put_records(out, 0, count);
             }
             let table = table::fresh();
-            let part = run_part(s, first, table, out);
+            let part = run_part(version, s, first, table, out);
             let at = part.at;
             let filled = part.filled;
             if at == s.len() {

@@ -81,7 +81,7 @@ fn run_to(s: &[u8], version: Version, count: usize, to: i32) -> Sent
     let mut at = trace::first_record();
     let mut gone = nothing(to);
     while at != s.len() {
-        let part = run_part(s, at, table, &mut buf);
+        let part = run_part(version, s, at, table, &mut buf);
         let went = hand_on(s, gone, &buf, part.filled);
         match went {
             Went::On(more) => gone = more,

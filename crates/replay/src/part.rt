@@ -2,6 +2,7 @@
 use table::Table;
 use text::Put;
 use trace::RecordAt;
+use trace::Version;
 ghost use Rattle.trace.specs.Trace.{Boundary};
 ghost use Rattle.replay.specs.Part.{PartFits};
 
@@ -12,11 +13,12 @@ pub struct Progress {
     pub filled: usize,
 }
 
-// Runs the records from `from` on until none is left, or the next one has no room.
-pub fn run_part(s: &[u8], from: usize, table: Table, buf: &mut [u8]) -> Progress
+// Runs the records under this header from `from` on until none is left, or the next one has no room.
+pub fn run_part(version: Version, s: &[u8], from: usize, table: Table, buf: &mut [u8]) -> Progress
     ensures { λ r. do
       slots ← ⟦kinds::SLOTS⟧ .entry
-      ⌜ (Boundary (now (s .entry)) from → PartFits slots (now (s .entry)) from table (now (buf .entry)) (now (buf .exit)) r) ⌝ }
+      ⌜ (Boundary (now (s .entry)) from →
+          PartFits version slots (now (s .entry)) from table (now (buf .entry)) (now (buf .exit)) r) ⌝ }
 {
     let mut t = table;
     let mut at = from;
@@ -31,7 +33,7 @@ pub fn run_part(s: &[u8], from: usize, table: Table, buf: &mut [u8]) -> Progress
             };
         };
         let was = t.counters;
-        let ran = step::run_record(&t.txids, &t.snapshot_xmins, was, r, buf, filled);
+        let ran = step::run_record(version, &t.txids, &t.snapshot_xmins, was, r, buf, filled);
         let put = ran.put;
         let change = ran.change;
         let Put::Past(past) = put else {

@@ -1,5 +1,5 @@
 // Writes the trace of rows that are given as numbers: on standard input a line `n=` and a number for each, first the
-// size of the buffer and the number of rows, then six for each row. Prints the answer, then the whole buffer, which
+// header's (1 or 2), the size of the buffer and the number of rows, then six for each row. Prints the answer, then the whole buffer, which
 // held dots, so that bytes past the text can be looked at. The tests put rows to it, good and bad.
 use libc::STDIN_FILENO;
 use libc::STDOUT_FILENO;
@@ -70,18 +70,25 @@ fn say(wrote: Wrote) {
     io::write_all(STDOUT_FILENO, b"\n");
 }
 
-fn write(rows: &[[u64; 6]], out: &mut [u8], bytes: usize) {
+fn write(version: Version, rows: &[[u64; 6]], out: &mut [u8], bytes: usize) {
     if bytes <= out.len() {
         let part = &mut out[..bytes];
-        let wrote = trace_writer::write_trace(Version::Proc1, rows, part);
+        let wrote = trace_writer::write_trace(version, rows, part);
         say(wrote);
     }
 }
 
-fn write_some(rows: &[[u64; 6]], count: usize, out: &mut [u8], bytes: usize) {
+fn write_some(version: Version, rows: &[[u64; 6]], count: usize, out: &mut [u8], bytes: usize) {
     if count <= rows.len() {
-        write(&rows[..count], out, bytes);
+        write(version, &rows[..count], out, bytes);
     }
+}
+
+fn version_of(number: u64) -> Version {
+    if number == 2 {
+        return Version::Proc2;
+    }
+    Version::Proc1
 }
 
 fn show(out: &[u8], bytes: usize) {
@@ -95,9 +102,17 @@ fn main() {
     let mut out = [b'.'; ROOM];
     let mut rows = [[0u64; 6]; MOST];
     let size = io::read_full(STDIN_FILENO, &mut input);
-    let room = next_number(&input[..size], 0);
+    let head = next_number(&input[..size], 0);
+    let room = next_number(&input[..size], head.past);
     let many = next_number(&input[..size], room.past);
     fill(&input[..size], many.past, &mut rows);
-    write_some(&rows, many.number as usize, &mut out, room.number as usize);
+    let version = version_of(head.number);
+    write_some(
+        version,
+        &rows,
+        many.number as usize,
+        &mut out,
+        room.number as usize,
+    );
     show(&out, room.number as usize);
 }

@@ -1,8 +1,10 @@
 // The scans of the slots, over lent columns of any length.
+mod holder;
 mod lowest;
 mod oldest;
 mod snapshot;
 
+pub use holder::lowest_holder;
 pub use lowest::lowest_empty;
 pub use oldest::oldest_retained;
 pub use snapshot::take_snapshot;

@@ -14,6 +14,7 @@ use Rattle.model.specs.declared.answer.SnapshotDecision.{SnapshotDecision}
 use Rattle.model.specs.Tables.{lentSlots}
 use Rattle.model.specs.Calls.{Call, refusal, changeOf, after, answer, shownAccepted, shownBy, shown, decision, snapshotDecision}
 use Rattle.model.proofs.Lent.{readsXmins, slots-show}
+use Rattle.trace.specs.declared.Version.{Version}
 use Rattle.output.specs.Output.{printed}
 use Rattle.step.specs.declared.Ran.{Ran}
 use Rattle.step.specs.Put.{plainRan, plainLeft, listingRan, listingLeft}
@@ -28,23 +29,23 @@ shows-none n t c e = go (refusal n t c)
     go Pass = e
     go (Refuse r) = refl
 
-module _ (n : ℕ) (t : Table) (c : Call) (few : length (t .txids) ≤ n) (xs : List ℕ) (at : ℕ) where
+module _ (v : Version) (n : ℕ) (t : Table) (c : Call) (few : length (t .txids) ≤ n) (xs : List ℕ) (at : ℕ) where
   module _ {d : Decision} (e : d ≡ decision n t c) (none : shownAccepted n t c ≡ noSnapshot n) where
-    pub plain-ran : plainRan n d xs at ≡ ran n t c xs at
+    pub plain-ran : plainRan v n d xs at ≡ ran v n t c xs at
     unfolding decision after noSnapshot printed ran
     plain-ran = rw (e, le-leb (length (t .txids)) n few, shows-none n t c none)
 
-    pub plain-left : plainLeft n d xs at ≡ ranLeft n t c xs at
+    pub plain-left : plainLeft v n d xs at ≡ ranLeft v n t c xs at
     unfolding decision after noSnapshot printed ranLeft
     plain-left = rw (e, le-leb (length (t .txids)) n few, shows-none n t c none)
 
   module _
       {d : SnapshotDecision} (e : d ≡ snapshotDecision n (lentSlots n (t .txids) (t .counters)) c) (b : readsXmins c ≡ false)
     where
-      pub listing-ran : listingRan n d xs at ≡ ran n t c xs at
+      pub listing-ran : listingRan v n d xs at ≡ ran v n t c xs at
       unfolding snapshotDecision after printed ran
       listing-ran = rw (e ∙ slots-show n t c few b, le-leb (length (t .txids)) n few)
 
-      pub listing-left : listingLeft n d xs at ≡ ranLeft n t c xs at
+      pub listing-left : listingLeft v n d xs at ≡ ranLeft v n t c xs at
       unfolding snapshotDecision after printed ranLeft
       listing-left = rw (e ∙ slots-show n t c few b, le-leb (length (t .txids)) n few)

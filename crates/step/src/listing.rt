@@ -4,12 +4,14 @@ use crate::put::put_listing;
 use kinds::SlotNo;
 use kinds::Txid;
 use table::Counters;
+use trace::Version;
 ghost use mathlib.Core.Path.{_≡_};
 ghost use Rattle.model.specs.Tables.{lentSlots};
 ghost use Rattle.model.specs.Calls.{snap, own, snapshotDecision};
 ghost use Rattle.step.specs.Put.{listingRan, listingLeft};
 
 pub fn run_snap(
+    version: Version,
     txids: &[u64],
     was: Counters,
     clock: u64,
@@ -19,12 +21,12 @@ pub fn run_snap(
 ) -> Ran
     ensures { λ o. do
       n ← ⟦kinds::SLOTS⟧ .entry
-      ⌜ o ≡ listingRan n
+      ⌜ o ≡ listingRan version n
           (snapshotDecision n (lentSlots n (now (txids .entry)) was) (snap clock sample))
           (now (buf .entry)) at ⌝ }
     ensures { λ _. do
       n ← ⟦kinds::SLOTS⟧ .entry
-      ⌜ now (buf .exit) ≡ listingLeft n
+      ⌜ now (buf .exit) ≡ listingLeft version n
           (snapshotDecision n (lentSlots n (now (txids .entry)) was) (snap clock sample))
           (now (buf .entry)) at ⌝ }
 {
@@ -36,10 +38,11 @@ pub fn run_snap(
     let xmax = snapshot.xmax;
     let count = snapshot.count;
     let ids = snapshot.ids;
-    put_listing(change, answer, xmin, xmax, count, &ids, buf, at)
+    put_listing(version, change, answer, xmin, xmax, count, &ids, buf, at)
 }
 
 pub fn run_own(
+    version: Version,
     txids: &[u64],
     was: Counters,
     slot: SlotNo,
@@ -51,12 +54,12 @@ pub fn run_own(
 ) -> Ran
     ensures { λ o. do
       n ← ⟦kinds::SLOTS⟧ .entry
-      ⌜ o ≡ listingRan n
+      ⌜ o ≡ listingRan version n
           (snapshotDecision n (lentSlots n (now (txids .entry)) was) (own slot id clock sample))
           (now (buf .entry)) at ⌝ }
     ensures { λ _. do
       n ← ⟦kinds::SLOTS⟧ .entry
-      ⌜ now (buf .exit) ≡ listingLeft n
+      ⌜ now (buf .exit) ≡ listingLeft version n
           (snapshotDecision n (lentSlots n (now (txids .entry)) was) (own slot id clock sample))
           (now (buf .entry)) at ⌝ }
 {
@@ -68,5 +71,5 @@ pub fn run_own(
     let xmax = snapshot.xmax;
     let count = snapshot.count;
     let ids = snapshot.ids;
-    put_listing(change, answer, xmin, xmax, count, &ids, buf, at)
+    put_listing(version, change, answer, xmin, xmax, count, &ids, buf, at)
 }

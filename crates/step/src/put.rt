@@ -3,29 +3,31 @@ use crate::Ran;
 use table::Answer;
 use table::Change;
 use table::Decision;
+use trace::Version;
 ghost use mathlib.Core.Path.{_≡_};
 ghost use Rattle.step.specs.Put.{plainRan, plainLeft, listingRan, listingLeft};
 
 // Of a call that shows no snapshot.
-pub fn put_plain(decided: Decision, buf: &mut [u8], at: usize) -> Ran
+pub fn put_plain(version: Version, decided: Decision, buf: &mut [u8], at: usize) -> Ran
     ensures { λ o. do
       n ← ⟦kinds::SLOTS⟧ .entry
-      ⌜ o ≡ plainRan n decided (now (buf .entry)) at ⌝ }
+      ⌜ o ≡ plainRan version n decided (now (buf .entry)) at ⌝ }
     ensures { λ _. do
       n ← ⟦kinds::SLOTS⟧ .entry
-      ⌜ now (buf .exit) ≡ plainLeft n decided (now (buf .entry)) at ⌝ }
+      ⌜ now (buf .exit) ≡ plainLeft version n decided (now (buf .entry)) at ⌝ }
 {
     let change = decided.change;
     let answer = decided.answer;
     let numbers = output::numbers_of(answer, 0, 0, 0, change.counters.vacuum_line);
     let no_ids = [0u64; 1];
-    let put = output::put_answer(buf, at, numbers, &no_ids);
+    let put = output::put_answer(version, buf, at, numbers, &no_ids);
     Ran { put, change }
 }
 
 // Of a snapshot call, which lists the ids in flight. It takes the parts of what was decided, the ids lent: handed on whole, they
 // would be copied.
 pub fn put_listing(
+    version: Version,
     change: Change,
     answer: Answer,
     xmin: u64,
@@ -37,7 +39,7 @@ pub fn put_listing(
 ) -> Ran
     ensures { λ o. do
       n ← ⟦kinds::SLOTS⟧ .entry
-      ⌜ o ≡ listingRan n
+      ⌜ o ≡ listingRan version n
           (record {
             change = change;
             answer = answer;
@@ -46,7 +48,7 @@ pub fn put_listing(
           (now (buf .entry)) at ⌝ }
     ensures { λ _. do
       n ← ⟦kinds::SLOTS⟧ .entry
-      ⌜ now (buf .exit) ≡ listingLeft n
+      ⌜ now (buf .exit) ≡ listingLeft version n
           (record {
             change = change;
             answer = answer;
@@ -55,6 +57,6 @@ pub fn put_listing(
           (now (buf .entry)) at ⌝ }
 {
     let numbers = output::numbers_of(answer, xmin, xmax, count, change.counters.vacuum_line);
-    let put = output::put_answer(buf, at, numbers, ids);
+    let put = output::put_answer(version, buf, at, numbers, ids);
     Ran { put, change }
 }

@@ -13,14 +13,16 @@ use table::SlotChange;
 use text::Put;
 use trace::Op;
 use trace::Record;
+use trace::Version;
 ghost use mathlib.Core.Path.{_≡_};
 ghost use Rattle.model.specs.Tables.{lent};
 ghost use Rattle.step.specs.Named.{callOf};
 ghost use Rattle.step.specs.Step.{ran, ranLeft};
 
-// Runs a record on the table that lent these columns and counters. A snapshot has a place for each slot of a table: columns
-// with more slots than that are no table's, and nothing is run on them.
+// Runs a record of a trace with this header on the table that lent these columns and counters. A snapshot has a place for
+// each slot of a table: columns with more slots than that are no table's, and nothing is run on them.
 pub fn run_record<'a>(
+    version: Version,
     txids: &'a [u64],
     xmins: &'a [u64],
     was: Counters,
@@ -30,10 +32,10 @@ pub fn run_record<'a>(
 ) -> Ran
     ensures { λ o. do
       n ← ⟦kinds::SLOTS⟧ .entry
-      ⌜ o ≡ ran n (lent (now (txids .entry)) (now (xmins .entry)) was) (callOf r) (now (buf .entry)) at ⌝ }
+      ⌜ o ≡ ran version n (lent (now (txids .entry)) (now (xmins .entry)) was) (callOf r) (now (buf .entry)) at ⌝ }
     ensures { λ _. do
       n ← ⟦kinds::SLOTS⟧ .entry
-      ⌜ now (buf .exit) ≡ ranLeft n (lent (now (txids .entry)) (now (xmins .entry)) was) (callOf r) (now (buf .entry)) at ⌝ }
+      ⌜ now (buf .exit) ≡ ranLeft version n (lent (now (txids .entry)) (now (xmins .entry)) was) (callOf r) (now (buf .entry)) at ⌝ }
 {
     if SLOTS < txids.len() {
         return Ran {
@@ -49,21 +51,28 @@ pub fn run_record<'a>(
     let id = Txid(r.id);
     let number = Stamp(r.stamp);
     match op {
-        Op::Begin => put_plain(table::decide_begin(txids, was, number), buf, at),
-        Op::End => put_plain(table::decide_end(txids, was, slot, id), buf, at),
-        Op::Snap => run_snap(txids, was, r.clock, r.sample, buf, at),
-        Op::Own => run_own(txids, was, slot, id, r.clock, r.sample, buf, at),
+        Op::Begin => put_plain(version, table::decide_begin(txids, was, number), buf, at),
+        Op::End => put_plain(version, table::decide_end(txids, was, slot, id), buf, at),
+        Op::Snap => run_snap(version, txids, was, r.clock, r.sample, buf, at),
+        Op::Own => run_own(version, txids, was, slot, id, r.clock, r.sample, buf, at),
         Op::Oldest => put_plain(
+            version,
             table::decide_oldest(txids, xmins, was, r.clock, r.sample),
             buf,
             at,
         ),
         Op::Vacuum => put_plain(
+            version,
             table::decide_vacuum(txids, xmins, was, r.clock, r.sample),
             buf,
             at,
         ),
-        Op::Stamp => put_plain(table::decide_stamp(was, number), buf, at),
-        Op::Finish => put_plain(table::decide_finish(txids, was, slot, id, number), buf, at),
+        Op::Stamp => put_plain(version, table::decide_stamp(was, number), buf, at),
+        Op::Finish => put_plain(
+            version,
+            table::decide_finish(txids, was, slot, id, number),
+            buf,
+            at,
+        ),
     }
 }

@@ -41,6 +41,9 @@ vacuumKey = bytes "vacuum="
 abbrev pub countKey : List ℕ
 countKey = bytes "count="
 
+abbrev pub holderKey : List ℕ
+holderKey = bytes "holder="
+
 abbrev pub inKey : List ℕ
 inKey = bytes "in="
 

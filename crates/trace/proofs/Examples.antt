@@ -11,7 +11,7 @@ use Rattle.grammar.specs.Named.{itemAt}
 use Rattle.grammar.specs.Texts.{readText, countText}
 use Rattle.trace.specs.Version.{headerOf, allowed}
 use Rattle.trace.specs.Trace.{reading}
-use Rattle.trace.specs.declared.Version.the-variants.{Proc1}
+use Rattle.trace.specs.declared.Version.the-variants.{Proc1, Proc2}
 use Rattle.trace.specs.declared.Reading.the-variants.{Whole, Broken}
 
 record Read : Type 0 where
@@ -24,8 +24,10 @@ record Read : Type 0 where
       ≡ Whole Proc1 2
   -- a header with no record
   header-only : reading (headerOf Proc1) ≡ Whole Proc1 0
+  -- the other header, which allows the same ops
+  header-second : reading (bytes "trace=proc-2\nop=begin\nslot=0\nid=0\nstamp=5\nclock=0\nsample=0\n") ≡ Whole Proc2 1
   -- a header that isn't known
-  header-other : reading (bytes "trace=proc-2\n") ≡ Broken 1
+  header-other : reading (bytes "trace=proc-3\n") ≡ Broken 1
   -- a header without its newline
   header-open : reading (bytes "trace=proc-1") ≡ Broken 1
   -- nothing at all
@@ -48,6 +50,7 @@ unfolding
 read = record {
   whole-case = refl;
   header-only = refl;
+  header-second = refl;
   header-other = refl;
   header-open = refl;
   empty = refl;

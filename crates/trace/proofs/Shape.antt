@@ -21,7 +21,7 @@ use Rattle.trace.specs.declared.Op.{Op}
 use Rattle.trace.specs.declared.Op.the-variants.{Begin, End, Snap, Own, Oldest, Vacuum, Stamp, Finish}
 use Rattle.trace.specs.declared.Record.{Record}
 use Rattle.trace.specs.declared.Version.{Version}
-use Rattle.trace.specs.declared.Version.the-variants.{Proc1}
+use Rattle.trace.specs.declared.Version.the-variants.{Proc1, Proc2}
 
 op-found : (o : Op) (s : List ℕ) (at : ℕ) (rest : List ℕ) → drop at s ≡ opName o ++ rest
     → firstNamed opName ops s at ≡ Named o (at + length (opName o))
@@ -60,6 +60,7 @@ record-laws = record {
 begin-allowed : (v : Version) → allowed v Begin ≡ true
 unfolding allowed
 begin-allowed Proc1 = refl
+begin-allowed Proc2 = refl
 
 pub under-facts : (v : Version) → Facts (recordForm v)
 under-facts v = form-facts recordShape record-laws (allowed v) Begin (begin-allowed v)
@@ -71,10 +72,12 @@ version-found : (v : Version) (s : List ℕ) (at : ℕ) (rest : List ℕ) → dr
     → firstNamed versionName (versions .kinds) s at ≡ Named v (at + length (versionName v))
 unfolding starts firstNamed
 version-found Proc1 s at rest e = rw e
+version-found Proc2 s at rest e = rw e
 
 version-one : (v : Version) → oneLine (nameLine versions v) ≡ true
 unfolding oneLine nameLine
 version-one Proc1 = refl
+version-one Proc2 = refl
 
 pub version-laws : NameLaws versions
 version-laws = record { found = version-found; one = version-one }
@@ -90,6 +93,7 @@ trace-one v rs = text-one traceFormat trace-laws v rs
 pub header-length : (v : Version) → length (headerOf v) ≡ firstRecord
 unfolding nameLine
 header-length Proc1 = refl
+header-length Proc2 = refl
 
 -- a header that is known stands inside the text
 pub head-inside : (s : List ℕ) (v : Version) (e : ℕ) → nameAt versions s 0 ≡ Named v e → e ≤ length s

@@ -6,16 +6,17 @@ use Rattle.text.specs.Bytes.{bytes}
 use Rattle.grammar.specs.Names.{Names, NameAt, Named, Unknown, nameLine, nameAt}
 use Rattle.trace.specs.declared.Op.{Op}
 use Rattle.trace.specs.declared.Version.{Version}
-use Rattle.trace.specs.declared.Version.the-variants.{Proc1}
+use Rattle.trace.specs.declared.Version.the-variants.{Proc1, Proc2}
 use Rattle.trace.specs.declared.versions.HeaderAt.{HeaderAt}
 use Rattle.trace.specs.declared.versions.HeaderAt.the-variants as at
 
 -- what stands after `trace=` in the first line, with its newline
 abbrev pub versionName : Version → List ℕ
 versionName Proc1 = bytes "proc-1\n"
+versionName Proc2 = bytes "proc-2\n"
 
 abbrev pub versions : Names Version
-versions = record { key = bytes "trace="; kinds = Proc1 ∷ []; name = versionName }
+versions = record { key = bytes "trace="; kinds = Proc1 ∷ Proc2 ∷ []; name = versionName }
 
 -- the first line
 abbrev pub headerOf : Version → List ℕ
@@ -24,6 +25,7 @@ headerOf v = nameLine versions v
 -- whether a record under this header may name this op
 unfoldable pub allowed : Version → Op → Bool
 allowed Proc1 o = true
+allowed Proc2 o = true
 
 abbrev pub asHeader : NameAt Version → HeaderAt
 asHeader (Named v e) = at.Is v e

@@ -11,9 +11,10 @@ pub use whole::LONGEST;
 pub use whole::first_record;
 pub use whole::read_trace;
 
-// The headers that are known: `trace=proc-1`.
+// The headers that are known: `trace=proc-1`, and `trace=proc-2`, whose records print their holder.
 pub enum Version {
     Proc1,
+    Proc2,
 }
 
 // The calls that a record can name.

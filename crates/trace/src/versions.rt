@@ -18,6 +18,9 @@ pub fn header_at(s: &[u8]) -> HeaderAt
         if text::bytes_at(s, 6, b"proc-1\n") {
             return HeaderAt::Is(Version::Proc1, 13);
         }
+        if text::bytes_at(s, 6, b"proc-2\n") {
+            return HeaderAt::Is(Version::Proc2, 13);
+        }
     }
     HeaderAt::Unknown
 }
@@ -28,5 +31,6 @@ pub fn allows(version: Version, op: Op) -> bool
 {
     match version {
         Version::Proc1 => true,
+        Version::Proc2 => true,
     }
 }

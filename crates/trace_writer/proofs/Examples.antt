@@ -12,7 +12,7 @@ use Rattle.grammar.specs.Items.{linesOf}
 use Rattle.grammar.specs.Named.{sixLines}
 use Rattle.grammar.specs.Texts.{firstLine, textLines, wholeText}
 use Rattle.trace.specs.Version.{allowed}
-use Rattle.trace.specs.declared.Version.the-variants.{Proc1}
+use Rattle.trace.specs.declared.Version.the-variants.{Proc1, Proc2}
 use Rattle.record_rows.specs.Numbers.{tryNumber, opNumbered}
 use Rattle.record_rows.specs.Rows.{mayBe, allowedBy, ofOp, recordRow}
 use Rattle.trace_writer.specs.Writing.{rowUnder, recordsOf, wroteOf, leftOf}
@@ -22,6 +22,8 @@ record Answers : Type 0 where
   -- no rows: the header alone, and a buffer exactly as long
   header-alone : wroteOf Proc1 [] 13 ≡ Length 13
   one-short : wroteOf Proc1 [] 12 ≡ Refused refusal.NoRoom
+  -- the other header
+  other-header : leftOf Proc2 [] (bytes ".............!") ≡ bytes "trace=proc-2\n!"
   -- a row of zeros, and 20 before 12
   zeros : wroteOf Proc1 ((0 ∷ 0 ∷ 0 ∷ 0 ∷ 0 ∷ 0 ∷ []) ∷ []) 0 ≡ Refused refusal.BadRecord
   -- begin with the stamp 5, in a buffer of one byte more, which stays
@@ -33,4 +35,4 @@ answers : Answers
 unfolding wroteOf leftOf recordsOf rowUnder recordRow opNumbered tryNumber ofOp allowedBy mayBe allowed
     wholeText textLines firstLine nameLine linesOf sixLines fiveLines fieldRules lineTexts joined lineText numberText decimal
     decimalIn spliced
-answers = record { header-alone = refl; one-short = refl; zeros = refl; begins = refl }
+answers = record { header-alone = refl; one-short = refl; other-header = refl; zeros = refl; begins = refl }

@@ -25,17 +25,24 @@ use Rattle.trace.specs.declared.Op.{Op}
 use Rattle.trace.specs.declared.Op.the-variants.{Begin, End, Snap, Own, Oldest, Vacuum, Stamp, Finish}
 use Rattle.trace.specs.declared.Record.{Record}
 use Rattle.trace.specs.declared.Version.{Version}
-use Rattle.trace.specs.declared.Version.the-variants.{Proc1}
+use Rattle.trace.specs.declared.Version.the-variants.{Proc1, Proc2}
 use Rattle.trace.proofs.Shape.{header-length, any-facts}
 use Rattle.trace_writer.specs.Writing.{recordsText}
 use Rattle.trace_writer.specs.TwoLines.{twoLines}
 
 -- the header is the line of a key and a number
-pub header-line : (v : Version) → lineText (bytes "trace=proc-") 1 ≡ headerOf v
+abbrev pub headerNumber : Version → ℕ
+headerNumber Proc1 = 1
+headerNumber Proc2 = 2
+
+pub header-line : (v : Version) → lineText (bytes "trace=proc-") (headerNumber v) ≡ headerOf v
 unfolding lineText numberText decimal decimalIn nameLine
 header-line Proc1 = refl
+header-line Proc2 = refl
 
-pub header-room : (v : Version) (xs : List ℕ) → length (headerOf v) ≤ length xs → 0 + length (lineText (bytes "trace=proc-") 1) ≤ length xs
+pub header-room :
+    (v : Version) (xs : List ℕ) → length (headerOf v) ≤ length xs →
+    0 + length (lineText (bytes "trace=proc-") (headerNumber v)) ≤ length xs
 header-room v xs h = omega (arith, ap length (header-line v))
 
 -- so are the lines of an op and its slot

@@ -29,6 +29,7 @@ pub fn header(version: Version, buf: &mut [u8]) -> usize
 {
     match version {
         Version::Proc1 => line(buf, 0, b"trace=proc-", 1),
+        Version::Proc2 => line(buf, 0, b"trace=proc-", 2),
     }
 }
 

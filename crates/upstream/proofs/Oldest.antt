@@ -7,7 +7,7 @@ use Rattle.kinds.specs.declared.refusal.Verdict.the-variants.{Pass}
 use Rattle.model.specs.declared.Table.{Table}
 use Rattle.model.specs.declared.answer.Answer.the-variants.{Oldest}
 use Rattle.model.specs.Tables.{clockOf}
-use Rattle.model.specs.Calls.{oldest, refusal, changeAccepted, changeOf, after, answerAccepted, answer}
+use Rattle.model.specs.Calls.{oldest, refusal, holderIn, changeAccepted, changeOf, after, answerAccepted, answer}
 use Rattle.model.specs.Accepted.{Observes}
 use Rattle.model.proofs.Tests.{observes}
 use Rattle.upstream.specs.States.{stateOf, stateAfter, Shaped, Foreseen}
@@ -32,5 +32,5 @@ oldest-meets n t history c m s f =
       l-oldest-e3 = refl;
       l-oldest-e4 = refl;
       l-oldest-e5 = seen .onward;
-      l-oldest-e6 = ap Oldest (sym (rw (s .txids-size) at same));
+      l-oldest-e6 = (holderIn t m, ap (λ (xmin : ℕ). Oldest xmin (holderIn t m)) (sym (rw (s .txids-size) at same)));
     })

@@ -110,13 +110,13 @@ pub record CreateTransactionSnapshot
   pub l-own-e6 : result .number ≢ 0 → new .slots ≡ old .slots
   pub l-own-e7 : given .0 < n → at (old .slots) (given .0) .txid ≡ id .0 → result .number ≡ 0
 
--- L:351-355
+-- L:351-355; who holds it is not upstream's
 pub record OldestSnapshotXmin (n : ℕ) (old new : State) (result : Answer) : Type 0 where
   pub l-oldest-e1 : Kept n old new
   pub l-oldest-e3 : new .slots ≡ old .slots
   pub l-oldest-e4 : new .reservations ≡ old .reservations
   pub l-oldest-e5 : old .clock ≤ new .clock
-  pub l-oldest-e6 : result ≡ Oldest («minimum_retention» (new .slots) n (new .«sampled_clock»))
+  pub l-oldest-e6 : (holder : ℕ) × (result ≡ Oldest («minimum_retention» (new .slots) n (new .«sampled_clock»)) holder)
 
 -- L:385
 pub record ReservePublicationClock (n : ℕ) (old new : State) (result : Told) : Type 0 where

@@ -3,8 +3,8 @@
 use crate::coverage::Coverage;
 use crate::grounds;
 use crate::replay::{self, Answer};
-use crate::table::{FARTHEST, SLOTS, Table};
-use crate::trace::{self, Op, Record};
+use crate::table::{FARTHEST, NOBODY, SLOTS, Table};
+use crate::trace::{self, Op, Record, Trace, Version};
 
 pub fn required() -> Vec<String> {
     let mut cells = Vec::new();
@@ -18,6 +18,11 @@ pub fn required() -> Vec<String> {
             for second in later.filter(|second| grounds::together(*first, **second)) {
                 cells.push(format!("{name} {first} before {second}"));
             }
+        }
+        for version in Version::ALL {
+            let header = version.header();
+            cells.push(format!("{name} accepted, {header}"));
+            cells.push(format!("{name} refused, {header}"));
         }
         for way in ways(op) {
             cells.push(format!("{name}: {way}"));
@@ -43,6 +48,12 @@ fn ways(op: Op) -> Vec<&'static str> {
         Op::Oldest => ways.extend(["sample is least", "kept xmin is least"]),
         Op::Vacuum => ways.extend(["line raised", "line kept above the oldest"]),
         _ => {}
+    }
+    if matches!(op, Op::Oldest | Op::Vacuum) {
+        ways.extend(HOLDER_WAYS);
+    }
+    if op == Op::Vacuum {
+        ways.extend(["line kept, a slot named", "line kept, nobody named"]);
     }
     if op == Op::Snap {
         ways.push("lists none");
@@ -89,8 +100,18 @@ const SNAPSHOT_WAYS: [&str; 7] = [
     "lists ids out of order",
 ];
 
+/// Seen in a ninth line.
+const HOLDER_WAYS: [&str; 6] = [
+    "names nobody",
+    "names slot 0",
+    "names another slot",
+    "names the lowest of several",
+    "names a slot above an empty one",
+    "names a slot as low as the sample",
+];
+
 pub fn count(text: &[u8], coverage: &mut Coverage) {
-    let Ok(records) = trace::read(text) else {
+    let Ok(Trace { version, records }) = trace::read(text) else {
         return;
     };
     coverage.items += records.len() as u64;
@@ -99,6 +120,7 @@ pub fn count(text: &[u8], coverage: &mut Coverage) {
         let before = table.clone();
         let answer = replay::run(&mut table, record);
         count_order(&before, record, &answer, coverage);
+        count_version(version, record, &answer, coverage);
         let mut hit = |condition: bool, way: &str| {
             coverage.hit_if(condition, &format!("{}: {way}", record.op.name()));
         };
@@ -106,7 +128,49 @@ pub fn count(text: &[u8], coverage: &mut Coverage) {
         number_ways(&before, record, &answer, &mut hit);
         snapshot_ways(record, &answer, &mut hit);
         other_ways(&before, record, &answer, &mut hit);
+        if version.prints_holder() && answer.number == 0 {
+            holder_ways(&before, record, &answer, &mut hit);
+        }
     }
+}
+
+fn count_version(version: Version, record: &Record, answer: &Answer, coverage: &mut Coverage) {
+    let (name, header) = (record.op.name(), version.header());
+    let how = if answer.number == 0 {
+        "accepted"
+    } else {
+        "refused"
+    };
+    coverage.hit(&format!("{name} {how}, {header}"));
+}
+
+/// Of an accepted oldest or vacuum; the cells of other ops don't name these ways.
+fn holder_ways(before: &Table, record: &Record, answer: &Answer, hit: &mut impl FnMut(bool, &str)) {
+    let taken = |slot: &&crate::table::Slot| slot.txid != 0;
+    let xmins = before
+        .slots()
+        .iter()
+        .filter(taken)
+        .map(|slot| slot.snapshot_xmin);
+    let least = xmins.clone().fold(record.sample, u64::min);
+    let several = xmins.filter(|xmin| *xmin == least).count() > 1;
+    let named = answer.holder != NOBODY;
+    let below = before.slots().iter().take(answer.holder as usize);
+    let kept = answer.vacuum > least;
+    hit(!named, "names nobody");
+    hit(answer.holder == 0, "names slot 0");
+    hit(named && answer.holder != 0, "names another slot");
+    hit(named && several, "names the lowest of several");
+    hit(
+        named && below.clone().any(|slot| slot.txid == 0),
+        "names a slot above an empty one",
+    );
+    hit(
+        named && least == record.sample,
+        "names a slot as low as the sample",
+    );
+    hit(kept && named, "line kept, a slot named");
+    hit(kept && !named, "line kept, nobody named");
 }
 
 fn count_order(before: &Table, record: &Record, answer: &Answer, coverage: &mut Coverage) {

@@ -2,9 +2,12 @@
 
 use crate::coverage::Coverage;
 use crate::damage_fields::UNREAD_NUMBERS;
-use crate::trace::{self, LIMIT, Op};
+use crate::trace::{self, LIMIT, Op, Version};
 
 const KEYS: [&str; 6] = ["op", "slot", "id", "stamp", "clock", "sample"];
+
+/// Headers that are not known, as good as they look.
+const OTHER_HEADERS: [&str; 3] = ["trace=proc-0", "trace=proc-3", "trace=proc-12"];
 
 /// How a line looks, and the test for it.
 pub type Look = (&'static str, fn(&[u8]) -> bool);
@@ -39,6 +42,12 @@ pub fn required() -> Vec<String> {
     ]
     .map(String::from)
     .into();
+    for version in Version::ALL {
+        cells.push(format!("text: {}, accepted", version.header()));
+    }
+    for header in OTHER_HEADERS {
+        cells.push(format!("text: {header}, refused"));
+    }
     for key in KEYS {
         cells.push(format!("text: at {key}"));
         cells.push(format!("text: unterminated {key}"));
@@ -62,13 +71,15 @@ pub fn required() -> Vec<String> {
 
 pub fn count(text: &[u8], coverage: &mut Coverage) {
     match trace::read(text) {
-        Ok(records) => {
+        Ok(trace) => {
+            let records = trace.records;
+            coverage.hit(&format!("text: {}, accepted", trace.version.header()));
             coverage.hit_if(records.is_empty(), "text: header alone, accepted");
             coverage.hit_if(text.len() == LIMIT, "text: 65,536 bytes, accepted");
             coverage.hit_if(records.len() == 1_489, "text: 1,489 records");
         }
         Err(broken) if broken.line == 0 => {
-            let headed = text.starts_with(b"trace=proc-1\n");
+            let headed = text.starts_with(b"trace=proc-");
             coverage.hit_if(text.len() == LIMIT + 1, "text: 65,537 bytes, at 0");
             coverage.hit_if(text.len() > 2 * LIMIT, "text: far too long, at 0");
             coverage.hit_if(!headed, "text: long without header, at 0");
@@ -89,6 +100,10 @@ fn count_broken(text: &[u8], number: usize, coverage: &mut Coverage) {
     }
     if number == 1 {
         coverage.hit("text: at the header");
+        for header in OTHER_HEADERS {
+            let named = line == format!("{header}\n").as_bytes();
+            coverage.hit_if(named, &format!("text: {header}, refused"));
+        }
         return;
     }
     let place = (number - 2) % 6;

@@ -34,7 +34,7 @@ pub fn expected(text: &[u8]) -> Vec<u8> {
 pub fn compare(program: &Program, seed: u64, counts: &mut Counts) -> Result<(), Difference> {
     let text = generate::generate(seed);
     counts.traces += 1;
-    counts.records += trace::read(&text).map_or(0, |records| records.len() as u64);
+    counts.records += trace::read(&text).map_or(0, |trace| trace.records.len() as u64);
     let output = program.run(&text);
     match output {
         Ok(output) if output == expected(&text) => Ok(()),

@@ -24,6 +24,7 @@ const KINDS: &[Damage] = &[
     lines::trailing_text,
     lines::lone_text,
     fields::other_header,
+    fields::other_header,
     fields::other_key,
     fields::unknown_op,
     fields::spoil_number,

@@ -3,26 +3,31 @@
 use crate::damage_lines::at_a_line;
 use crate::random::Random;
 use crate::table::SLOTS;
-use crate::text::{HEADER_LINE, lines};
+use crate::text::{HEADER_LENGTH, lines};
 use crate::trace::Op;
 
 pub fn other_header(text: &mut Vec<u8>, random: &mut Random) {
-    let headers: [&[u8]; 12] = [
-        b"trace=proc-2\n",
+    // One named twice comes twice as often.
+    let headers: [&[u8]; 16] = [
+        b"trace=proc-3\n",
         b"trace=proc-3\n",
         b"trace=proc-0\n",
+        b"trace=proc-4\n",
+        b"trace=proc-0\n",
         b"trace=proc-01\n",
+        b"trace=proc-12\n",
         b"trace=proc-1 \n",
         b" trace=proc-1\n",
         b"trace=proc-1\r\n",
         b"trace=proc-1\0\n",
         b"TRACE=PROC-1\n",
         b"trace=proc-1\ntrace=proc-1\n",
+        b"trace=proc-2\ntrace=proc-1\n",
         b"trace\n",
         b"",
     ];
-    if let Some(rest) = text.strip_prefix(HEADER_LINE.as_bytes()) {
-        *text = [random.pick(&headers), rest].concat();
+    if text.starts_with(b"trace=proc-") && text.len() >= HEADER_LENGTH {
+        text.splice(..HEADER_LENGTH, random.pick(&headers).iter().copied());
     }
 }
 

@@ -105,7 +105,15 @@ pub fn drop_last_newline(text: &mut Vec<u8>, _: &mut Random) {
 }
 
 pub fn lone_text(text: &mut Vec<u8>, random: &mut Random) {
-    let texts: [&[u8]; 6] = [b"", b"\n", b"\n\n", b"\0", b"trace=", b"trace=proc-1\n"];
+    let texts: [&[u8]; 7] = [
+        b"",
+        b"\n",
+        b"\n\n",
+        b"\0",
+        b"trace=",
+        b"trace=proc-1\n",
+        b"trace=proc-2\n",
+    ];
     *text = random.pick(&texts).to_vec();
 }
 

@@ -6,7 +6,7 @@ use crate::history::{History, Stride};
 use crate::random::Random;
 use crate::sized;
 use crate::table::{SLOTS, Table};
-use crate::trace::Op;
+use crate::trace::{Op, Version};
 
 /// What is done to the table before the mixed records.
 #[derive(Clone, Copy)]
@@ -84,33 +84,35 @@ const fn profile(
 pub fn generate(seed: u64) -> Vec<u8> {
     let mut random = Random::new(seed);
     let jumps = !seed.is_multiple_of(2);
+    let version = random.pick(&Version::ALL);
     match random.below(20) {
         0..=9 => {
             let profile = &PROFILES[random.place(PROFILES.len())];
-            history(profile, random, jumps).text()
+            history(version, profile, random, jumps).text()
         }
         10..=15 => {
-            let text = small_history(&mut random, jumps).text();
+            let text = small_history(version, &mut random, jumps).text();
             damage::damaged(text, &mut random)
         }
         16..=18 => {
-            let text = small_history(&mut random, jumps).text();
+            let text = small_history(version, &mut random, jumps).text();
             damage_fields::unread_field(text, &mut random)
         }
-        _ => sized::long_text(&mut random, jumps),
+        _ => sized::long_text(version, &mut random, jumps),
     }
 }
 
-/// A table that calls have led to, of some profile.
+/// A table that calls have led to, of some profile; the version of their trace says nothing about it.
 pub fn table(random: &mut Random) -> Table {
     let profile = &PROFILES[random.place(PROFILES.len())];
     let jumps = random.place(2) == 1;
     let own = Random::new(random.draw());
-    history(profile, own, jumps).table().clone()
+    let history = history(Version::Proc1, profile, own, jumps);
+    history.table().clone()
 }
 
-fn history(profile: &Profile, random: Random, jumps: bool) -> History {
-    let mut history = History::new(random, profile.stride, jumps);
+fn history(version: Version, profile: &Profile, random: Random, jumps: bool) -> History {
+    let mut history = History::new(version, random, profile.stride, jumps);
     start(&mut history, profile.start);
     let records = history.random.between(1, profile.most_records);
     for _ in 0..records {
@@ -142,8 +144,9 @@ fn start(history: &mut History, start: Start) {
 }
 
 /// A few records of every kind, for a text that will be damaged.
-fn small_history(random: &mut Random, jumps: bool) -> History {
-    let mut history = History::new(Random::new(random.draw()), Stride::Wide, jumps);
+fn small_history(version: Version, random: &mut Random, jumps: bool) -> History {
+    let own = Random::new(random.draw());
+    let mut history = History::new(version, own, Stride::Wide, jumps);
     let records = if random.once_in(20) {
         0
     } else {

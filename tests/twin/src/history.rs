@@ -4,7 +4,7 @@ use crate::random::Random;
 use crate::replay;
 use crate::table::{FARTHEST, SLOTS, Table};
 use crate::text;
-use crate::trace::{LIMIT, Op, Record};
+use crate::trace::{LIMIT, Op, Record, Version};
 
 /// How far reserved numbers and clocks run ahead; a reserved number no farther than it may, but by a fault.
 #[derive(Clone, Copy, Debug, PartialEq, Eq)]
@@ -30,6 +30,7 @@ pub struct Faults {
 }
 
 pub struct History {
+    pub version: Version,
     pub random: Random,
     pub records: Vec<Record>,
     table: Table,
@@ -40,14 +41,15 @@ pub struct History {
 }
 
 impl History {
-    pub fn new(random: Random, stride: Stride, jumps: bool) -> Self {
+    pub fn new(version: Version, random: Random, stride: Stride, jumps: bool) -> Self {
         History {
+            version,
             random,
             records: Vec::new(),
             table: Table::fresh(),
             stride,
             jumps,
-            length: text::HEADER_LINE.len(),
+            length: text::HEADER_LENGTH,
         }
     }
 
@@ -64,7 +66,7 @@ impl History {
     }
 
     pub fn text(&self) -> Vec<u8> {
-        text::of_records(&self.records)
+        text::of_records(self.version, &self.records)
     }
 
     /// The table after all records.

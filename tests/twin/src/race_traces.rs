@@ -4,6 +4,7 @@ use crate::history::{History, Stride, plain};
 use crate::random::Random;
 use crate::table::SLOTS;
 use crate::text;
+use crate::trace::Version::{self, Proc1, Proc2};
 use crate::trace::{Op, Record};
 
 pub struct RaceTrace {
@@ -14,22 +15,37 @@ pub struct RaceTrace {
 pub fn all() -> Vec<RaceTrace> {
     let named = |name, text| RaceTrace { name, text };
     vec![
-        named("header alone", text::of_records(&[])),
-        named("shortest records", until_full(0, |_, _| plain(Op::Own))),
-        named("begin and end", until_full(0, begin_and_end)),
-        named("all ops", until_full(0, any_op)),
+        named("header alone", text::of_records(Proc1, &[])),
+        named(
+            "shortest records",
+            until_full(Proc1, 0, |_, _| plain(Op::Own)),
+        ),
+        named("begin and end", until_full(Proc1, 0, begin_and_end)),
+        named("all ops", until_full(Proc1, 0, any_op)),
+        named("all ops, proc-2", until_full(Proc2, 0, any_op)),
         named("all ops, wide", wide()),
-        named("begins refused", until_full(SLOTS, begin_again)),
-        named("snapshots of 16", until_full(16, snapshots)),
-        named("snapshots of all", until_full(SLOTS, snapshots)),
-        named("oldest, vacuum", until_full(SLOTS / 2, oldest_and_vacuum)),
+        named("begins refused", until_full(Proc1, SLOTS, begin_again)),
+        named("snapshots of 16", until_full(Proc1, 16, snapshots)),
+        named("snapshots of all", until_full(Proc1, SLOTS, snapshots)),
+        named(
+            "oldest, vacuum",
+            until_full(Proc1, SLOTS / 2, oldest_and_vacuum),
+        ),
+        named(
+            "oldest, vacuum, proc-2",
+            until_full(Proc2, SLOTS / 2, oldest_and_vacuum),
+        ),
         named("unreadable at end", unreadable()),
     ]
 }
 
 /// A table with `taken` slots, then records until the text is full.
-fn until_full(taken: usize, next: impl Fn(&mut History, usize) -> Record) -> Vec<u8> {
-    let mut history = History::new(Random::new(1), Stride::Short, false);
+fn until_full(
+    version: Version,
+    taken: usize,
+    next: impl Fn(&mut History, usize) -> Record,
+) -> Vec<u8> {
+    let mut history = History::new(version, Random::new(1), Stride::Short, false);
     history.fill(taken);
     extend(&mut history, next);
     history.text()
@@ -62,7 +78,7 @@ fn any_op(history: &mut History, _: usize) -> Record {
 }
 
 fn wide() -> Vec<u8> {
-    let mut history = History::new(Random::new(2), Stride::Wide, false);
+    let mut history = History::new(Proc1, Random::new(2), Stride::Wide, false);
     extend(&mut history, any_op);
     history.text()
 }
@@ -83,7 +99,7 @@ fn oldest_and_vacuum(history: &mut History, place: usize) -> Record {
 
 /// All is read before the last line turns out to be broken.
 fn unreadable() -> Vec<u8> {
-    let mut text = until_full(0, any_op);
+    let mut text = until_full(Proc1, 0, any_op);
     text.pop();
     text
 }

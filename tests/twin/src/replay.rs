@@ -1,7 +1,7 @@
 //! Replaying a trace: each record is run on one table and its answer printed.
 
 use crate::table::{Refusal, Snapshot, Table};
-use crate::trace::{self, Op, Record};
+use crate::trace::{self, Op, Record, Trace, Version};
 use std::io::{self, Write};
 
 /// What a record prints; unused values are 0.
@@ -14,12 +14,13 @@ pub struct Answer {
     pub xmin: u64,
     pub xmax: u64,
     pub vacuum: u64,
+    pub holder: u64,
     pub in_flight: Vec<u64>,
 }
 
 pub fn replay(input: &[u8], out: &mut impl Write) -> io::Result<()> {
-    let records = match trace::read(input) {
-        Ok(records) => records,
+    let Trace { version, records } = match trace::read(input) {
+        Ok(trace) => trace,
         Err(broken) => {
             writeln!(out, "answer=9")?;
             return writeln!(out, "at={}", broken.line);
@@ -27,7 +28,7 @@ pub fn replay(input: &[u8], out: &mut impl Write) -> io::Result<()> {
     };
     let mut table = Table::fresh();
     for record in &records {
-        print(&run(&mut table, record), out)?;
+        print(version, &run(&mut table, record), out)?;
     }
     writeln!(out, "records={}", records.len())
 }
@@ -57,10 +58,12 @@ fn accepted(table: &mut Table, record: &Record) -> Result<Answer, Refusal> {
         Op::End => table.end(slot, id)?,
         Op::Snap => answer.show(table.snapshot(clock, sample)?),
         Op::Own => answer.show(table.transaction_snapshot(slot, id, clock, sample)?),
-        Op::Oldest => answer.xmin = table.oldest_snapshot_xmin(clock, sample)?,
-        Op::Vacuum => {
-            table.vacuum(clock, sample)?;
+        Op::Oldest => {
+            let oldest = table.oldest_snapshot_xmin(clock, sample)?;
+            answer.xmin = oldest.xmin;
+            answer.holder = oldest.holder;
         }
+        Op::Vacuum => answer.holder = table.vacuum(clock, sample)?,
         Op::Stamp => answer.id = table.stamp(stamp)?,
         Op::Finish => answer.id = table.finish(slot, id, stamp)?,
     }
@@ -97,7 +100,7 @@ impl Answer {
     }
 }
 
-fn print(answer: &Answer, out: &mut impl Write) -> io::Result<()> {
+fn print(version: Version, answer: &Answer, out: &mut impl Write) -> io::Result<()> {
     writeln!(out, "answer={}", answer.number)?;
     writeln!(out, "slot={}", answer.slot)?;
     writeln!(out, "id={}", answer.id)?;
@@ -106,6 +109,9 @@ fn print(answer: &Answer, out: &mut impl Write) -> io::Result<()> {
     writeln!(out, "xmax={}", answer.xmax)?;
     writeln!(out, "vacuum={}", answer.vacuum)?;
     writeln!(out, "count={}", answer.in_flight.len())?;
+    if version.prints_holder() {
+        writeln!(out, "holder={}", answer.holder)?;
+    }
     for id in &answer.in_flight {
         writeln!(out, "in={id}")?;
     }

@@ -4,30 +4,30 @@ use crate::damage;
 use crate::history::{History, Stride, plain};
 use crate::random::Random;
 use crate::text;
-use crate::trace::{LIMIT, Op, Record};
+use crate::trace::{LIMIT, Op, Record, Version};
 
 /// Length of the shortest record: own with every number 0.
 const SHORTEST: usize = 44;
 
-pub fn long_text(random: &mut Random, jumps: bool) -> Vec<u8> {
+pub fn long_text(version: Version, random: &mut Random, jumps: bool) -> Vec<u8> {
     let limit = LIMIT as u64;
     let length = match random.below(10) {
         0 => limit,
         1 | 2 => limit + 1,
         3 => random.between(limit - 3, limit + 3),
         4 => random.between(limit + 1, 300_000),
-        5 => return short_records(1_489 - random.below(2)),
+        5 => return short_records(version, 1_489 - random.below(2)),
         6 => return vec![random.pick(GARBAGE); LIMIT + random.place(2)],
-        _ => return spoilt(random, jumps),
+        _ => return spoilt(version, random, jumps),
     };
-    padded(random, jumps, length as usize)
+    padded(version, random, jumps, length as usize)
 }
 
 const GARBAGE: &[u8] = b"\n0x=\0\xff";
 
 /// A text as long as allowed, or a byte longer, with something wrong in it.
-fn spoilt(random: &mut Random, jumps: bool) -> Vec<u8> {
-    let mut text = padded(random, jumps, LIMIT);
+fn spoilt(version: Version, random: &mut Random, jumps: bool) -> Vec<u8> {
+    let mut text = padded(version, random, jumps, LIMIT);
     match random.below(4) {
         0 => return damage::damaged(text, random),
         1 => text[LIMIT - 1] = random.pick(GARBAGE),
@@ -40,13 +40,14 @@ fn spoilt(random: &mut Random, jumps: bool) -> Vec<u8> {
     text
 }
 
-fn short_records(count: u64) -> Vec<u8> {
-    text::of_records(&vec![plain(Op::Own); count as usize])
+fn short_records(version: Version, count: u64) -> Vec<u8> {
+    text::of_records(version, &vec![plain(Op::Own); count as usize])
 }
 
 /// A text with good grammar of exactly `length` bytes.
-fn padded(random: &mut Random, jumps: bool, length: usize) -> Vec<u8> {
-    let mut history = History::new(Random::new(random.draw()), Stride::Wide, jumps);
+fn padded(version: Version, random: &mut Random, jumps: bool, length: usize) -> Vec<u8> {
+    let own = Random::new(random.draw());
+    let mut history = History::new(version, own, Stride::Wide, jumps);
     for _ in 0..random.below(200) {
         let op = history.random.pick(&Op::ALL);
         let faults = history.faults(6);
@@ -54,13 +55,13 @@ fn padded(random: &mut Random, jumps: bool, length: usize) -> Vec<u8> {
         history.push(record);
     }
     let mut records = history.records;
-    let mut rest = length - text::of_records(&records).len();
+    let mut rest = length - text::of_records(version, &records).len();
     while rest >= 2 * SHORTEST {
         records.push(plain(Op::Own));
         rest -= SHORTEST;
     }
     records.push(own_of_length(rest));
-    text::of_records(&records)
+    text::of_records(version, &records)
 }
 
 /// An own record of `length` bytes, from 44 to 87.

@@ -1,8 +1,9 @@
 //! Records as trace text, and a text as lines.
 
-use crate::trace::Record;
+use crate::trace::{Record, Version};
 
-pub const HEADER_LINE: &str = "trace=proc-1\n";
+/// The length of a header with its newline, whichever it is.
+pub const HEADER_LENGTH: usize = 13;
 
 pub fn of_record(record: &Record) -> String {
     format!(
@@ -16,8 +17,8 @@ pub fn of_record(record: &Record) -> String {
     )
 }
 
-pub fn of_records(records: &[Record]) -> Vec<u8> {
-    let mut text = String::from(HEADER_LINE);
+pub fn of_records(version: Version, records: &[Record]) -> Vec<u8> {
+    let mut text = format!("{}\n", version.header());
     for record in records {
         text.push_str(&of_record(record));
     }

@@ -3,7 +3,35 @@
 /// The longest input that is read.
 pub const LIMIT: usize = 65_536;
 
-const HEADER: &[u8] = b"trace=proc-1";
+/// What the first line says: which lines a record prints.
+#[derive(Clone, Copy, Debug, PartialEq, Eq)]
+pub enum Version {
+    Proc1,
+    Proc2,
+}
+
+impl Version {
+    pub const ALL: [Version; 2] = [Version::Proc1, Version::Proc2];
+
+    /// The first line, without its newline.
+    pub fn header(self) -> &'static str {
+        match self {
+            Version::Proc1 => "trace=proc-1",
+            Version::Proc2 => "trace=proc-2",
+        }
+    }
+
+    fn from_header(line: &[u8]) -> Option<Version> {
+        Version::ALL
+            .into_iter()
+            .find(|version| version.header().as_bytes() == line)
+    }
+
+    /// Whether records print a ninth line, `holder`.
+    pub fn prints_holder(self) -> bool {
+        self == Version::Proc2
+    }
+}
 
 #[derive(Clone, Copy, Debug, PartialEq, Eq, PartialOrd, Ord)]
 pub enum Op {
@@ -72,25 +100,29 @@ pub struct Record {
     pub sample: u64,
 }
 
+#[derive(Clone, Debug, PartialEq, Eq)]
+pub struct Trace {
+    pub version: Version,
+    pub records: Vec<Record>,
+}
+
 /// Refusal 9: the first line that breaks a rule, or 0 for a long input.
 #[derive(Clone, Copy, Debug, PartialEq, Eq)]
 pub struct BadTrace {
     pub line: usize,
 }
 
-pub fn read(input: &[u8]) -> Result<Vec<Record>, BadTrace> {
+pub fn read(input: &[u8]) -> Result<Trace, BadTrace> {
     if input.len() > LIMIT {
         return Err(BadTrace { line: 0 });
     }
     let mut lines = Lines::of(input);
-    if lines.line()? != HEADER {
-        return Err(lines.broken());
-    }
+    let version = Version::from_header(lines.line()?).ok_or(lines.broken())?;
     let mut records = Vec::new();
     while !lines.is_empty() {
         records.push(read_record(&mut lines)?);
     }
-    Ok(records)
+    Ok(Trace { version, records })
 }
 
 fn read_record(lines: &mut Lines) -> Result<Record, BadTrace> {

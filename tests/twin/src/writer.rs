@@ -1,7 +1,7 @@
 //! Writing a trace from rows of six numbers (op, slot, id, stamp, clock, sample): its own text, or refusal 20 or 12.
 
 use crate::random::Random;
-use crate::trace::{self, Op};
+use crate::trace::{self, Op, Version};
 
 pub type Row = [u64; 6];
 
@@ -41,9 +41,9 @@ fn record_text(row: &Row) -> Option<String> {
 }
 
 /// The text of a run of rows for a buffer of `size` bytes, or the number of its refusal.
-pub fn write(rows: &[Row], size: usize) -> Result<String, u64> {
+pub fn write(version: Version, rows: &[Row], size: usize) -> Result<String, u64> {
     let records: Option<Vec<String>> = rows.iter().map(record_text).collect();
-    let text = format!("trace=proc-1\n{}", records.ok_or(20u64)?.concat());
+    let text = format!("{}\n{}", version.header(), records.ok_or(20u64)?.concat());
     if text.len() > trace::LIMIT || text.len() > size {
         return Err(12);
     }
@@ -51,8 +51,8 @@ pub fn write(rows: &[Row], size: usize) -> Result<String, u64> {
 }
 
 /// What the program under test has to print: the answer, then the buffer, in which dots stood.
-pub fn expected(rows: &[Row], size: usize) -> Vec<u8> {
-    let (answer, text) = match write(rows, size) {
+pub fn expected(version: Version, rows: &[Row], size: usize) -> Vec<u8> {
+    let (answer, text) = match write(version, rows, size) {
         Ok(text) => (format!("length={}\n", text.len()), text),
         Err(number) => (format!("refused={number}\n"), String::new()),
     };
@@ -62,9 +62,13 @@ pub fn expected(rows: &[Row], size: usize) -> Vec<u8> {
     printed
 }
 
-/// What the program under test is given.
-pub fn input(rows: &[Row], size: usize) -> Vec<u8> {
-    let numbers = [size as u64, rows.len() as u64]
+/// What the program under test is given: the header's number, the size, how many rows, and the rows.
+pub fn input(version: Version, rows: &[Row], size: usize) -> Vec<u8> {
+    let header = match version {
+        Version::Proc1 => 1,
+        Version::Proc2 => 2,
+    };
+    let numbers = [header, size as u64, rows.len() as u64]
         .into_iter()
         .chain(rows.iter().flatten().copied());
     numbers
@@ -127,7 +131,7 @@ pub fn generate(seed: u64) -> (Vec<Row>, usize) {
             rows[place] = any_row(&mut random);
         }
     }
-    let length = write(&rows, usize::MAX).map_or(1_000, |text| text.len());
+    let length = write(Version::Proc1, &rows, usize::MAX).map_or(1_000, |text| text.len());
     let size = match random.below(6) {
         0 => length.saturating_sub(1),
         1 => length,

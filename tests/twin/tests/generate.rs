@@ -24,7 +24,7 @@ fn two_thousand_seeds_reach_every_cell() {
 
 /// Whether some record of the seed's trace is refused for its jump.
 fn jumps(seed: u64) -> bool {
-    let records = trace::read(&generate(seed)).unwrap_or_default();
+    let records = trace::read(&generate(seed)).map_or(Vec::new(), |trace| trace.records);
     let mut table = Table::fresh();
     records
         .iter()

@@ -6,11 +6,11 @@ use twin::{generate::generate, replay, table::Table};
 
 /// Whether the trace has a finish refused by 3 with another id in the slot.
 fn shows(text: &[u8]) -> bool {
-    let Ok(records) = read(text) else {
+    let Ok(trace) = read(text) else {
         return false;
     };
     let mut table = Table::fresh();
-    records.iter().any(|record| {
+    trace.records.iter().any(|record| {
         let answer = replay::run(&mut table, record);
         record.op == Op::Finish && answer.number == 3 && answer.seen != 0
     })
@@ -22,7 +22,7 @@ fn a_long_trace_becomes_two_records() {
     let text = generate(seed);
     let small = shrink(&text, 10_000, shows);
     assert!(shows(&small));
-    assert_eq!(read(&small).unwrap().len(), 2);
+    assert_eq!(read(&small).unwrap().records.len(), 2);
 }
 
 #[test]

@@ -1,6 +1,6 @@
 //! The table's calls: what a trace's output doesn't show.
 
-use twin::table::{FARTHEST, Refusal, SLOTS, Slot, Table};
+use twin::table::{FARTHEST, NOBODY, Oldest, Refusal, SLOTS, Slot, Table};
 
 fn full() -> Table {
     let mut table = Table::fresh();
@@ -128,4 +128,25 @@ fn the_last_number_exhausts_the_clock() {
     assert_eq!(table.stamp(u64::MAX - 1), Ok(u64::MAX - 1));
     assert_eq!(table.begin(u64::MAX - 1), Err(Refusal::ClockExhausted));
     assert_eq!(table.clock(), u64::MAX);
+}
+
+#[test]
+fn the_lowest_slot_with_the_oldest_xmin_is_named() {
+    let mut table = Table::fresh();
+    let oldest = |xmin, holder| Ok(Oldest { xmin, holder });
+    assert_eq!(table.oldest_snapshot_xmin(9, 4), oldest(4, NOBODY));
+    for number in [10, 11, 12] {
+        table.begin(number).unwrap();
+    }
+    assert_eq!(table.oldest_snapshot_xmin(20, 20), oldest(10, 0));
+    assert_eq!(table.oldest_snapshot_xmin(20, 10), oldest(10, 0));
+    assert_eq!(table.oldest_snapshot_xmin(20, 9), oldest(9, NOBODY));
+    table.transaction_snapshot(1, 11, 20, 7).unwrap();
+    table.transaction_snapshot(2, 12, 20, 7).unwrap();
+    assert_eq!(table.oldest_snapshot_xmin(20, 20), oldest(7, 1));
+    assert_eq!(table.vacuum(20, 20), Ok(1));
+    table.end(1, 11).unwrap();
+    assert_eq!(table.vacuum(20, 5), Ok(NOBODY));
+    assert_eq!(table.vacuum(20, 20), Ok(2));
+    assert_eq!(table.vacuum_line(), 7);
 }

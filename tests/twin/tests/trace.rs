@@ -1,6 +1,6 @@
 //! Reading: every cut of a good text, and the numbers at the edges.
 
-use twin::trace::{BadTrace, LIMIT, read};
+use twin::trace::{BadTrace, LIMIT, Version, read};
 
 const GOOD: &str = "trace=proc-1\n\
     op=begin\nslot=0\nid=0\nstamp=5\nclock=0\nsample=0\n\
@@ -51,4 +51,16 @@ fn numbers_at_the_edges() {
 fn the_length_is_tested_first() {
     assert_eq!(read(&vec![b'x'; LIMIT]), Err(BadTrace { line: 1 }));
     assert_eq!(read(&vec![b'x'; LIMIT + 1]), Err(BadTrace { line: 0 }));
+}
+
+#[test]
+fn two_headers_are_known() {
+    for version in Version::ALL {
+        let text = GOOD.replace("trace=proc-1", version.header());
+        let trace = read(text.as_bytes()).expect("a trace");
+        assert_eq!((trace.version, trace.records.len()), (version, 2));
+    }
+    for other in ["proc-0", "proc-3", "proc-12", "proc-", "proc-2 "] {
+        assert_eq!(line(&GOOD.replace("proc-1", other)), Some(1), "{other:?}");
+    }
 }

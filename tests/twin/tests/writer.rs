@@ -1,27 +1,31 @@
 //! The twin's writer: its texts are what the twin's reader reads back.
 
+use twin::trace::Version::{Proc1, Proc2};
 use twin::{trace, writer};
 
 #[test]
 fn no_rows_are_the_header_alone() {
-    assert_eq!(writer::write(&[], 13), Ok("trace=proc-1\n".into()));
-    assert_eq!(writer::write(&[], 12), Err(12));
+    assert_eq!(writer::write(Proc1, &[], 13), Ok("trace=proc-1\n".into()));
+    assert_eq!(writer::write(Proc2, &[], 13), Ok("trace=proc-2\n".into()));
+    assert_eq!(writer::write(Proc1, &[], 12), Err(12));
 }
 
 #[test]
 fn a_row_of_zeros_is_refusal_20_before_12() {
-    assert_eq!(writer::write(&[[0; 6]], 0), Err(20));
+    assert_eq!(writer::write(Proc1, &[[0; 6]], 0), Err(20));
 }
 
 #[test]
 fn what_is_written_is_read_back() {
     for seed in 1..=500 {
         let (rows, _) = writer::generate(seed);
-        let Ok(text) = writer::write(&rows, usize::MAX) else {
+        let Ok(text) = writer::write(Proc2, &rows, usize::MAX) else {
             continue;
         };
-        let records = trace::read(text.as_bytes()).expect("a text of the writer");
-        let numbers: Vec<[u64; 5]> = records
+        let trace = trace::read(text.as_bytes()).expect("a text of the writer");
+        assert_eq!(trace.version, Proc2);
+        let numbers: Vec<[u64; 5]> = trace
+            .records
             .iter()
             .map(|r| [r.slot.into(), r.id, r.stamp, r.clock, r.sample])
             .collect();
@@ -34,7 +38,9 @@ fn what_is_written_is_read_back() {
 fn the_borders_are_where_they_should_be() {
     let lengths: Vec<(&str, usize)> = writer::borders()
         .into_iter()
-        .filter_map(|(name, rows, size)| Some((name, writer::write(&rows, size).ok()?.len())))
+        .filter_map(|(name, rows, size)| {
+            Some((name, writer::write(Proc1, &rows, size).ok()?.len()))
+        })
         .collect();
     assert!(lengths.contains(&("1,489 rows, exactly full", 65_529)));
     assert!(lengths.contains(&("65,536 bytes, exactly full", 65_536)));

@@ -491,7 +491,7 @@ impl Border {
 const REASONS: [(&str, &str); 22] = [
     (
         "all-lines-crlf",
-        "Line 1, where `trace=proc-1` has to stand, is `trace=proc-1\\r`: it ends in a carriage return",
+        "Line 1, where `trace=proc-1` or `trace=proc-2` has to stand, is `trace=proc-1\\r`: it ends in a carriage return",
     ),
     (
         "number-crlf",
@@ -528,7 +528,10 @@ const REASONS: [(&str, &str); 22] = [
     ("key-other", "its key is not"),
     ("key-upper-case", "a key is in lower case"),
     ("blank-line-between", "it is empty"),
-    ("text-empty", "It is empty: line 1 has to be `trace=proc-1`"),
+    (
+        "text-empty",
+        "It is empty: line 1 has to be `trace=proc-1` or `trace=proc-2`",
+    ),
     (
         "incomplete-after-id",
         "It is cut short: line 5 is missing, where `stamp=` of record 1 has to stand",

@@ -38,7 +38,7 @@ fn main() -> ExitCode {
     }
 }
 
-const HEADING: &str = "trace               bytes in  bytes out  \
+const HEADING: &str = "trace                   bytes in  bytes out  \
      twin med   twin min  prog. med  prog. min  med/med  min/min";
 
 fn whole_processes(program: &str, twin: &str, runs: usize) -> io::Result<()> {
@@ -115,7 +115,7 @@ fn same(trace: &RaceTrace, output: &[u8], expected: &[u8]) -> io::Result<()> {
 fn row(trace: &RaceTrace, bytes_out: usize, twin: &Times, program: Option<&Times>) {
     let (median, least) = (micros(twin.median()), micros(twin.least()));
     let (name, bytes_in) = (trace.name, trace.text.len());
-    print!("{name:<18}  {bytes_in:>8}  {bytes_out:>9}  {median:>9.1}  {least:>9.1}");
+    print!("{name:<22}  {bytes_in:>8}  {bytes_out:>9}  {median:>9.1}  {least:>9.1}");
     match program {
         None => println!("  (none is linked)"),
         Some(times) => {

@@ -4,6 +4,7 @@ use std::fs::File;
 use std::process::{Command, ExitCode, Stdio};
 use std::time::Duration;
 use twin::program::{Failure, Program};
+use twin::trace::Version;
 use twin::{generate, trace, writer};
 
 const USAGE: &str = "usage: rows ROWS_PROGRAM REWRITE_PROGRAM FROM COUNT
@@ -37,15 +38,22 @@ impl Counts {
         }
     }
 
-    fn rows(&mut self, program: &Program, name: &str, rows: &[writer::Row], size: usize) {
-        match writer::write(rows, size) {
+    fn rows(
+        &mut self,
+        program: &Program,
+        name: &str,
+        version: Version,
+        rows: &[writer::Row],
+        size: usize,
+    ) {
+        match writer::write(version, rows, size) {
             Ok(_) => self.accepted += 1,
             Err(20) => self.bad += 1,
             Err(_) => self.no_room += 1,
         }
-        let printed = program.run(&writer::input(rows, size));
+        let printed = program.run(&writer::input(version, rows, size));
         self.count(
-            printed.is_ok_and(|p| p == writer::expected(rows, size)),
+            printed.is_ok_and(|p| p == writer::expected(version, rows, size)),
             name,
         );
     }
@@ -91,14 +99,24 @@ fn main() -> ExitCode {
     let (of_rows, again) = (program(rows_path), program(again_path));
     let mut counts = Counts::default();
     for (name, rows, size) in writer::borders() {
-        counts.rows(&of_rows, name, &rows, size);
-        if let Ok(text) = writer::write(&rows, usize::MAX) {
-            counts.again(&again, name, text.as_bytes());
+        for version in Version::ALL {
+            let name = format!("{name}, {}", version.header());
+            counts.rows(&of_rows, &name, version, &rows, size);
+            if let Ok(text) = writer::write(version, &rows, usize::MAX) {
+                counts.again(&again, &name, text.as_bytes());
+            }
         }
     }
     for seed in from..from + count {
         let (rows, size) = writer::generate(seed);
-        counts.rows(&of_rows, &format!("rows of seed {seed}"), &rows, size);
+        let version = Version::ALL[(seed % 2) as usize];
+        counts.rows(
+            &of_rows,
+            &format!("rows of seed {seed}"),
+            version,
+            &rows,
+            size,
+        );
         counts.again(
             &again,
             &format!("trace of seed {seed}"),

@@ -9,6 +9,7 @@ const TOP: u128 = u64::MAX as u128;
 const SLOTS: u128 = table::SLOTS as u128;
 /// A reserved number may lie so far above the clock.
 const REACH: u128 = 4_294_967_296;
+const NOBODY: u128 = 65_535;
 
 /// A taken slot: txid and snapshot_xmin.
 type Taken = (u128, u128);
@@ -51,6 +52,12 @@ impl Second {
         };
         let early = self.fault.is("vacuum-before");
         answer.numbers[6] = if early { before } else { self.line };
+        let asks = matches!(op, Op::Oldest | Op::Vacuum);
+        if !asks && self.fault.is("holder-elsewhere")
+            || refusal.is_some() && self.fault.is("holder-on-refusal")
+        {
+            answer.holder = NOBODY;
+        }
         answer
     }
 
@@ -271,7 +278,45 @@ impl Second {
             };
         }
         let hidden = op == Op::Vacuum && !fault.is("vacuum-in-xmin");
-        shown([0, 0, 0, 0, if hidden { 0 } else { oldest }, 0])
+        let mut answer = shown([0, 0, 0, 0, if hidden { 0 } else { oldest }, 0]);
+        if op == Op::Oldest || !fault.is("vacuum-without-holder") {
+            answer.holder = self.holder(oldest, sample);
+        }
+        answer
+    }
+
+    /// The lowest slot of those that are kept back to `oldest`.
+    fn holder(&self, oldest: u128, sample: u128) -> u128 {
+        let fault = self.fault;
+        let sought = if fault.is("holder-of-line") {
+            self.line
+        } else {
+            oldest
+        };
+        let holds = |taken: &Taken| {
+            if fault.is("holder-by-id") {
+                taken.0 == sought
+            } else {
+                taken.1 == sought
+            }
+        };
+        let mut slots = self.taken.iter().filter(|(_, taken)| holds(taken));
+        let found = if fault.is("holder-highest") {
+            slots.next_back()
+        } else {
+            slots.next()
+        };
+        let nobody = if fault.is("holder-nobody-is-0") {
+            0
+        } else {
+            NOBODY
+        };
+        match found {
+            Some((_, taken)) if fault.is("holder-is-id") => taken.0,
+            Some(_) if fault.is("holder-not-at-sample") && oldest == sample => nobody,
+            Some((slot, _)) => *slot,
+            None => nobody,
+        }
     }
 }
 
@@ -281,6 +326,7 @@ fn shown(numbers: [u128; 6]) -> Printed {
     all[..6].copy_from_slice(&numbers);
     Printed {
         numbers: all,
+        holder: 0,
         list: Vec::new(),
     }
 }

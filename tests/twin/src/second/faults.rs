@@ -57,6 +57,12 @@ const CALLS: &[&str] = &[
     "refused-jump-moves-clock",
     "observation-may-not-jump",
     "sample-against-table",
+    "holder-highest",
+    "holder-of-line",
+    "holder-by-id",
+    "holder-is-id",
+    "holder-not-at-sample",
+    "holder-nobody-is-0",
     "list-by-id",
     "list-one-short",
     "ids-32-bits",
@@ -70,6 +76,13 @@ const PRINT: &[&str] = &[
     "runs-before-reading",
     "first-record-only",
     "stops-at-refusal",
+    "holder-never-printed",
+    "holder-under-proc-1",
+    "holder-before-count",
+    "holder-after-ids",
+    "holder-elsewhere",
+    "holder-on-refusal",
+    "vacuum-without-holder",
     "vacuum-in-xmin",
     "vacuum-before",
     "finish-shows-slot",
@@ -109,9 +122,12 @@ const TEXT: &[&str] = &[
     "most-refused",
 ];
 
+/// Faults in the versions of a trace; a wait has one version.
+const VERSIONS: &[&str] = &["proc-2-refused", "proc-3-accepted"];
+
 impl Fault {
     pub fn all() -> Vec<Fault> {
-        let names = [CALLS, PRINT, TEXT].concat();
+        let names = [CALLS, PRINT, TEXT, VERSIONS].concat();
         let mut faults: Vec<Fault> = names.into_iter().map(Fault::Named).collect();
         for op in Op::ALL {
             let order = grounds::order(op);
@@ -149,7 +165,9 @@ impl Fault {
 
     pub fn is(self, name: &'static str) -> bool {
         debug_assert!(
-            [CALLS, PRINT, TEXT].iter().any(|list| list.contains(&name)),
+            [CALLS, PRINT, TEXT, VERSIONS]
+                .iter()
+                .any(|list| list.contains(&name)),
             "no such fault: {name}"
         );
         self == Fault::Named(name)

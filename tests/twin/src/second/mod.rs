@@ -18,13 +18,14 @@ use std::fmt::Write;
 /// The output for a trace, with a fault.
 pub fn output(input: &[u8], fault: Fault) -> String {
     let (records, broken) = read::items(input, &TRACE, fault);
+    let nine = input.starts_with(b"trace=proc-2");
     let mut out = String::new();
     let mut table = Second::fresh(fault);
     let runs = broken.is_none() || fault.is("runs-before-reading");
     let mut ran = 0;
     for record in records.iter().filter(|_| runs) {
         let answer = table.run(Op::ALL[record.item], record.numbers);
-        print(&answer, &mut out);
+        print(&answer, nine, fault, &mut out);
         ran += 1;
         if fault.is("first-record-only") || fault.is("stops-at-refusal") && answer.numbers[0] != 0 {
             break;
@@ -47,19 +48,41 @@ pub fn output(input: &[u8], fault: Fault) -> String {
     out
 }
 
-/// The values of the eight lines but the last, and the listed ids.
+/// The values of the eight lines but the last, the holder, and the listed ids.
 struct Printed {
     numbers: [u128; 7],
+    holder: u128,
     list: Vec<u128>,
 }
 
-fn print(answer: &Printed, out: &mut String) {
+fn print(answer: &Printed, nine: bool, fault: Fault, out: &mut String) {
+    let nine = match fault {
+        _ if fault.is("holder-never-printed") => false,
+        _ if fault.is("holder-under-proc-1") => true,
+        _ => nine,
+    };
+    let holder = if nine {
+        format!("holder={}\n", answer.holder)
+    } else {
+        String::new()
+    };
+    let early = fault.is("holder-before-count");
+    let late = fault.is("holder-after-ids");
     let keys = ["answer", "slot", "id", "seen", "xmin", "xmax", "vacuum"];
     for (key, number) in keys.iter().zip(answer.numbers) {
         writeln!(out, "{key}={number}").unwrap();
     }
+    if early {
+        out.push_str(&holder);
+    }
     writeln!(out, "count={}", answer.list.len()).unwrap();
+    if !early && !late {
+        out.push_str(&holder);
+    }
     for id in &answer.list {
         writeln!(out, "in={id}").unwrap();
+    }
+    if late {
+        out.push_str(&holder);
     }
 }

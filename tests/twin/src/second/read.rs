@@ -4,8 +4,8 @@ use super::Fault;
 
 /// What stands in such a text.
 pub struct Grammar {
-    /// The first line.
-    pub header: &'static str,
+    /// The first line, one of these.
+    pub headers: &'static [&'static str],
     pub keys: [&'static str; 6],
     /// What an item may be, and which of its five numbers it then reads.
     pub items: &'static [(&'static str, [bool; 5])],
@@ -15,7 +15,7 @@ pub struct Grammar {
 
 /// The trace's, with the ops in their order.
 pub const TRACE: Grammar = Grammar {
-    header: "trace=proc-1",
+    headers: &["trace=proc-1", "trace=proc-2"],
     keys: ["op=", "slot=", "id=", "stamp=", "clock=", "sample="],
     items: &[
         ("begin", [false, false, true, false, false]),
@@ -45,6 +45,18 @@ pub fn items(input: &[u8], grammar: &Grammar, fault: Fault) -> (Vec<Line6>, Opti
     (items, broken.map(|line| line.saturating_sub(shift)))
 }
 
+/// Whether it is one of the first lines, without a newline.
+fn is_header(line: &[u8], grammar: &Grammar, fault: Fault) -> bool {
+    match line {
+        b"trace=proc-2" if fault.is("proc-2-refused") => false,
+        b"trace=proc-3" if fault.is("proc-3-accepted") => true,
+        _ => grammar
+            .headers
+            .iter()
+            .any(|header| line == header.as_bytes()),
+    }
+}
+
 fn broken_line(
     input: &[u8],
     grammar: &Grammar,
@@ -56,8 +68,7 @@ fn broken_line(
     }
     let (lines, rest) = split(input, fault);
     let header = lines.first().map(Vec::as_slice);
-    let wanted = grammar.header.as_bytes();
-    if header.is_some_and(|line| line != wanted) && !fault.is("header-unread") {
+    if header.is_some_and(|line| !is_header(line, grammar, fault)) && !fault.is("header-unread") {
         return Some(1);
     }
     let mut item = 0;
@@ -91,8 +102,9 @@ fn too_long(input: &[u8], grammar: &Grammar, fault: Fault) -> bool {
         _ if fault.is("limit-65537") => 65_537,
         _ => 65_536,
     };
-    let headed = input.starts_with(format!("{}\n", grammar.header).as_bytes());
-    input.len() > limit && (headed || !fault.is("limit-after-header"))
+    let headed = |header: &&str| input.starts_with(format!("{header}\n").as_bytes());
+    let header_first = fault.is("limit-after-header") && !grammar.headers.iter().any(headed);
+    input.len() > limit && !header_first
 }
 
 /// What the end of the text makes of `complete` good lines and an unterminated rest.

@@ -1,4 +1,4 @@
--- The two arms of the observation test are the two laws of `Decides`: refused, and accepted with what the scan found.
+-- The two arms of the observation test are the two laws of `Decides`: refused, and accepted with what the two scans found.
 use mathlib.Core.Path.{refl, sym, _∙_}
 use Rattle.model.specs.Calls.{refusal, changeAccepted, answerAccepted}
 use Rattle.model.proofs.Decides.{refused-decides, accepted-decides}
@@ -18,6 +18,9 @@ enum-told c = search needs
 oldest-retained-requires : tie.Need-oldest-retained-requires
 oldest-retained-requires c κs = search needs
 
+lowest-holder-requires : tie.Need-lowest-holder-requires
+lowest-holder-requires c κs = search needs
+
 observed-requires : tie.Need-observed-requires
 observed-requires c κs = search needs
 
@@ -30,10 +33,11 @@ returns c =
 returns-2 : tie.Need-returns-2
 unfolding refusal changeAccepted answerAccepted
 returns-2 c =
-    let scanned = c .before in
+    let named = c .before in
+    let scanned = named .before in
     let arm = scanned .before in
     let passed = sym (arm .before .before .observation-test .ensures) ∙ arm .enum-told .given .1 in
-    rw (c .observed .ensures, scanned .oldest-retained .ensures) (accepted-decides _ _ _ passed)
+    rw (c .observed .ensures, named .lowest-holder .ensures, scanned .oldest-retained .ensures) (accepted-decides _ _ _ passed)
 
 pub decide-oldest-spec : {M : Type 1} → statement M
 decide-oldest-spec =
@@ -43,6 +47,7 @@ decide-oldest-spec =
     enum-known-verdict
     enum-told
     oldest-retained-requires
+    lowest-holder-requires
     observed-requires
     returns
     returns-2)

@@ -1,4 +1,4 @@
--- The two arms of the observation test are the two laws of `Decides`: refused, and accepted with what the scan found.
+-- The two arms of the observation test are the two laws of `Decides`: refused, and accepted with what the two scans found.
 use mathlib.Core.Path.{refl, sym, _∙_}
 use Rattle.model.specs.Calls.{refusal, changeAccepted, answerAccepted}
 use Rattle.model.proofs.Decides.{refused-decides, accepted-decides}
@@ -21,6 +21,9 @@ oldest-retained-requires c κs = search needs
 greater-requires : tie.Need-greater-requires
 greater-requires c κs = search needs
 
+lowest-holder-requires : tie.Need-lowest-holder-requires
+lowest-holder-requires c κs = search needs
+
 returns : tie.Need-returns
 unfolding refusal
 returns c =
@@ -30,10 +33,11 @@ returns c =
 returns-2 : tie.Need-returns-2
 unfolding refusal changeAccepted answerAccepted
 returns-2 c =
-    let scanned = c .before in
+    let raised = c .before in
+    let scanned = raised .before in
     let arm = scanned .before in
     let passed = sym (arm .before .before .observation-test .ensures) ∙ arm .enum-told .given .1 in
-    rw (c .greater .ensures, scanned .oldest-retained .ensures) (accepted-decides _ _ _ passed)
+    rw (c .lowest-holder .ensures, raised .greater .ensures, scanned .oldest-retained .ensures) (accepted-decides _ _ _ passed)
 
 pub decide-vacuum-spec : {M : Type 1} → statement M
 decide-vacuum-spec =
@@ -44,5 +48,6 @@ decide-vacuum-spec =
     enum-told
     oldest-retained-requires
     greater-requires
+    lowest-holder-requires
     returns
     returns-2)

@@ -17,7 +17,7 @@ told-lines-requires c κs =
     let tested = c .before .before in
     let a = tested .before .before .before .before .args in
     let e = sym (tested .before .has-room .ensures) ∙ tested .if1 .taken in
-    omega (arith, fits-room _ (a .buf .now) (a .at) (a .n .count) e)
+    omega (arith, fits-room (a .version) _ (a .buf .now) (a .at) (a .n .count) e)
 
 rest-lines-requires : tie.Need-rest-lines-requires
 rest-lines-requires c κs =
@@ -26,10 +26,10 @@ rest-lines-requires c κs =
     let a = tested .before .before .before .before .args in
     let e = sym (tested .before .has-room .ensures) ∙ tested .if1 .taken in
     let wrote = told .told-lines .ensures in
-    omega (arith, fits-room _ (a .buf .now) (a .at) (a .n .count) e, wrote .size, wrote .short)
+    omega (arith, fits-room (a .version) _ (a .buf .now) (a .at) (a .n .count) e, wrote .size, wrote .short)
 
-in-lines-requires : tie.Need-in-lines-requires
-in-lines-requires c κs =
+holder-line-requires : tie.Need-holder-line-requires
+holder-line-requires c κs =
     let rest = c .before .before .before in
     let told = rest .before .before .before .before in
     let tested = told .before .before .before in
@@ -37,7 +37,29 @@ in-lines-requires c κs =
     let e = sym (tested .before .has-room .ensures) ∙ tested .if1 .taken in
     let wrote = told .told-lines .ensures in
     let more = rest .rest-lines .ensures in
-    omega (arith, fits-room _ (a .buf .now) (a .at) (a .n .count) e, wrote .size, wrote .short, more .size, more .short)
+    omega (arith, fits-room (a .version) _ (a .buf .now) (a .at) (a .n .count) e, wrote .size, wrote .short, more .size, more .short)
+
+in-lines-requires : tie.Need-in-lines-requires
+in-lines-requires c κs =
+    let ninth = c .before .before .before in
+    let rest = ninth .before .before .before .before in
+    let told = rest .before .before .before .before in
+    let tested = told .before .before .before in
+    let a = tested .before .before .before .before .args in
+    let e = sym (tested .before .has-room .ensures) ∙ tested .if1 .taken in
+    let wrote = told .told-lines .ensures in
+    let more = rest .rest-lines .ensures in
+    let most = ninth .holder-line .ensures in
+    omega (
+      arith,
+      fits-room (a .version) _ (a .buf .now) (a .at) (a .n .count) e,
+      wrote .size,
+      wrote .short,
+      more .size,
+      more .short,
+      most .size,
+      most .short,
+    )
 
 same-length : tie.Need-same-length
 same-length c = search needs
@@ -46,20 +68,22 @@ returns : tie.Need-returns
 unfolding answerText
 returns c =
     let listed = c .before .before in
-    let rest = listed .before .before .before .before in
+    let ninth = listed .before .before .before .before in
+    let rest = ninth .before .before .before .before in
     let told = rest .before .before .before .before in
     let tested = told .before .before .before in
     let a = tested .before .before .before .before .args in
     let e = sym (tested .before .has-room .ensures) ∙ tested .if1 .taken in
-    let room = fits-room _ (a .buf .now) (a .at) (a .n .count) e in
+    let room = fits-room (a .version) _ (a .buf .now) (a .at) (a .n .count) e in
     let start : a .at ≤ length (a .buf .now) = omega arith in
     let eight = wrote-then start (told .told-lines .ensures) (rest .rest-lines .ensures) in
-    put-room _ (a .buf .now) (a .at) (a .n .count) _ e (wrote-then start eight (listed .in-lines .ensures))
+    let nine = wrote-then start eight (ninth .holder-line .ensures) in
+    put-room (a .version) _ (a .buf .now) (a .at) (a .n .count) _ e (wrote-then start nine (listed .in-lines .ensures))
 
 returns-2 : tie.Need-returns-2
 returns-2 c =
     let a = c .before .before .before .before .args in
-    put-no-room _ (a .buf .now) (a .at) (a .n .count) _ (sym (c .before .has-room .ensures) ∙ c .if1 .left)
+    put-no-room (a .version) _ (a .buf .now) (a .at) (a .n .count) _ (sym (c .before .has-room .ensures) ∙ c .if1 .left)
 
 pub put-answer-spec : {M : Type 1} → statement M
 put-answer-spec =
@@ -68,6 +92,7 @@ put-answer-spec =
     has-room-requires
     told-lines-requires
     rest-lines-requires
+    holder-line-requires
     in-lines-requires
     same-length
     returns

@@ -41,7 +41,7 @@ returns c =
     let e = sym (asked .read-trace .ensures) ∙ read .reading2 .given .1 in
     let first = found .first-record .ensures in
     let here = sym first ∙ tested .if1 .taken in
-    let p = part-none _ (a .s .now) (a .out .now) _ (freshTable _) here (opened _ _ _ e .boundary) in
+    let p = part-none _ (a .s .now) (a .out .now) _ _ (freshTable _) here (opened _ _ _ e .boundary) in
     into-whole _ (a .s .now) (a .out .now) _ _ e p here refl (put .put-records .ensures)
 
 fresh-requires : tie.Need-fresh-requires
@@ -70,7 +70,7 @@ returns-2 c =
     let first = found .first-record .ensures in
     let part = ran .run-part .ensures (rw first (opened _ _ _ e .boundary)) in
     let p = rw (first, made .fresh .ensures) at part in
-    let kept = ran .run-part .kept .1 .1 .1 .0 in
+    let kept = ran .run-part .kept .1 .1 .1 .1 .0 in
     into-whole _ (a .s .now) (a .out .now) _ _ e p (tested .if2 .taken) kept (put .put-records2 .ensures)
 
 same-length-3 : tie.Need-same-length-3

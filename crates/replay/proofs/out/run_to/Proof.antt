@@ -16,11 +16,11 @@ use Rattle.replay.proofs.out.run_to.Statement.{statement}
 use Rattle.replay.proofs.out.run_to.Tie as tie
 
 abbrev Inv-loop : tie.InvT-loop
-Inv-loop s count to buf₀ table₀ at₀ gone₀ buf table at gone =
-    (length buf ≡ length buf₀) × Sending (length (table₀ .txids)) s count (gone₀ .to) table at gone
+Inv-loop s version count to buf₀ table₀ at₀ gone₀ buf table at gone =
+    (length buf ≡ length buf₀) × Sending version (length (table₀ .txids)) s count (gone₀ .to) table at gone
 
 abbrev μ-loop : tie.MeasureT-loop
-μ-loop s count to buf₀ table₀ at₀ gone₀ buf table at gone = length (recordsFrom s at)
+μ-loop s version count to buf₀ table₀ at₀ gone₀ buf table at gone = length (recordsFrom s at)
 
 large-buffer-requires : tie.Need-large-buffer-requires Inv-loop μ-loop
 large-buffer-requires c κs = search needs
@@ -59,8 +59,8 @@ hand-on-requires c κs =
     let w = from-fresh (fresh .fresh .ensures) (loop .loop .inv .1) in
     let p = ran .run-part .ensures (w .boundary) in
     let size = loop .loop .inv .0 ∙ sym (fresh .before .large-buffer .ensures) in (
-      omega (arith, p .inside, ran .run-part .kept .1 .1 .1 .0),
-      part-next _ _ _ w p size (omega arith) (turn .loop-test .taken),
+      omega (arith, p .inside, ran .run-part .kept .1 .1 .1 .1 .0),
+      part-next _ _ _ _ w p size (omega arith) (turn .loop-test .taken),
     )
 
 enum-known-went : tie.Need-enum-known-went Inv-loop μ-loop
@@ -79,7 +79,7 @@ returns c =
     let w = from-fresh (fresh .fresh .ensures) (loop .loop .inv .1) in
     let p = ran .run-part .ensures (w .boundary) in
     let size = loop .loop .inv .0 ∙ sym (fresh .before .large-buffer .ensures) in
-    let next = part-next _ _ _ w p size (omega arith) (turn .loop-test .taken) in
+    let next = part-next _ _ _ _ w p size (omega arith) (turn .loop-test .taken) in
     let same = w .same ∙ ap (λ (h : Handed). h .to) (loop .before .nothing .ensures) ∙ toZ-ofZ (fresh .before .before .before .fits .to) in
     let no = went-stopped _ (handed .hand-on .ensures) (c .before .went2 .given .1) in
     record { text = pieces-joined _ _ (omega arith); ended = some-went _ next same no }
@@ -94,7 +94,7 @@ loop-less c =
     let w = from-fresh (fresh .fresh .ensures) (loop .loop .inv .1) in
     let p = ran .run-part .ensures (w .boundary) in
     let size = loop .loop .inv .0 ∙ sym (fresh .before .large-buffer .ensures) in
-    part-less _ _ _ w p size (omega arith) (turn .loop-test .taken)
+    part-less _ _ _ _ w p size (omega arith) (turn .loop-test .taken)
 
 loop-again : tie.Need-loop-again Inv-loop μ-loop
 loop-again c =
@@ -106,9 +106,9 @@ loop-again c =
     let w = from-fresh (fresh .fresh .ensures) (loop .loop .inv .1) in
     let p = ran .run-part .ensures (w .boundary) in
     let size = loop .loop .inv .0 ∙ sym (fresh .before .large-buffer .ensures) in
-    let more = sending-part _ _ _ w p size (omega arith) (turn .loop-test .taken) in
+    let more = sending-part _ _ _ _ w p size (omega arith) (turn .loop-test .taken) in
     let on = went-on _ (handed .hand-on .ensures) (c .before .before .went .given .1) in
-    (ran .run-part .kept .1 .1 .1 .0 ∙ loop .loop .inv .0, to-fresh (fresh .fresh .ensures) (rw on more))
+    (ran .run-part .kept .1 .1 .1 .1 .0 ∙ loop .loop .inv .0, to-fresh (fresh .fresh .ensures) (rw on more))
 
 slice-aggregate-last-line : tie.Need-slice-aggregate-last-line Inv-loop μ-loop
 slice-aggregate-last-line c = search needs
@@ -129,7 +129,7 @@ hand-on-requires-2 c κs =
     let fresh = loop .before .before .before in
     let w = from-fresh (fresh .fresh .ensures) (loop .loop .inv .1) in
     let inside = put-inside _ _ (put .ensures .0) (put .ensures .1) (put .kept .0) in
-    (inside, last-next _ _ _ w (over .loop-test .left) _ (put .ensures .0) (put .ensures .1))
+    (inside, last-next _ _ _ _ w (over .loop-test .left) _ (put .ensures .0) (put .ensures .1))
 
 enum-known-went-3 : tie.Need-enum-known-went-3 Inv-loop μ-loop
 enum-known-went-3 c = search needs
@@ -147,7 +147,7 @@ returns-2 c =
     let w = from-fresh (fresh .fresh .ensures) (loop .loop .inv .1) in
     let same = w .same ∙ ap (λ (h : Handed). h .to) (loop .before .nothing .ensures) ∙ toZ-ofZ (fresh .before .before .before .fits .to) in
     let on = went-on _ (handed .hand-on2 .ensures) (c .before .went3 .given .1) in
-    record { text = pieces-joined _ _ (omega arith); ended = last-all _ _ _ w (over .loop-test .left) read same on }
+    record { text = pieces-joined _ _ (omega arith); ended = last-all _ _ _ _ w (over .loop-test .left) read same on }
 
 returns-3 : tie.Need-returns-3 Inv-loop μ-loop
 returns-3 c =
@@ -158,7 +158,7 @@ returns-3 c =
     let loop = over .before in
     let fresh = loop .before .before .before in
     let w = from-fresh (fresh .fresh .ensures) (loop .loop .inv .1) in
-    let next = last-next _ _ _ w (over .loop-test .left) _ (put .ensures .0) (put .ensures .1) in
+    let next = last-next _ _ _ _ w (over .loop-test .left) _ (put .ensures .0) (put .ensures .1) in
     let same = w .same ∙ ap (λ (h : Handed). h .to) (loop .before .nothing .ensures) ∙ toZ-ofZ (fresh .before .before .before .fits .to) in
     let no = went-stopped _ (handed .hand-on2 .ensures) (c .before .went4 .given .1) in
     record { text = pieces-joined _ _ (omega arith); ended = some-went _ next same no }

@@ -13,17 +13,17 @@ use Rattle.replay.proofs.part.run_part.Statement.{statement}
 use Rattle.replay.proofs.part.run_part.Tie as tie
 
 abbrev Inv-loop : tie.InvT-loop
-Inv-loop s from buf₀ t₀ at₀ filled₀ buf t at filled =
+Inv-loop version s from buf₀ t₀ at₀ filled₀ buf t at filled =
     (length buf ≡ length buf₀)
     × (length (t .txids) ≡ length (t₀ .txids))
     × (length (t .«snapshot_xmins») ≡ length (t₀ .«snapshot_xmins»))
-    × (Boundary s from → Running (length (t₀ .txids)) s from t₀ buf₀ buf t at filled)
+    × (Boundary s from → Running version (length (t₀ .txids)) s from t₀ buf₀ buf t at filled)
 
 abbrev μ-loop : tie.MeasureT-loop
-μ-loop s from buf₀ t₀ at₀ filled₀ buf t at filled = length s - at
+μ-loop version s from buf₀ t₀ at₀ filled₀ buf t at filled = length s - at
 
 loop-holds : tie.Need-loop-holds Inv-loop μ-loop
-loop-holds c = (refl, refl, refl, λ h. running-start _ _ _ _ _ refl h)
+loop-holds c = (refl, refl, refl, λ h. running-start _ _ _ _ _ _ refl h)
 
 next-record-requires : tie.Need-next-record-requires Inv-loop μ-loop
 next-record-requires c κs = search needs
@@ -59,7 +59,7 @@ same-length-2 c =
     let ran = c .before .before .before .before .before in
     let read = ran .before .before .before .before .before in
     let found = read .before .before .before .before in
-    ran .run-record .kept .1 .1 .1 .1 .0 ∙ found .before .before .before .before .loop .inv .0
+    ran .run-record .kept .1 .1 .1 .1 .1 .0 ∙ found .before .before .before .before .loop .inv .0
 
 returns-2 : tie.Need-returns-2 Inv-loop μ-loop
 returns-2 c =
@@ -69,11 +69,11 @@ returns-2 c =
     let found = read .before .before .before .before in
     let looped = found .before .before .before .before in
     let l = looped .loop in
-    let size = simp length-map at (looped .before .before .before .good .1 .1 .0 .1 .1 .0 .1 .0 .1) in
+    let size = simp length-map at (looped .before .before .before .good .1 .1 .1 .0 .1 .1 .0 .1 .0 .1) in
     let q = sym (found .before .before .next-record .ensures) ∙ found .found .given .1 in
     let o = ran .run-record .ensures in
     let there = ran-there (l .inv .1 ∙ size) (o .0) (o .1) in
-    running-full _ _ _ _ _ (rw size at (l .inv .3 h)) _ _ q there (c .enum-told2 .given .1)
+    running-full _ _ _ _ _ _ (rw size at (l .inv .3 h)) _ _ q there (c .enum-told2 .given .1)
 
 store-txid-requires : tie.Need-store-txid-requires Inv-loop μ-loop
 store-txid-requires c κs = search needs
@@ -104,11 +104,11 @@ loop-again c =
     let looped = found .before .before .before .before in
     let l = looped .loop in
     let s = looped .before .before .before in
-    let kept = ran .run-record .kept .1 .1 .1 .1 .0 in
+    let kept = ran .run-record .kept .1 .1 .1 .1 .1 .0 in
     let one = stored .before .before .store-txid .ensures in
     let two = stored .store-xmin .ensures in
-    let size = simp length-map at (s .good .1 .1 .0 .1 .1 .0 .1 .0 .1) in
-    let size′ = simp length-map at (s .good .1 .1 .0 .1 .1 .1 .0 .1 .0 .1) in
+    let size = simp length-map at (s .good .1 .1 .1 .0 .1 .1 .0 .1 .0 .1) in
+    let size′ = simp length-map at (s .good .1 .1 .1 .0 .1 .1 .1 .0 .1 .0 .1) in
     let txids = l .inv .1 ∙ size in
     let xmins = l .inv .2 ∙ size′ in
     let long = ap length one ∙ stored-txid-long _ _ txids _ in
@@ -122,7 +122,7 @@ loop-again c =
           let there = ran-there txids (o .0) (o .1) in
           let made = stored-applied _ (l .t) (ran .run-record .result .change) txids xmins one two in
           rw size
-          (running-more _ _ _ _ _ (rw size at (l .inv .3 h)) _ _ q there (put .put .given .1) kept made (long ∙ txids)),
+          (running-more _ _ _ _ _ _ (rw size at (l .inv .3 h)) _ _ q there (put .put .given .1) kept made (long ∙ txids)),
     )
 
 same-length-3 : tie.Need-same-length-3 Inv-loop μ-loop
@@ -133,8 +133,8 @@ returns-3 c =
     λ h.
     let l = c .before .loop in
     let s = c .before .before .before .before in
-    let size = simp length-map at (s .good .1 .1 .0 .1 .1 .0 .1 .0 .1) in
-    running-over _ _ _ _ _ (rw size at (l .inv .3 h)) (c .loop-test .left)
+    let size = simp length-map at (s .good .1 .1 .1 .0 .1 .1 .0 .1 .0 .1) in
+    running-over _ _ _ _ _ _ (rw size at (l .inv .3 h)) (c .loop-test .left)
 
 pub run-part-spec : {M : Type 1} → statement M
 run-part-spec =

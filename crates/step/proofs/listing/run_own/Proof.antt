@@ -6,8 +6,9 @@ use Rattle.step.proofs.listing.run_own.Tie as tie
 decide-own-requires : tie.Need-decide-own-requires
 decide-own-requires c κs = search needs
 
+-- how many ids there are stands in what decide_own hands back
 slice-aggregate-put-listing : tie.Need-slice-aggregate-put-listing
-slice-aggregate-put-listing c = search needs
+slice-aggregate-put-listing c = search (needs, c .before .before .before .before .decide-own .ok)
 
 put-listing-requires : tie.Need-put-listing-requires
 put-listing-requires c κs = search needs

@@ -93,7 +93,7 @@ returns-2 c =
     let few = d .before .before .before .if1 .left in
     let e = d .decide-begin .ensures ∙ lent-decides _ _ _ refl in
     let o = put .put-plain .ensures in
-    rw op (o .0 ∙ plain-ran _ _ _ few _ _ e refl, o .1 ∙ plain-left _ _ _ few _ _ e refl)
+    rw op (o .0 ∙ plain-ran _ _ _ _ few _ _ e refl, o .1 ∙ plain-left _ _ _ _ few _ _ e refl)
 
 same-length-2 : tie.Need-same-length-2
 same-length-2 c = search needs
@@ -107,7 +107,7 @@ returns-3 c =
     let few = d .before .before .before .if1 .left in
     let e = d .decide-end .ensures ∙ lent-decides _ _ _ refl in
     let o = put .put-plain2 .ensures in
-    rw op (o .0 ∙ plain-ran _ _ _ few _ _ e refl, o .1 ∙ plain-left _ _ _ few _ _ e refl)
+    rw op (o .0 ∙ plain-ran _ _ _ _ few _ _ e refl, o .1 ∙ plain-left _ _ _ _ few _ _ e refl)
 
 same-length-3 : tie.Need-same-length-3
 same-length-3 c = search needs
@@ -120,7 +120,7 @@ returns-4 c =
     let op = told .enum-told3 .given .1 in
     let few = told .before .before .if1 .left in
     let o = run .run-snap .ensures in
-    rw op (o .0 ∙ listing-ran _ _ _ few _ _ refl refl, o .1 ∙ listing-left _ _ _ few _ _ refl refl)
+    rw op (o .0 ∙ listing-ran _ _ _ _ few _ _ refl refl, o .1 ∙ listing-left _ _ _ _ few _ _ refl refl)
 
 same-length-4 : tie.Need-same-length-4
 same-length-4 c = search needs
@@ -133,7 +133,7 @@ returns-5 c =
     let op = told .enum-told4 .given .1 in
     let few = told .before .before .if1 .left in
     let o = run .run-own .ensures in
-    rw op (o .0 ∙ listing-ran _ _ _ few _ _ refl refl, o .1 ∙ listing-left _ _ _ few _ _ refl refl)
+    rw op (o .0 ∙ listing-ran _ _ _ _ few _ _ refl refl, o .1 ∙ listing-left _ _ _ _ few _ _ refl refl)
 
 same-length-5 : tie.Need-same-length-5
 same-length-5 c = search needs
@@ -147,7 +147,7 @@ returns-6 c =
     let few = d .before .before .before .if1 .left in
     let e = d .decide-oldest .ensures in
     let o = put .put-plain3 .ensures in
-    rw op (o .0 ∙ plain-ran _ _ _ few _ _ e refl, o .1 ∙ plain-left _ _ _ few _ _ e refl)
+    rw op (o .0 ∙ plain-ran _ _ _ _ few _ _ e refl, o .1 ∙ plain-left _ _ _ _ few _ _ e refl)
 
 same-length-6 : tie.Need-same-length-6
 same-length-6 c = search needs
@@ -161,7 +161,7 @@ returns-7 c =
     let few = d .before .before .before .if1 .left in
     let e = d .decide-vacuum .ensures in
     let o = put .put-plain4 .ensures in
-    rw op (o .0 ∙ plain-ran _ _ _ few _ _ e refl, o .1 ∙ plain-left _ _ _ few _ _ e refl)
+    rw op (o .0 ∙ plain-ran _ _ _ _ few _ _ e refl, o .1 ∙ plain-left _ _ _ _ few _ _ e refl)
 
 same-length-7 : tie.Need-same-length-7
 same-length-7 c = search needs
@@ -175,7 +175,7 @@ returns-8 c =
     let few = d .before .before .before .if1 .left in
     let e = d .decide-stamp .ensures ∙ lent-stamps _ _ _ in
     let o = put .put-plain5 .ensures in
-    rw op (o .0 ∙ plain-ran _ _ _ few _ _ e refl, o .1 ∙ plain-left _ _ _ few _ _ e refl)
+    rw op (o .0 ∙ plain-ran _ _ _ _ few _ _ e refl, o .1 ∙ plain-left _ _ _ _ few _ _ e refl)
 
 same-length-8 : tie.Need-same-length-8
 same-length-8 c = search needs
@@ -189,7 +189,7 @@ returns-9 c =
     let few = d .before .before .before .if1 .left in
     let e = d .decide-finish .ensures ∙ lent-decides _ _ _ refl in
     let o = put .put-plain6 .ensures in
-    rw op (o .0 ∙ plain-ran _ _ _ few _ _ e refl, o .1 ∙ plain-left _ _ _ few _ _ e refl)
+    rw op (o .0 ∙ plain-ran _ _ _ _ few _ _ e refl, o .1 ∙ plain-left _ _ _ _ few _ _ e refl)
 
 pub run-record-spec : {M : Type 1} → statement M
 run-record-spec =

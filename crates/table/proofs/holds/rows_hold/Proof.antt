@@ -1,7 +1,7 @@
 -- Computed: both sides of each equation come to the same list (crate model's proofs/Examples.antt does it at four slots).
 use mathlib.Core.Path.{refl}
 use Rattle.kinds.specs.Refusals.{consumed}
-use Rattle.model.specs.Tally.{active, retained, lowestEmpty, minimum, maximum, snapshotOf}
+use Rattle.model.specs.Tally.{active, retained, holderFrom, lowestEmpty, minimum, maximum, snapshotOf}
 use Rattle.model.specs.Tables.{freshTable}
 use Rattle.model.specs.Calls.{refusal, changeAccepted, changeOf, spent, after, answerAccepted, answer, shownAccepted, shown}
 use Rattle.model.specs.Rows.{seenFrom, seenIn, said, rows, orders}
@@ -9,7 +9,7 @@ use Rattle.table.proofs.holds.rows_hold.Statement.{statement}
 use Rattle.table.proofs.holds.rows_hold.Tie as tie
 
 returns : tie.Need-returns
-unfolding consumed active retained lowestEmpty minimum maximum snapshotOf freshTable refusal changeAccepted changeOf spent after
+unfolding consumed active retained holderFrom lowestEmpty minimum maximum snapshotOf freshTable refusal changeAccepted changeOf spent after
     answerAccepted answer shownAccepted shown seenFrom seenIn said rows orders
 returns c = record { edges = λ any. refl; in-order = refl }
 

@@ -1,20 +1,22 @@
 -- `allows` meets its contract: each header's list is the definition's.
-use mathlib.Core.Path.{_≡_, refl}
-use mathlib.Core.Bool.{true}
 use Rattle.trace.specs.Version.{allowed}
-use Rattle.trace.specs.declared.Op.{Op}
-use Rattle.trace.specs.declared.Version.{Version}
-use Rattle.trace.specs.declared.Version.the-variants.{Proc1}
+use borrow.Author.Needs.{needs}
 use Rattle.trace.proofs.versions.allows.Statement.{statement}
 use Rattle.trace.proofs.versions.allows.Tie as tie
 
--- an enum of one variant is that variant
-by-version : (v : Version) (o : Op) → true ≡ allowed v o
-unfolding allowed
-by-version Proc1 o = refl
+enum-told : tie.Need-enum-told
+enum-told c = search needs
+
+enum-told-2 : tie.Need-enum-told-2
+enum-told-2 c = search needs
 
 returns : tie.Need-returns
-returns c = by-version (c .args .version) (c .args .op)
+unfolding allowed
+returns c = rw (c .enum-told .given .1)
+
+returns-2 : tie.Need-returns-2
+unfolding allowed
+returns-2 c = rw (c .enum-told2 .given .1)
 
 pub allows-spec : {M : Type 1} → statement M
-allows-spec = tie.close (tie.spec returns)
+allows-spec = tie.close (tie.spec enum-told enum-told-2 returns returns-2)
