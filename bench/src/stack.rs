@@ -5,7 +5,7 @@ use std::hint::black_box;
 type Call = extern "C" fn(u64, u64) -> u64;
 
 unsafe extern "C" {
-    safe fn probe_fresh(at: u64) -> u64;
+    safe fn probe_made(at: u64, x: u64) -> u64;
     safe fn probe_begin(at: u64, x: u64) -> u64;
     safe fn probe_end(at: u64, x: u64) -> u64;
     safe fn probe_snap(at: u64, x: u64) -> u64;
@@ -21,10 +21,6 @@ unsafe extern "C" {
 
 extern "C" fn nothing(at: u64, x: u64) -> u64 {
     at ^ x
-}
-
-extern "C" fn fresh(at: u64, _x: u64) -> u64 {
-    probe_fresh(at)
 }
 
 const PAINTED: usize = 512 * 1024;
@@ -53,7 +49,7 @@ fn measured(call: Call) -> usize {
 
 fn main() {
     let calls: [(&str, Call); 12] = [
-        ("fresh", fresh),
+        ("fresh", probe_made),
         ("begin_transaction", probe_begin),
         ("end_transaction", probe_end),
         ("create_snapshot", probe_snap),
