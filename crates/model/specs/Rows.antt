@@ -51,7 +51,7 @@ abbrev pub RowsHold : ℕ → List Row → Type 0
 RowsHold n rs = seenIn n rs ≡ said rs
 
 -- ids from k on, one a slot
-abbrev from : ℕ → ℕ → List ℕ
+abbrev pub from : ℕ → ℕ → List ℕ
 from zero k = []
 from (suc n) k = k ∷ from n (k + 1)
 
@@ -101,16 +101,20 @@ rows n any =
     ∷ one (three n) (snap 12 2) (snapped n 2 10 (9 ∷ 4 ∷ 7 ∷ []) 12)
     -- P4 the same, sample 12
     ∷ one (three n) (snap 12 12) (snapped n 4 12 (9 ∷ 4 ∷ 7 ∷ []) 12)
-    -- P5 full with ids from 1 on, clock 300, begin 400: refusal 1 with 400, clock 401
-    ∷ one (full n 300) (begin (number 400)) (seen n (Refused (NoFreeSlot (txid 400))) 401 1)
+    -- P5 full with ids from 1 on, clock 1,200, begin 1,300: refusal 1 with 1,300, clock 1,301
+    ∷ one (full n 1200) (begin (number 1300)) (seen n (Refused (NoFreeSlot (txid 1300))) 1301 1)
     -- P6 clock 1, begin 2^64 − 2: 13
     ∷ one (freshTable n) (begin (number 18446744073709551614)) (seen n (Refused WildJump) 1 1)
     -- P7 clock 2^64 − 1, any begin: 5
     ∷ one (empty n top) (begin any) (seen n (Refused ClockExhausted) top 1)
     -- P8 clock 1, begin 2^64 − 1: 6
     ∷ one (freshTable n) (begin (number 18446744073709551615)) (seen n (Refused BadReservation) 1 1)
-    -- P9 end, the first slot number that no slot has, id 0: 2
-    ∷ one (freshTable n) (end (slot n) (txid 0)) (seen n (Refused (InvalidSlot (slot n))) 1 1)
+    -- P9 end, the first slot number that no slot has, id 0: 2; the last slot passes that check, so 4
+    ∷ record {
+      start = freshTable n;
+      calls = end (slot n) (txid 0) ∷ end (slot (n - 1)) (txid 0) ∷ [];
+      sees = seen n (Refused (InvalidSlot (slot n))) 1 1 ∷ seen n (Refused ZeroTxid) 1 1 ∷ [];
+    }
     -- P10 end, empty slot 0, id 0: 4
     ∷ one (freshTable n) (end (slot 0) (txid 0)) (seen n (Refused ZeroTxid) 1 1)
     -- P11 end twice: the second is 3, observed 0
@@ -209,9 +213,9 @@ orders n =
     (seen n (Stamped (number 18446744073709551614)) top 1)
     -- 5, 6 and 13 before 1
     ∷ one (full n top) (begin (number 1)) (seen n (Refused ClockExhausted) top 1)
-    ∷ one (full n 300) (begin (number 299)) (seen n (Refused BadReservation) 300 1)
-    ∷ one (full n 300) (begin (number 4294967597)) (seen n (Refused WildJump) 300 1)
-    ∷ one (full n 300) (begin (number 4294967596)) (seen n (Refused (NoFreeSlot (txid 4294967596))) 4294967597 1)
+    ∷ one (full n 1200) (begin (number 1199)) (seen n (Refused BadReservation) 1200 1)
+    ∷ one (full n 1200) (begin (number 4294968497)) (seen n (Refused WildJump) 1200 1)
+    ∷ one (full n 1200) (begin (number 4294968496)) (seen n (Refused (NoFreeSlot (txid 4294968496))) 4294968497 1)
     ∷ []
 
 -- every row holds, P7 whatever its number, and every order
