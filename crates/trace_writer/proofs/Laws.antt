@@ -163,7 +163,7 @@ pub rewritten : (s : List ℕ) (v : Version) (rs : List Record) (xs : List ℕ) 
 unfolding wroteOf leftOf
 rewritten s v rs xs h l =
     let a = accepted traceFormat trace-laws s v rs h in
-    let are = records-are v rs (a .expressible) in
+    let are = records-are v rs (a .good) in
     let inside = le-leb (length s) longest (a .short) in
     let fits = le-leb (length s) (length xs) l in
     (rw (are, ← a .text, inside, fits), rw (are, ← a .text, inside, fits) (front xs s))
@@ -265,14 +265,14 @@ pub again-wrote : (s : List ℕ) (v : Version) (rs : List Record) (size : ℕ) �
 unfolding wroteOf
 again-wrote s v rs size h =
     let a = accepted traceFormat trace-laws s v rs h in
-    rw (records-are v rs (a .expressible), ← a .text, le-leb (length s) longest (a .short))
+    rw (records-are v rs (a .good), ← a .text, le-leb (length s) longest (a .short))
 
 pub again-left : (s : List ℕ) (v : Version) (rs : List Record) (xs : List ℕ) → traceOf s ≡ Whole v rs
     → leftOf v (rowsOf rs) xs ≡ cond (leb (length s) (length xs)) (spliced xs 0 s) xs
 unfolding leftOf
 again-left s v rs xs h =
     let a = accepted traceFormat trace-laws s v rs h in
-    rw (records-are v rs (a .expressible), ← a .text, le-leb (length s) longest (a .short))
+    rw (records-are v rs (a .good), ← a .text, le-leb (length s) longest (a .short))
 
 -- a record has 44 bytes at least, so a trace has 1,489 records at most
 name-least : (o : Op) → 4 ≤ length (opName o)
