@@ -19,7 +19,7 @@ use Rattle.grammar.specs.Names.{nameLine, firstNamed, nameAt}
 use Rattle.grammar.specs.Items.{foundIn, foundFrom}
 use Rattle.grammar.specs.Named.{itemAt}
 use Rattle.grammar.specs.Texts.{readText}
-use Rattle.events.specs.Wait.{header, eventsOf}
+use Rattle.events.specs.Wait.{header}
 use Rattle.wait.specs.declared.Owner.{Owner}
 use Rattle.wait.specs.declared.Owner.the-variants.{Nobody, Holds}
 use Rattle.wait.specs.declared.WaitAnswer.{WaitAnswer}
@@ -86,7 +86,7 @@ record Answers : Type 0 where
 answers : Answers
 unfolding
     waitOf verdictOn stepsFrom ended eventTest ruleOf registerRule endRule horizonRule eventChange changeBy passes slotsPass differ
-    listed active minimum eventsOf readText nameAt firstNamed nameLine foundFrom foundIn itemAt fieldsAt fieldRules limit
+    listed active minimum readText nameAt firstNamed nameLine foundFrom foundIn itemAt fieldsAt fieldRules limit
     linesAt fieldAt numberAt numberFrom numberTail starts
 answers = record {
   nothing = refl;
