@@ -68,8 +68,8 @@ fn write_decisions(line: u64, versions: &[[u64; 2]], run: &mut [u8])
 {
     let mut i: usize = 0;
     while i < versions.len() {
-        let ender = versions[i][1];
-        let go = decision(line, ender);
+        let ended = versions[i][1];
+        let go = decision(line, ended);
         run[i] = go;
         i += 1;
     }

@@ -14,11 +14,17 @@ fn batch(line: u64, versions: &[Version], room: usize) -> Batch {
 #[test]
 fn each_version_by_its_ender_and_the_line() {
     let versions = [[3, 0], [3, 5], [3, 10], [3, 11], [4, 4], [12, 12], [9, 9]];
-    assert_eq!(decide(&batch(10, &versions, 7)), Ok(vec![0, 1, 0, 0, 1, 0, 1]));
+    assert_eq!(
+        decide(&batch(10, &versions, 7)),
+        Ok(vec![0, 1, 0, 0, 1, 0, 1])
+    );
     assert_eq!(decide(&batch(0, &[[1, 1]], 1)), Ok(vec![0]));
     assert_eq!(decide(&batch(1, &[[1, 1]], 1)), Ok(vec![0]));
     assert_eq!(decide(&batch(2, &[[1, 1]], 1)), Ok(vec![1]));
-    assert_eq!(decide(&batch(u64::MAX, &[[1, u64::MAX], [1, u64::MAX - 1]], 2)), Ok(vec![0, 1]));
+    assert_eq!(
+        decide(&batch(u64::MAX, &[[1, u64::MAX], [1, u64::MAX - 1]], 2)),
+        Ok(vec![0, 1])
+    );
 }
 
 #[test]
@@ -28,13 +34,19 @@ fn the_order_of_refusals() {
     assert_eq!(decide(&batch(10, &[[5, 4], [0, 0]], 2)), Err((17, 0)));
     assert_eq!(decide(&batch(10, &[[0, 0], [5, 4]], 2)), Err((4, 0)));
     assert_eq!(decide(&batch(10, &[[3, 5], [0, 7]], 2)), Err((4, 1)));
-    assert_eq!(decide(&batch(10, &[[3, 5], [4, 4], [12, 11]], 9)), Err((17, 2)));
+    assert_eq!(
+        decide(&batch(10, &[[3, 5], [4, 4], [12, 11]], 9)),
+        Err((17, 2))
+    );
 }
 
 #[test]
 fn a_refusal_keeps_the_run_and_a_decision_the_places_past_it() {
     assert_eq!(seen(&batch(10, &[[3, 5], [0, 7]], 4)).run, b"abcd");
-    assert_eq!(seen(&batch(10, &[[3, 5], [3, 0]], 4)).run, [1, 0, b'c', b'd']);
+    assert_eq!(
+        seen(&batch(10, &[[3, 5], [3, 0]], 4)).run,
+        [1, 0, b'c', b'd']
+    );
     assert_eq!(seen(&batch(10, &[], 2)).run, b"ab");
 }
 

@@ -21,14 +21,14 @@ abbrev μ-loop : tie.MeasureT-loop
 loop-holds : tie.Need-loop-holds Inv-loop μ-loop
 loop-holds c = (search needs, refl, refl)
 
-mul-ender : tie.Need-mul-ender Inv-loop μ-loop
-mul-ender c = search needs
+mul-ended : tie.Need-mul-ended Inv-loop μ-loop
+mul-ended c = search needs
 
-index-1-ender : tie.Need-index-1-ender Inv-loop μ-loop
-index-1-ender c = search needs
+index-1-ended : tie.Need-index-1-ended Inv-loop μ-loop
+index-1-ended c = search needs
 
-index-2-ender : tie.Need-index-2-ender Inv-loop μ-loop
-index-2-ender c = search needs
+index-2-ended : tie.Need-index-2-ended Inv-loop μ-loop
+index-2-ended c = search needs
 
 decision-requires : tie.Need-decision-requires Inv-loop μ-loop
 decision-requires c κs = search needs
@@ -72,9 +72,9 @@ write-decisions-spec =
     Inv-loop
     μ-loop
     loop-holds
-    mul-ender
-    index-1-ender
-    index-2-ender
+    mul-ended
+    index-1-ended
+    index-2-ended
     decision-requires
     slice-write-run
     add-i

@@ -8,8 +8,10 @@ pub struct Cells {
     pub counts: BTreeMap<&'static str, u64>,
 }
 
-/// Every cell, and whether a batch reaches it.
-const ALL: [(&str, fn(&Batch) -> bool); 27] = [
+/// A cell by its name, and whether a batch reaches it.
+type Cell = (&'static str, fn(&Batch) -> bool);
+
+const ALL: [Cell; 27] = [
     ("goes", |b| good(b, |line, [_, e]| goes(line, e))),
     ("goes, ended by its maker", |b| {
         good(b, |line, [m, e]| e == m && e < line)

@@ -79,7 +79,11 @@ pub const ALL: [Decider; 19] = [
         by(b, |line, [m, e]| e != 0 && m < line, fault)
     }),
     ("what is made below the line and is alive goes", |b| {
-        by(b, |line, [m, e]| right(line, [m, e]) || (e == 0 && m < line), fault)
+        by(
+            b,
+            |line, [m, e]| right(line, [m, e]) || (e == 0 && m < line),
+            fault,
+        )
     }),
     ("numbers have a sign", |b| {
         by(b, |line, [_, e]| e != 0 && (e as i64) < line as i64, fault)
@@ -87,9 +91,13 @@ pub const ALL: [Decider; 19] = [
     ("numbers have 32 bits", |b| {
         by(b, |line, [_, e]| e != 0 && (e as u32) < line as u32, fault)
     }),
-    ("decisions exchanged", |b| by(b, |line, v| !right(line, v), fault)),
+    ("decisions exchanged", |b| {
+        by(b, |line, v| !right(line, v), fault)
+    }),
     ("an ender that is its maker is bad", |b| {
-        by(b, right, |[m, e]| fault([m, e]).or((e != 0 && e == m).then_some(17)))
+        by(b, right, |[m, e]| {
+            fault([m, e]).or((e != 0 && e == m).then_some(17))
+        })
     }),
     ("what is alive is bad", |b| {
         by(b, right, |[m, e]| fault([m, e]).or((e == 0).then_some(17)))
@@ -99,20 +107,45 @@ pub const ALL: [Decider; 19] = [
         by(b, right, |v| fault(v).filter(|&n| n == 17))
     }),
     ("places count from 1", |b| {
-        refused_at(b, decide(b).err().map(|(number, place)| (number, place + 1)))
+        refused_at(
+            b,
+            decide(b).err().map(|(number, place)| (number, place + 1)),
+        )
     }),
-    ("any 17 before any 4", |b| refused_at(b, first(b, 17).or(first(b, 4)))),
-    ("any 4 before any 17", |b| refused_at(b, first(b, 4).or(first(b, 17)))),
+    ("any 17 before any 4", |b| {
+        refused_at(b, first(b, 17).or(first(b, 4)))
+    }),
+    ("any 4 before any 17", |b| {
+        refused_at(b, first(b, 4).or(first(b, 17)))
+    }),
     ("a bad version before 12", |b| {
-        let answer = decide(&Batch { room: b.versions.len(), ..b.clone() }).err();
-        Seen { answer: answer.unwrap_or(seen(b).answer), ..seen(b) }
+        let answer = decide(&Batch {
+            room: b.versions.len(),
+            ..b.clone()
+        })
+        .err();
+        Seen {
+            answer: answer.unwrap_or(seen(b).answer),
+            ..seen(b)
+        }
     }),
     ("a run exactly as long is 12", |b| {
         let exact = b.room == b.versions.len();
-        if exact { Seen { answer: (12, 0), run: letters(b.room) } } else { seen(b) }
+        if exact {
+            Seen {
+                answer: (12, 0),
+                run: letters(b.room),
+            }
+        } else {
+            seen(b)
+        }
     }),
-    ("writes while it judges", |b| writes(b, &[4, 17], |_, place| place)),
-    ("writes what has room", |b| writes(b, &[12], |batch, _| batch.room)),
+    ("writes while it judges", |b| {
+        writes(b, &[4, 17], |_, place| place)
+    }),
+    ("writes what has room", |b| {
+        writes(b, &[12], |batch, _| batch.room)
+    }),
     ("clears the places past the versions", |b| {
         let mut told = seen(b);
         if told.answer.0 == 0 {

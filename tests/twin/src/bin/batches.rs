@@ -67,9 +67,11 @@ fn main() -> ExitCode {
     }
     let (name, right) = wrong::RIGHT;
     counts.count(told_apart(&batches, right) == 0, name);
+    let mut wrong_seen = 0;
     for (name, decider) in wrong::ALL {
-        let told = told_apart(&batches, decider);
-        counts.count(told > 0, &format!("not seen: {name}"));
+        let told = told_apart(&batches, decider) > 0;
+        wrong_seen += usize::from(told);
+        counts.count(told, &format!("not seen: {name}"));
     }
 
     let numbers = |number| {
@@ -85,7 +87,7 @@ fn main() -> ExitCode {
         numbers(4),
         numbers(17),
         cells.counts.values().filter(|&&n| n > 0).count(),
-        wrong::ALL.len(),
+        wrong_seen,
     );
     let Counts { passed, failed } = counts;
     println!("{passed} passed, {failed} failed");
