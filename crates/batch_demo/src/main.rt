@@ -43,17 +43,20 @@ fn fill(s: &[u8], at: usize, versions: &mut [[u64; 2]]) {
     }
 }
 
+fn next_letter(letter: u8) -> u8 {
+    if letter < b'z' {
+        return letter + 1;
+    }
+    b'a'
+}
+
 // Letters in turn, so that a place which keeps its own can be told from one that got its neighbour's.
 fn spell(run: &mut [u8]) {
     let mut letter: u8 = b'a';
     let mut k: usize = 0;
     while k < run.len() {
         run[k] = letter;
-        if letter < b'z' {
-            letter += 1;
-        } else {
-            letter = b'a';
-        }
+        letter = next_letter(letter);
         k += 1;
     }
 }

@@ -48,8 +48,7 @@ loop-again c =
     let l = read .loop in
     let a = read .before .before .args in
     let rest = decisions (a .line) (drop (l .i + 1) (a .versions .now)) in
-    let written = ap (λ (x : ℕ). sets (set (l .run) (l .i) x) (l .i + 1) rest) (sym (c .decision .ensures)) in
-    (
+    let written = ap (λ (x : ℕ). sets (set (l .run) (l .i) x) (l .i + 1) rest) (sym (c .decision .ensures)) in (
       omega arith,
       length-set (l .run) (l .i) _ ∙ l .inv .1,
       l .inv .2 ∙ sets-next (a .versions .now) (l .i) (a .line) (l .run) (omega arith) ∙ written,
