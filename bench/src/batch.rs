@@ -2,7 +2,6 @@
 
 use std::hint::black_box;
 use std::process::{Command, exit};
-use std::time::Instant;
 
 type Version = [u64; 2];
 
@@ -14,6 +13,23 @@ unsafe extern "C" {
         run: *mut u8,
         room: usize,
     ) -> u64;
+    fn clock_gettime(clock: i32, time: *mut Time) -> i32;
+}
+
+/// Seconds and nanoseconds, as C has them on x86-64.
+#[repr(C)]
+struct Time(i64, i64);
+
+/// Nanoseconds of processor time that this thread has used: a call takes milliseconds, and others may run meanwhile.
+fn used() -> f64 {
+    const OF_THIS_THREAD: i32 = 3;
+    let mut time = Time(0, 0);
+    // the one thing that it writes is alive
+    if unsafe { clock_gettime(OF_THIS_THREAD, &mut time) } != 0 {
+        eprintln!("no clock");
+        exit(1);
+    }
+    time.0 as f64 * 1e9 + time.1 as f64
 }
 
 const VERSIONS: usize = 1_000_000;
@@ -162,9 +178,9 @@ fn print_times() {
         let mut least = [f64::INFINITY; 2];
         for _ in 0..SAMPLES {
             for (side, decide) in SIDES.iter().enumerate() {
-                let start = Instant::now();
+                let start = used();
                 black_box(decide(LINE, black_box(&case.versions), black_box(&mut run)));
-                let spent = start.elapsed().as_nanos() as f64 / VERSIONS as f64;
+                let spent = (used() - start) / VERSIONS as f64;
                 least[side] = least[side].min(spent);
             }
         }
@@ -194,7 +210,7 @@ fn main() {
     check_answers();
     let runs: Vec<_> = (0..PROCESSES).map(|_| times_of_a_process()).collect();
     println!(
-        "{VERSIONS} versions; the answers agree. ns a version: the middle of {PROCESSES} processes, the least of {SAMPLES} in each.\n"
+        "{VERSIONS} versions; the answers agree. ns of processor time a version: the middle of {PROCESSES} processes, the least of {SAMPLES} in each.\n"
     );
     println!("| versions | Rust | ours | ratio |");
     println!("|---|---|---|---|");
