@@ -1,0 +1,185 @@
+//! The ids over the records: the clock, the oldest retained xmin and the line, and a mark at each vacuum.
+
+use super::frame::LEFT;
+use super::labels;
+use super::layout::{self, Layout};
+use super::svg::{Svg, short};
+use crate::account::story::{FRESH, Holder};
+use crate::account::words;
+
+/// More vacuums than these have no line down to their holder, which would hide the rows.
+const GUIDES: usize = 80;
+/// More cuts than these are told in words alone.
+const CUTS: usize = 12;
+
+pub fn draw(svg: &mut Svg, layout: &Layout) {
+    axis(svg, layout);
+    let clock: Vec<_> = heights(layout, |step| Some(step.0));
+    let line: Vec<_> = heights(layout, |step| Some(step.1));
+    let oldest: Vec<_> = heights(layout, |step| step.2);
+    svg.path(&area(layout, &line, &clock), "kept", "");
+    guides(svg, layout);
+    svg.path(&stairs(layout, &line), "line", "");
+    svg.path(&stairs(layout, &clock), "clock", "");
+    svg.path(&stairs(layout, &oldest), "oldest", "");
+    columns(svg, layout);
+    vacuums(svg, layout);
+}
+
+/// The heights, after 0 records, 1, 2 .., of what `of` takes from clock, line and oldest.
+fn heights(layout: &Layout, of: impl Fn((u64, u64, Option<u64>)) -> Option<u64>) -> Vec<Option<f64>> {
+    let fresh = (FRESH, FRESH, None);
+    let after = layout.story.steps.iter().map(|step| (step.clock, step.answer.line, step.oldest));
+    [fresh].into_iter().chain(after).map(|step| of(step).map(|id| layout.y(id))).collect()
+}
+
+/// A path that goes on at one height until the next record that changes it; broken where there is none.
+fn stairs(layout: &Layout, heights: &[Option<f64>]) -> String {
+    let mut drawn = String::new();
+    let mut last = None;
+    for (record, &height) in heights.iter().enumerate() {
+        if height == last {
+            continue;
+        }
+        let x = short(layout.frame.at(record));
+        if last.is_some() {
+            drawn.push_str(&format!("H{x}"));
+        }
+        match (last, height) {
+            (Some(_), Some(y)) => drawn.push_str(&format!("V{}", short(y))),
+            (None, Some(y)) => drawn.push_str(&format!("M{x} {}", short(y))),
+            _ => {}
+        }
+        last = height;
+    }
+    if last.is_some() {
+        drawn.push_str(&format!("H{}", short(layout.frame.end())));
+    }
+    drawn
+}
+
+/// What lies between the line and the clock.
+fn area(layout: &Layout, line: &[Option<f64>], clock: &[Option<f64>]) -> String {
+    let corner = |drawn: &mut String, x: f64, y: f64| {
+        let sign = if drawn.is_empty() { 'M' } else { 'L' };
+        drawn.push_str(&format!("{sign}{} {}", short(x), short(y)));
+    };
+    let mut drawn = String::new();
+    let spans = |record: usize| (layout.frame.at(record), layout.frame.until((record + 1 < line.len()).then_some(record + 1)));
+    for (record, y) in clock.iter().enumerate() {
+        let (from, to) = spans(record);
+        corner(&mut drawn, from, y.unwrap_or(0.0));
+        corner(&mut drawn, to, y.unwrap_or(0.0));
+    }
+    for (record, y) in line.iter().enumerate().rev() {
+        let (from, to) = spans(record);
+        corner(&mut drawn, to, y.unwrap_or(0.0));
+        corner(&mut drawn, from, y.unwrap_or(0.0));
+    }
+    drawn + "Z"
+}
+
+/// The ids on the left, the records' numbers below, and where ids are cut.
+fn axis(svg: &mut Svg, layout: &Layout) {
+    let (frame, chart) = (&layout.frame, layout.chart);
+    svg.words(LEFT - 8.0, chart.top - 6.0, "name", "ids");
+    for id in layout.ids.ticks(13.0 / chart.height) {
+        let y = layout.y(id);
+        svg.stroke([LEFT, y, frame.end(), y], "grid", "");
+        svg.words(LEFT - 8.0, y + 3.5, "tick left", &id.to_string());
+    }
+    for (from, to) in layout.ids.cuts.iter().filter(|_| layout.ids.cuts.len() <= CUTS) {
+        let y = (layout.y(*from) + layout.y(*to)) / 2.0;
+        let told = format!("cut short: the ids from {from} to {to}");
+        svg.stroke([LEFT, y, frame.end(), y], "cut", &told);
+    }
+    svg.words(LEFT - 8.0, layout.axis.top + 12.0, "name", "record");
+    for record in frame.ticks() {
+        svg.words(frame.at(record), layout.axis.top + 12.0, "tick", &record.to_string());
+    }
+    for step in layout.story.steps.iter().filter(|_| layout::ops_have_room(frame)) {
+        svg.words(frame.at(step.number), layout.axis.top + 25.0, "tick", step.record.op);
+    }
+}
+
+/// Each record's column, to point at.
+fn columns(svg: &mut Svg, layout: &Layout) {
+    let column = layout.frame.column;
+    for step in &layout.story.steps {
+        let x = layout.frame.at(step.number) - column / 2.0;
+        let place = [x, layout.chart.top, column, layout.chart.height];
+        svg.rect(place, "column", &words::step(layout.story, step));
+    }
+}
+
+/// From each vacuum down to its holder's row.
+fn guides(svg: &mut Svg, layout: &Layout) {
+    if layout.story.vacuums().count() > GUIDES {
+        return;
+    }
+    for step in layout.story.vacuums() {
+        let Holder::Hold(at) = step.holder else {
+            continue;
+        };
+        let row = layout.rows.row(layout.story.hold(at).0.place);
+        let x = layout.frame.at(step.number);
+        svg.stroke([x, layout.y(step.answer.line), x, row.middle()], "guide", "");
+    }
+}
+
+/// A mark on the line at each vacuum, full where somebody held it, with the line beside it where there is room.
+fn vacuums(svg: &mut Svg, layout: &Layout) {
+    let half = layout.frame.mark();
+    let mut free = f64::MIN;
+    for step in layout.story.vacuums() {
+        let (x, y) = (layout.frame.at(step.number), layout.y(step.answer.line));
+        let class = match step.holder {
+            Holder::Hold(_) => "vacuum",
+            _ => "vacuum nobody",
+        };
+        svg.diamond(x, y, half, class, &words::step(layout.story, step));
+        let line = format!("line {}", step.answer.line);
+        if x >= free && x + labels::width(&line) + 8.0 <= layout.frame.width() {
+            svg.words(x + half + 2.0, y - 5.0, "value", &line);
+            free = x + labels::width(&line) + 12.0;
+        }
+    }
+}
+
+#[cfg(test)]
+mod tests {
+    use super::*;
+    use crate::account::made_up;
+    use crate::account::story::Story;
+
+    #[test]
+    fn stairs_change_at_the_record_and_break_where_nothing_is() {
+        let text = made_up::trace("proc-2", &["begin 0 0 1 0 0", "end 0 1 0 0 0", "begin 0 0 2 0 0"]);
+        let said = made_up::output(&["0 0 1 0 0 0 1 0 0", "0 0 0 0 0 0 1 0 0", "0 0 2 0 0 0 1 0 0"]);
+        let story = made_up::story_of(&text, &said);
+        let layout = Layout::of(&story, 0.0);
+        let heights = [None, Some(9.0), None, Some(5.0)];
+        assert_eq!(stairs(&layout, &heights), "M154 9H198M242 5H264");
+        let flat = [Some(1.0), Some(1.0), Some(2.0), Some(2.0)];
+        assert_eq!(stairs(&layout, &flat), "M132 1H198V2H264");
+    }
+
+    #[test]
+    fn each_vacuum_has_one_mark_and_each_record_one_column() {
+        let (text, said) = made_up::with_pins();
+        let story = made_up::story_of(&text, &said);
+        let mut svg = Svg::default();
+        draw(&mut svg, &Layout::of(&story, 0.0));
+        assert_eq!(svg.text.matches("class=\"vacuum\"").count(), 3);
+        assert_eq!(svg.text.matches("class=\"column\"").count(), 9);
+        assert_eq!(svg.text.matches("class=\"guide\"").count(), 3);
+    }
+
+    #[test]
+    fn an_empty_trace_is_drawn() {
+        let story = Story::of(b"trace=proc-2\n", b"records=0\n").unwrap();
+        let mut svg = Svg::default();
+        draw(&mut svg, &Layout::of(&story, 0.0));
+        assert!(!svg.text.contains("NaN"));
+    }
+}

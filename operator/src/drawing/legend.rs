@@ -1,0 +1,93 @@
+//! What the marks mean, in plain words, over the picture.
+
+use super::labels;
+use super::svg::Svg;
+use crate::account::places::Place;
+use crate::account::story::Story;
+
+const LINE: f64 = 20.0;
+const SIGN: f64 = 30.0;
+const INDENT: f64 = 8.0;
+
+/// How a sign is drawn: by the class of a stroke, of a bar, or of a mark.
+enum Sign {
+    Stroke(&'static str),
+    Bar(&'static str),
+    Diamond,
+    Cross,
+}
+
+/// The entries that the story needs: no pins without pins, no refusals without refusals.
+fn entries(story: &Story) -> Vec<(Sign, &'static str)> {
+    let pins = story.stays.iter().any(|stay| matches!(stay.place, Place::Pin(_)));
+    let refused = story.steps.iter().any(|step| !step.answer.accepted());
+    let mut all = vec![
+        (Sign::Stroke("clock"), "the clock"),
+        (Sign::Stroke("line"), "the vacuum line: what an id below it replaced may go"),
+        (Sign::Stroke("oldest"), "the oldest xmin that somebody retains"),
+        (Sign::Bar("kept"), "between line and clock: old tiles stay"),
+        (Sign::Bar("bar"), "a registration in its slot, with the xmin that it retains"),
+    ];
+    if pins {
+        all.push((Sign::Bar("bar pin"), "a pin, with the xmin that it retains"));
+    }
+    all.push((Sign::Bar("held"), "it held the line: from the vacuum that named it until it let go"));
+    all.push((Sign::Diamond, "a vacuum: on the line, and again on who held it"));
+    if refused {
+        all.push((Sign::Cross, "a refused call, with its number and name"));
+    }
+    all
+}
+
+/// Draws it from the top, and answers where it ends.
+pub fn draw(svg: &mut Svg, story: &Story, width: f64) -> f64 {
+    let (mut x, mut top) = (INDENT, 4.0);
+    for (sign, words) in entries(story) {
+        let wide = SIGN + 6.0 + labels::width(words) + 14.0;
+        if x > INDENT && x + wide > width {
+            x = INDENT;
+            top += LINE;
+        }
+        draw_sign(svg, &sign, x, top + LINE / 2.0);
+        svg.words(x + SIGN + 6.0, top + LINE / 2.0 + 4.0, "legend", words);
+        x += wide;
+    }
+    top + LINE
+}
+
+fn draw_sign(svg: &mut Svg, sign: &Sign, x: f64, y: f64) {
+    let middle = x + SIGN / 2.0;
+    match sign {
+        Sign::Stroke(class) => svg.stroke([x, y, x + SIGN, y], class, ""),
+        Sign::Bar(class) => svg.rect([x, y - 6.0, SIGN, 12.0], class, ""),
+        Sign::Diamond => svg.diamond(middle, y, 5.0, "holder", ""),
+        Sign::Cross => svg.cross(middle, y, 4.0, "refused", ""),
+    }
+}
+
+#[cfg(test)]
+mod tests {
+    use super::*;
+    use crate::account::made_up;
+
+    #[test]
+    fn the_legend_tells_what_is_there() {
+        let (text, said) = made_up::with_pins();
+        let all = entries(&made_up::story_of(&text, &said)).len();
+        let none = entries(&Story::of(b"trace=proc-2\n", b"records=0\n").unwrap()).len();
+        assert_eq!((all, none), (9, 7));
+    }
+
+    #[test]
+    fn entries_stay_inside_the_picture() {
+        let (text, said) = made_up::with_pins();
+        let mut svg = Svg::default();
+        let end = draw(&mut svg, &made_up::story_of(&text, &said), 900.0);
+        assert!(end > LINE);
+        for entry in svg.text.split("<text").skip(1) {
+            let x: f64 = entry.split("x=\"").nth(1).unwrap().split('"').next().unwrap().parse().unwrap();
+            let words = entry.split('>').nth(1).unwrap().split('<').next().unwrap();
+            assert!(x + labels::width(words) <= 900.0, "{words}");
+        }
+    }
+}
