@@ -9,7 +9,7 @@ use crate::account::words;
 
 /// More vacuums than these have no line down to their holder, which would hide the rows.
 const GUIDES: usize = 80;
-/// More cuts than these are told in words alone.
+/// More cuts than these are told by the legend alone.
 const CUTS: usize = 12;
 
 pub fn draw(svg: &mut Svg, layout: &Layout) {
@@ -18,7 +18,7 @@ pub fn draw(svg: &mut Svg, layout: &Layout) {
     let line: Vec<_> = heights(layout, |step| Some(step.1));
     let oldest: Vec<_> = heights(layout, |step| step.2);
     svg.path(&area(layout, &line, &clock), "kept", "");
-    guides(svg, layout);
+    cuts(svg, layout);
     svg.path(&stairs(layout, &line), "line", "");
     svg.path(&stairs(layout, &clock), "clock", "");
     svg.path(&stairs(layout, &oldest), "oldest", "");
@@ -79,19 +79,14 @@ fn area(layout: &Layout, line: &[Option<f64>], clock: &[Option<f64>]) -> String 
     drawn + "Z"
 }
 
-/// The ids on the left, the records' numbers below, and where ids are cut.
+/// The ids on the left and the records' numbers below.
 fn axis(svg: &mut Svg, layout: &Layout) {
     let (frame, chart) = (&layout.frame, layout.chart);
-    svg.words(LEFT - 8.0, chart.top - 6.0, "name", "ids");
+    svg.words(LEFT - 8.0, chart.top - 12.0, "name", "ids");
     for id in layout.ids.ticks(13.0 / chart.height) {
         let y = layout.y(id);
         svg.stroke([LEFT, y, frame.end(), y], "grid", "");
         svg.words(LEFT - 8.0, y + 3.5, "tick left", &id.to_string());
-    }
-    for (from, to) in layout.ids.cuts.iter().filter(|_| layout.ids.cuts.len() <= CUTS) {
-        let y = (layout.y(*from) + layout.y(*to)) / 2.0;
-        let told = format!("cut short: the ids from {from} to {to}");
-        svg.stroke([LEFT, y, frame.end(), y], "cut", &told);
     }
     svg.words(LEFT - 8.0, layout.axis.top + 12.0, "name", "record");
     for record in frame.ticks() {
@@ -99,6 +94,16 @@ fn axis(svg: &mut Svg, layout: &Layout) {
     }
     for step in layout.story.steps.iter().filter(|_| layout::ops_have_room(frame)) {
         svg.words(frame.at(step.number), layout.axis.top + 25.0, "tick", step.record.op);
+    }
+}
+
+/// Where ids are left out, unless there are too many such places.
+fn cuts(svg: &mut Svg, layout: &Layout) {
+    let cuts = &layout.ids.cuts;
+    for (from, to) in cuts.iter().filter(|_| cuts.len() <= CUTS) {
+        let y = (layout.y(*from) + layout.y(*to)) / 2.0;
+        let told = format!("left out: the ids between {from} and {to}");
+        svg.stroke([LEFT, y, layout.frame.end(), y], "cut", &told);
     }
 }
 
@@ -112,8 +117,8 @@ fn columns(svg: &mut Svg, layout: &Layout) {
     }
 }
 
-/// From each vacuum down to its holder's row.
-fn guides(svg: &mut Svg, layout: &Layout) {
+/// From each vacuum down to its holder's row, but for the records' numbers.
+pub fn guides(svg: &mut Svg, layout: &Layout) {
     if layout.story.vacuums().count() > GUIDES {
         return;
     }
@@ -123,14 +128,18 @@ fn guides(svg: &mut Svg, layout: &Layout) {
         };
         let row = layout.rows.row(layout.story.hold(at).0.place);
         let x = layout.frame.at(step.number);
-        svg.stroke([x, layout.y(step.answer.line), x, row.middle()], "guide", "");
+        let (line, bottom) = (layout.y(step.answer.line), layout.chart.bottom());
+        svg.stroke([x, line, x, bottom], "guide", "");
+        svg.stroke([x, layout.axis.bottom(), x, row.middle()], "guide", "");
     }
 }
 
-/// A mark on the line at each vacuum, full where somebody held it, with the line beside it where there is room.
+/// A mark on the line at each vacuum, full where somebody held it, and beside it a line that is another than before, where
+/// there is room.
 fn vacuums(svg: &mut Svg, layout: &Layout) {
     let half = layout.frame.mark();
-    let mut free = f64::MIN;
+    let (mut free, mut height) = (f64::MIN, f64::MIN);
+    let mut told = None;
     for step in layout.story.vacuums() {
         let (x, y) = (layout.frame.at(step.number), layout.y(step.answer.line));
         let class = match step.holder {
@@ -139,9 +148,15 @@ fn vacuums(svg: &mut Svg, layout: &Layout) {
         };
         svg.diamond(x, y, half, class, &words::step(layout.story, step));
         let line = format!("line {}", step.answer.line);
-        if x >= free && x + labels::width(&line) + 8.0 <= layout.frame.width() {
-            svg.words(x + half + 2.0, y - 5.0, "value", &line);
-            free = x + labels::width(&line) + 12.0;
+        let wide = labels::width(&line) + 4.0;
+        // To the right of the mark, or to the left of one at the edge.
+        let right = x + half + 2.0;
+        let place = if right + wide > layout.frame.width() { x - half - wide } else { right };
+        let room = place >= free || (y - height).abs() >= 12.0;
+        if room && told != Some(step.answer.line) {
+            svg.words(place, y - 5.0, "value", &line);
+            (free, height) = (place + wide, y);
+            told = Some(step.answer.line);
         }
     }
 }
@@ -159,9 +174,9 @@ mod tests {
         let story = made_up::story_of(&text, &said);
         let layout = Layout::of(&story, 0.0);
         let heights = [None, Some(9.0), None, Some(5.0)];
-        assert_eq!(stairs(&layout, &heights), "M154 9H198M242 5H264");
+        assert_eq!(stairs(&layout, &heights), "M162 9H206M250 5H272");
         let flat = [Some(1.0), Some(1.0), Some(2.0), Some(2.0)];
-        assert_eq!(stairs(&layout, &flat), "M132 1H198V2H264");
+        assert_eq!(stairs(&layout, &flat), "M140 1H206V2H272");
     }
 
     #[test]
@@ -169,10 +184,12 @@ mod tests {
         let (text, said) = made_up::with_pins();
         let story = made_up::story_of(&text, &said);
         let mut svg = Svg::default();
-        draw(&mut svg, &Layout::of(&story, 0.0));
+        let layout = Layout::of(&story, 0.0);
+        draw(&mut svg, &layout);
+        guides(&mut svg, &layout);
         assert_eq!(svg.text.matches("class=\"vacuum\"").count(), 3);
         assert_eq!(svg.text.matches("class=\"column\"").count(), 9);
-        assert_eq!(svg.text.matches("class=\"guide\"").count(), 3);
+        assert_eq!(svg.text.matches("class=\"guide\"").count(), 6);
     }
 
     #[test]

@@ -2,7 +2,7 @@
 //! lasts to the middle of the next.
 
 /// Room for the names of the rows, and for a number of twenty digits.
-pub const LEFT: f64 = 132.0;
+pub const LEFT: f64 = 140.0;
 const RIGHT: f64 = 28.0;
 const NARROWEST: f64 = 1.25;
 const WIDEST: f64 = 44.0;

@@ -1,5 +1,5 @@
 //! How high an id stands. Ids are drawn to scale, but for a stretch in which nothing happens and which is far longer than
-//! the others, as after a jump of the clock: that is cut short, and told.
+//! the others, as after a jump of the clock: that is cut short, and the legend says so.
 
 /// A stretch this many times the middle one is cut to it.
 const LONGEST: u128 = 8;

@@ -1,9 +1,16 @@
 //! Words that have to find room. A letter is taken to be as wide as a wide font has it, so that what fits here fits there.
 
-const LETTER: f64 = 6.4;
-
 pub fn width(words: &str) -> f64 {
-    words.chars().count() as f64 * LETTER
+    words.chars().map(letter).sum()
+}
+
+/// Of eleven pixels' height.
+fn letter(letter: char) -> f64 {
+    match letter {
+        'f' | 'i' | 'j' | 'l' | 'r' | 't' | ' ' | ',' | ':' => 4.5,
+        'm' | 'w' | 'M' | 'W' => 11.0,
+        _ => 7.0,
+    }
 }
 
 /// The first of the wordings, the longest first, that has room in this width; none where none has.
@@ -50,8 +57,9 @@ mod tests {
     #[test]
     fn the_longest_wording_that_fits_is_taken() {
         let wordings = words(&["slot 2, id 3", "slot 2", "2"]);
+        assert_eq!(width(&wordings[1]), 34.5);
         assert_eq!(fitting(&wordings, 100.0), "slot 2, id 3");
-        assert_eq!(fitting(&wordings, 50.0), "slot 2");
+        assert_eq!(fitting(&wordings, 44.0), "slot 2");
         assert_eq!(fitting(&wordings, 13.0), "2");
         assert_eq!(fitting(&wordings, 5.0), "");
     }
@@ -72,7 +80,7 @@ mod tests {
 
     #[test]
     fn a_label_at_the_edge_is_moved_into_the_picture() {
-        let placed = packed(&[(95.0, words(&["ten letter"]))], 100.0, 1);
-        assert_eq!(placed[0].x, 36.0);
+        let placed = packed(&[(95.0, words(&["ten"]))], 100.0, 1);
+        assert_eq!(placed[0].x, 81.5);
     }
 }

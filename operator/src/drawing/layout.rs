@@ -42,8 +42,8 @@ impl<'a> Layout<'a> {
     pub fn of(story: &'a Story<'a>, top: f64) -> Layout<'a> {
         let frame = Frame::of(story.steps.len());
         let band = |top: f64, height: f64| Band { top, height };
-        let chart = band(top + 16.0, CHART);
-        let axis = band(chart.bottom() + 2.0, if ops_have_room(&frame) { 30.0 } else { 18.0 });
+        let chart = band(top + 26.0, CHART);
+        let axis = band(chart.bottom() + 6.0, if ops_have_room(&frame) { 30.0 } else { 18.0 });
         let held = band(axis.bottom() + BETWEEN, HELD);
         let refused = band(held.bottom() + BETWEEN, lanes::refused_height(story, &frame));
         let places: BTreeSet<Place> = story.stays.iter().map(|stay| stay.place).collect();
@@ -94,7 +94,7 @@ pub fn ops_have_room(frame: &Frame) -> bool {
 }
 
 /// All ids that the chart shows.
-fn ids(story: &Story) -> Ids {
+pub fn ids(story: &Story) -> Ids {
     let clocks = story.steps.iter().map(|step| step.clock);
     let lines = story.steps.iter().map(|step| step.answer.line);
     let oldest = story.steps.iter().filter_map(|step| step.oldest);

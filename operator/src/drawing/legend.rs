@@ -17,8 +17,8 @@ enum Sign {
     Cross,
 }
 
-/// The entries that the story needs: no pins without pins, no refusals without refusals.
-fn entries(story: &Story) -> Vec<(Sign, &'static str)> {
+/// The entries that the story needs: no pins without pins, no refusals without refusals, no cut without one.
+fn entries(story: &Story, cut: bool) -> Vec<(Sign, &'static str)> {
     let pins = story.stays.iter().any(|stay| matches!(stay.place, Place::Pin(_)));
     let refused = story.steps.iter().any(|step| !step.answer.accepted());
     let mut all = vec![
@@ -36,13 +36,16 @@ fn entries(story: &Story) -> Vec<(Sign, &'static str)> {
     if refused {
         all.push((Sign::Cross, "a refused call, with its number and name"));
     }
+    if cut {
+        all.push((Sign::Stroke("cut"), "many ids between two are left out: not to scale"));
+    }
     all
 }
 
 /// Draws it from the top, and answers where it ends.
-pub fn draw(svg: &mut Svg, story: &Story, width: f64) -> f64 {
+pub fn draw(svg: &mut Svg, story: &Story, cut: bool, width: f64) -> f64 {
     let (mut x, mut top) = (INDENT, 4.0);
-    for (sign, words) in entries(story) {
+    for (sign, words) in entries(story, cut) {
         let wide = SIGN + 6.0 + labels::width(words) + 14.0;
         if x > INDENT && x + wide > width {
             x = INDENT;
@@ -73,16 +76,16 @@ mod tests {
     #[test]
     fn the_legend_tells_what_is_there() {
         let (text, said) = made_up::with_pins();
-        let all = entries(&made_up::story_of(&text, &said)).len();
-        let none = entries(&Story::of(b"trace=proc-2\n", b"records=0\n").unwrap()).len();
-        assert_eq!((all, none), (9, 7));
+        let all = entries(&made_up::story_of(&text, &said), true).len();
+        let none = entries(&Story::of(b"trace=proc-2\n", b"records=0\n").unwrap(), false).len();
+        assert_eq!((all, none), (10, 7));
     }
 
     #[test]
     fn entries_stay_inside_the_picture() {
         let (text, said) = made_up::with_pins();
         let mut svg = Svg::default();
-        let end = draw(&mut svg, &made_up::story_of(&text, &said), 900.0);
+        let end = draw(&mut svg, &made_up::story_of(&text, &said), true, 900.0);
         assert!(end > LINE);
         for entry in svg.text.split("<text").skip(1) {
             let x: f64 = entry.split("x=\"").nth(1).unwrap().split('"').next().unwrap().parse().unwrap();

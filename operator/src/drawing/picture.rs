@@ -1,7 +1,7 @@
 //! The whole picture: the legend, the ids, who held the line, the refused calls, and the rows.
 
 use super::frame::Frame;
-use super::layout::Layout;
+use super::layout::{self, Layout};
 use super::svg::{Svg, short};
 use super::{chart, lanes, legend, rows};
 use crate::account::story::Story;
@@ -14,13 +14,16 @@ patternTransform=\"rotate(45)\"><rect class=\"hatch-ground\" width=\"6\" height=
 pub fn picture(story: &Story) -> String {
     let mut svg = Svg::default();
     let width = Frame::of(story.steps.len()).width();
-    let top = legend::draw(&mut svg, story, width);
+    let cut = !layout::ids(story).cuts.is_empty();
+    let top = legend::draw(&mut svg, story, cut, width);
     let layout = Layout::of(story, top);
-    // The bars stand on the guides that come down from the chart.
     chart::draw(&mut svg, &layout);
     lanes::held(&mut svg, &layout);
+    rows::names(&mut svg, &layout);
+    // Bars and words stand on the guides that come down from the chart.
+    chart::guides(&mut svg, &layout);
     lanes::refused(&mut svg, &layout);
-    rows::draw(&mut svg, &layout);
+    rows::bars(&mut svg, &layout);
     let (width, height) = (short(width), short(layout.bottom()));
     format!(
         "<svg role=\"img\" aria-label=\"The records from left to right, with who held the line\" \

@@ -5,57 +5,71 @@ use super::frame::LEFT;
 use super::labels;
 use super::layout::{Band, Layout};
 use super::svg::Svg;
-use crate::account::culprits::{self, Culprit};
+use crate::account::culprits;
 use crate::account::places::Place;
 use crate::account::story::{Hold, Holder, Stay};
 use crate::account::words;
 
-/// Rows lower than this have no words in their bars, and only every tenth has its name.
+/// Rows lower than this have no words in their bars, and only every tenth and those who held the line have their names.
 const LEGIBLE: f64 = 12.0;
 
-pub fn draw(svg: &mut Svg, layout: &Layout) {
+/// The rows and their names; the names of those who held the line are marked.
+pub fn names(svg: &mut Svg, layout: &Layout) {
     let culprits = culprits::culprits(layout.story);
+    let mut free = f64::MIN;
     for (row, &place) in layout.rows.places.iter().enumerate() {
-        name(svg, layout, row, place, &culprits);
+        let band = layout.rows.row(place);
+        if row % 2 == 0 {
+            svg.rect([LEFT, band.top, layout.frame.end() - LEFT, band.height], "lane", "");
+        }
+        let held = culprits.iter().any(|one| one.stay.place == place);
+        let class = if held { "name culprit" } else { "name" };
+        let wanted = held || row % 10 == 0 || band.height >= LEGIBLE;
+        if wanted && band.top >= free {
+            svg.words(LEFT - 8.0, band.middle() + 4.0, class, &place.to_string());
+            free = band.top + LEGIBLE;
+        }
     }
+}
+
+pub fn bars(svg: &mut Svg, layout: &Layout) {
+    let culprits = culprits::culprits(layout.story);
     for stay in &layout.story.stays {
-        bar(svg, layout, stay, &culprits);
+        for hold in &stay.holds {
+            let named = culprits.iter().find(|one| std::ptr::eq(one.hold, hold));
+            bar(svg, layout, stay, hold, named.map_or(&[], |one| &one.vacuums));
+        }
     }
     holders(svg, layout);
 }
 
-fn name(svg: &mut Svg, layout: &Layout, row: usize, place: Place, culprits: &[Culprit]) {
-    let band = layout.rows.row(place);
-    if row % 2 == 0 {
-        svg.rect([LEFT, band.top, layout.frame.end() - LEFT, band.height], "lane", "");
+/// One hold, and the vacuums that named it.
+fn bar(svg: &mut Svg, layout: &Layout, stay: &Stay, hold: &Hold, vacuums: &[usize]) {
+    let band = inner(layout.rows.row(stay.place));
+    let title = told(stay, hold, vacuums);
+    let class = match stay.place {
+        Place::Slot(_) => "bar",
+        Place::Pin(_) => "bar pin",
+    };
+    let (from, to) = (layout.frame.at(hold.from), layout.frame.until(hold.to));
+    let marks: Vec<f64> = vacuums.iter().map(|vacuum| layout.frame.at(*vacuum)).collect();
+    svg.rect([from, band.top, to - from, band.height], class, &title);
+    if let Some(&first) = marks.first() {
+        svg.rect([first, band.top, to - first, band.height], "held", &title);
     }
-    let held = culprits.iter().any(|one| one.stay.place == place);
-    if band.height >= LEGIBLE || row % 10 == 0 {
-        let class = if held { "name culprit" } else { "name" };
-        svg.words(LEFT - 8.0, band.middle() + 4.0, class, &place.to_string());
+    if layout.rows.height >= LEGIBLE {
+        let (x, room) = widest(from, &marks, to, layout.frame.mark());
+        let wordings = wordings(stay, hold);
+        svg.words(x + 4.0, band.middle() + 4.0, "in", labels::fitting(&wordings, room));
     }
 }
 
-fn bar(svg: &mut Svg, layout: &Layout, stay: &Stay, culprits: &[Culprit]) {
-    let band = inner(layout.rows.row(stay.place));
-    for hold in &stay.holds {
-        let named = culprits.iter().find(|one| std::ptr::eq(one.hold, hold));
-        let vacuums = named.map_or(&[][..], |one| &one.vacuums);
-        let title = told(stay, hold, vacuums);
-        let class = match stay.place {
-            Place::Slot(_) => "bar",
-            Place::Pin(_) => "bar pin",
-        };
-        part(svg, layout, band, (hold.from, hold.to), class, &title);
-        if let Some(first) = vacuums.first() {
-            part(svg, layout, band, (*first, hold.to), "held", &title);
-        }
-        if band.height >= LEGIBLE - 4.0 {
-            let (from, to) = (layout.frame.at(hold.from), layout.frame.until(hold.to));
-            let wordings = wordings(stay, hold);
-            svg.words(from + 4.0, band.middle() + 4.0, "in", labels::fitting(&wordings, to - from));
-        }
-    }
+/// The widest stretch of a bar that no mark covers: where it begins, and how wide it is.
+fn widest(from: f64, marks: &[f64], to: f64, half: f64) -> (f64, f64) {
+    let begins = [from].into_iter().chain(marks.iter().map(|mark| mark + half));
+    let ends = marks.iter().map(|mark| mark - half).chain([to]);
+    let stretches = begins.zip(ends).map(|(begin, end)| (begin, end - begin));
+    stretches.fold((from, 0.0), |best, next| if next.1 > best.1 { next } else { best })
 }
 
 /// A row without its margins.
@@ -64,19 +78,11 @@ fn inner(row: Band) -> Band {
     Band { top: row.top + margin, height: row.height - 2.0 * margin }
 }
 
-fn part(svg: &mut Svg, layout: &Layout, band: Band, (from, to): (usize, Option<usize>), class: &str, title: &str) {
-    let (from, to) = (layout.frame.at(from), layout.frame.until(to));
-    svg.rect([from, band.top, to - from, band.height], class, title);
-}
-
-/// The first hold of a stay also says whose it is.
+/// What a bar says, the longest first.
 fn wordings(stay: &Stay, hold: &Hold) -> Vec<String> {
-    let xmin = format!("xmin {}", hold.xmin);
-    let mut all = vec![xmin, hold.xmin.to_string()];
-    if let Some(id) = stay.id {
-        all.insert(0, format!("id {id}, xmin {}", hold.xmin));
-    }
-    all
+    let whose = stay.id.map(|id| format!("id {id}, xmin {}", hold.xmin));
+    let short = [format!("xmin {}", hold.xmin), hold.xmin.to_string()];
+    whose.into_iter().chain(short).collect()
 }
 
 fn told(stay: &Stay, hold: &Hold, vacuums: &[usize]) -> String {
@@ -111,7 +117,9 @@ mod tests {
         let (text, said) = made_up::with_pins();
         let story = made_up::story_of(&text, &said);
         let mut svg = Svg::default();
-        draw(&mut svg, &Layout::of(&story, 0.0));
+        let layout = Layout::of(&story, 0.0);
+        names(&mut svg, &layout);
+        bars(&mut svg, &layout);
         svg.text
     }
 
@@ -131,12 +139,19 @@ mod tests {
         assert_eq!(drawn.matches("class=\"held\"").count(), 2);
     }
 
+    #[test]
+    fn words_stand_between_the_marks() {
+        assert_eq!(widest(0.0, &[], 50.0, 5.0), (0.0, 50.0));
+        assert_eq!(widest(0.0, &[20.0], 100.0, 5.0), (25.0, 75.0));
+        assert_eq!(widest(0.0, &[60.0, 70.0], 100.0, 5.0), (0.0, 55.0));
+    }
+
     /// The pin's bar begins in the middle of column 2, is held from the middle of column 5, and ends in that of column 6.
     #[test]
     fn bars_begin_and_end_in_their_columns() {
         let drawn = drawn();
-        assert!(drawn.contains("<rect class=\"bar pin\" x=\"198\""));
-        assert!(drawn.contains("<rect class=\"held\" x=\"330\""));
+        assert!(drawn.contains("<rect class=\"bar pin\" x=\"206\""));
+        assert!(drawn.contains("<rect class=\"held\" x=\"338\""));
         let pin = drawn.split("class=\"bar pin\"").nth(1).unwrap();
         assert!(pin.split('>').next().unwrap().contains("width=\"176\""));
     }
