@@ -26,7 +26,10 @@ the page and standard error say why and at which line.";
 pub extern "C" fn main() -> c_int {
     library::ignore_broken_pipes();
     let mut arguments: Vec<OsString> = std::env::args_os().skip(1).collect();
-    if arguments.iter().any(|word| word == "-h" || word == "--help") {
+    if arguments
+        .iter()
+        .any(|word| word == "-h" || word == "--help")
+    {
         return print(0, &format!("{HELP}\n"));
     }
     let as_text = arguments.first().is_some_and(|word| word == "--text");
@@ -71,9 +74,16 @@ fn run(from: RawFd, name: &str, as_text: bool) -> c_int {
 /// The reason is on the page too; the text for a terminal has none, as no record was run.
 fn refused(name: &str, text: &[u8], as_text: bool) -> c_int {
     let reason = why::of_trace(text, library::broken_line(text));
-    let page = if as_text { String::new() } else { page::refused(name, &reason) };
+    let page = if as_text {
+        String::new()
+    } else {
+        page::refused(name, &reason)
+    };
     match print(3, &page) {
-        3 => stop(3, &format!("{name} is no trace, so nothing was run. {reason}")),
+        3 => stop(
+            3,
+            &format!("{name} is no trace, so nothing was run. {reason}"),
+        ),
         status => status,
     }
 }

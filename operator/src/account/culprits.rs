@@ -44,7 +44,12 @@ pub fn culprits<'a>(story: &'a Story) -> Vec<Culprit<'a>> {
     }
     let mut all: Vec<Culprit> = found.into_values().collect();
     let records = story.steps.len();
-    all.sort_by_key(|one| (std::cmp::Reverse((one.length(records), one.back)), one.hold.from));
+    all.sort_by_key(|one| {
+        (
+            std::cmp::Reverse((one.length(records), one.back)),
+            one.hold.from,
+        )
+    });
     all
 }
 
@@ -72,7 +77,11 @@ pub fn reigns(story: &Story) -> Vec<Reign> {
         }
         if let Some(at) = at {
             let to = story.hold(at).1.to;
-            all.push(Reign { at, from: step.number, to });
+            all.push(Reign {
+                at,
+                from: step.number,
+                to,
+            });
         }
     }
     all
@@ -90,7 +99,15 @@ mod tests {
         let story = made_up::story_of(&text, &said);
         let all: Vec<_> = culprits(&story)
             .into_iter()
-            .map(|one| (one.stay.place, one.length(9), one.vacuums, one.line, one.back))
+            .map(|one| {
+                (
+                    one.stay.place,
+                    one.length(9),
+                    one.vacuums,
+                    one.line,
+                    one.back,
+                )
+            })
             .collect();
         let expected = [
             (Place::Slot(1), 6, vec![8, 9], 2, 4),
@@ -106,8 +123,16 @@ mod tests {
         let pin = HoldAt { stay: 1, hold: 0 };
         let slot = HoldAt { stay: 2, hold: 0 };
         let expected = [
-            Reign { at: pin, from: 5, to: Some(6) },
-            Reign { at: slot, from: 8, to: None },
+            Reign {
+                at: pin,
+                from: 5,
+                to: Some(6),
+            },
+            Reign {
+                at: slot,
+                from: 8,
+                to: None,
+            },
         ];
         assert_eq!(reigns(&story), expected);
     }
@@ -135,7 +160,10 @@ mod tests {
             "0 0 0 0 0 0 3 0 0",
         ]);
         let story = made_up::story_of(&text, &said);
-        let spans: Vec<_> = reigns(&story).iter().map(|one| (one.at.stay, one.from, one.to)).collect();
+        let spans: Vec<_> = reigns(&story)
+            .iter()
+            .map(|one| (one.at.stay, one.from, one.to))
+            .collect();
         assert_eq!(spans, [(1, 4, Some(6)), (0, 6, None)]);
     }
 }

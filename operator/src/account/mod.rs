@@ -6,6 +6,7 @@ pub mod places;
 pub mod records;
 pub mod refusals;
 pub mod story;
+mod teller;
 pub mod words;
 
 #[cfg(test)]

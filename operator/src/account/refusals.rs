@@ -16,11 +16,7 @@ const REFUSALS: [(u64, &str, &str); 12] = [
         "the number is 0, below the clock, or 2^64 - 1",
     ),
     (7, "BadClock", "the clock given is below the table's"),
-    (
-        8,
-        "BadSample",
-        "the sample is 0, or above the clock given",
-    ),
+    (8, "BadSample", "the sample is 0, or above the clock given"),
     (
         13,
         "WildJump",

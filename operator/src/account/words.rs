@@ -49,7 +49,9 @@ pub fn answer(op: &str, answer: &Answer) -> String {
 }
 
 fn snapshot(answer: &Answer) -> String {
-    let Answer { xmin, xmax, count, .. } = answer;
+    let Answer {
+        xmin, xmax, count, ..
+    } = answer;
     format!("xmin {xmin}, xmax {xmax}, {count} in flight")
 }
 
@@ -90,7 +92,10 @@ pub fn step(story: &Story, step: &Step) -> String {
         _ => format!(", held by {}", holder(story, step)),
     };
     let (call, answer) = (call(&step.record), answer(step.record.op, &step.answer));
-    format!("record {}: {call}: {answer}{held}; clock {}, line {}", step.number, step.clock, step.answer.line)
+    format!(
+        "record {}: {call}: {answer}{held}; clock {}, line {}",
+        step.number, step.clock, step.answer.line
+    )
 }
 
 /// `from record 5 to 13`, or to the end.
@@ -119,28 +124,58 @@ mod tests {
 
     #[test]
     fn records_in_one_sentence() {
-        assert_eq!(told(1), "record 1: begin stamp=1: slot 0, id 1; clock 2, line 1");
+        assert_eq!(
+            told(1),
+            "record 1: begin stamp=1: slot 0, id 1; clock 2, line 1"
+        );
         assert_eq!(
             told(2),
             "record 2: pin clock=2 sample=2: pin 0, xmin 1, xmax 2, 1 in flight; clock 2, line 1"
         );
-        assert_eq!(told(4), "record 4: finish slot=0 id=1 stamp=3: finished, stamp 3; clock 4, line 1");
-        assert_eq!(told(5), "record 5: vacuum clock=6 sample=6: line 1, held by pin 0; clock 6, line 1");
+        assert_eq!(
+            told(4),
+            "record 4: finish slot=0 id=1 stamp=3: finished, stamp 3; clock 4, line 1"
+        );
+        assert_eq!(
+            told(5),
+            "record 5: vacuum clock=6 sample=6: line 1, held by pin 0; clock 6, line 1"
+        );
         assert_eq!(told(6), "record 6: unpin slot=0: released; clock 6, line 1");
-        assert_eq!(told(7), "record 7: unpin slot=0: refused 16 FreePin: pin 0; clock 6, line 1");
-        assert_eq!(told(8), "record 8: vacuum clock=6 sample=6: line 2, held by slot 1, id 2; clock 6, line 2");
+        assert_eq!(
+            told(7),
+            "record 7: unpin slot=0: refused 16 FreePin: pin 0; clock 6, line 1"
+        );
+        assert_eq!(
+            told(8),
+            "record 8: vacuum clock=6 sample=6: line 2, held by slot 1, id 2; clock 6, line 2"
+        );
     }
 
     #[test]
     fn refusals_carry_what_the_answer_has() {
         let refusal = |number, slot, id, seen| {
-            let given = Answer { number, slot, id, seen, ..Answer::default() };
+            let given = Answer {
+                number,
+                slot,
+                id,
+                seen,
+                ..Answer::default()
+            };
             answer("end", &given)
         };
-        assert_eq!(refusal(1, 0, 400, 0), "refused 1 NoFreeSlot: 400 is used up");
+        assert_eq!(
+            refusal(1, 0, 400, 0),
+            "refused 1 NoFreeSlot: 400 is used up"
+        );
         assert_eq!(refusal(2, 300, 0, 0), "refused 2 InvalidSlot: slot 300");
-        assert_eq!(refusal(3, 0, 2, 1), "refused 3 SlotOwnershipMismatch: slot 0 holds 1, not 2");
-        assert_eq!(refusal(3, 0, 5, 0), "refused 3 SlotOwnershipMismatch: slot 0 is empty, not 5");
+        assert_eq!(
+            refusal(3, 0, 2, 1),
+            "refused 3 SlotOwnershipMismatch: slot 0 holds 1, not 2"
+        );
+        assert_eq!(
+            refusal(3, 0, 5, 0),
+            "refused 3 SlotOwnershipMismatch: slot 0 is empty, not 5"
+        );
         assert_eq!(refusal(6, 0, 0, 0), "refused 6 BadReservation");
         assert_eq!(refusal(14, 0, 0, 0), "refused 14 NoFreePin");
     }

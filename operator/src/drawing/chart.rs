@@ -1,36 +1,35 @@
-//! The ids over the records: the clock, the oldest retained xmin and the line, and a mark at each vacuum.
+//! The ids over the records: the clock, the oldest retained xmin and the line.
 
 use super::frame::LEFT;
-use super::labels;
 use super::layout::{self, Layout};
 use super::svg::{Svg, short};
-use crate::account::story::{FRESH, Holder};
-use crate::account::words;
+use crate::account::story::{FRESH, Step};
 
-/// More vacuums than these have no line down to their holder, which would hide the rows.
-const GUIDES: usize = 80;
 /// More cuts than these are told by the legend alone.
 const CUTS: usize = 12;
 
 pub fn draw(svg: &mut Svg, layout: &Layout) {
     axis(svg, layout);
-    let clock: Vec<_> = heights(layout, |step| Some(step.0));
-    let line: Vec<_> = heights(layout, |step| Some(step.1));
-    let oldest: Vec<_> = heights(layout, |step| step.2);
+    let clock = heights(layout, Some(FRESH), |step| Some(step.clock));
+    let line = heights(layout, Some(FRESH), |step| Some(step.answer.line));
+    let oldest = heights(layout, None, |step| step.oldest);
     svg.path(&area(layout, &line, &clock), "kept", "");
     cuts(svg, layout);
     svg.path(&stairs(layout, &line), "line", "");
     svg.path(&stairs(layout, &clock), "clock", "");
     svg.path(&stairs(layout, &oldest), "oldest", "");
-    columns(svg, layout);
-    vacuums(svg, layout);
 }
 
-/// The heights, after 0 records, 1, 2 .., of what `of` takes from clock, line and oldest.
-fn heights(layout: &Layout, of: impl Fn((u64, u64, Option<u64>)) -> Option<u64>) -> Vec<Option<f64>> {
-    let fresh = (FRESH, FRESH, None);
-    let after = layout.story.steps.iter().map(|step| (step.clock, step.answer.line, step.oldest));
-    [fresh].into_iter().chain(after).map(|step| of(step).map(|id| layout.y(id))).collect()
+/// How high something stands on the fresh table and after each record; nothing where it is none.
+fn heights(
+    layout: &Layout,
+    fresh: Option<u64>,
+    after: impl Fn(&Step) -> Option<u64>,
+) -> Vec<Option<f64>> {
+    let ids = [fresh]
+        .into_iter()
+        .chain(layout.story.steps.iter().map(after));
+    ids.map(|id| id.map(|id| layout.y(id))).collect()
 }
 
 /// A path that goes on at one height until the next record that changes it; broken where there is none.
@@ -65,7 +64,14 @@ fn area(layout: &Layout, line: &[Option<f64>], clock: &[Option<f64>]) -> String 
         drawn.push_str(&format!("{sign}{} {}", short(x), short(y)));
     };
     let mut drawn = String::new();
-    let spans = |record: usize| (layout.frame.at(record), layout.frame.until((record + 1 < line.len()).then_some(record + 1)));
+    let spans = |record: usize| {
+        (
+            layout.frame.at(record),
+            layout
+                .frame
+                .until((record + 1 < line.len()).then_some(record + 1)),
+        )
+    };
     for (record, y) in clock.iter().enumerate() {
         let (from, to) = spans(record);
         corner(&mut drawn, from, y.unwrap_or(0.0));
@@ -90,10 +96,25 @@ fn axis(svg: &mut Svg, layout: &Layout) {
     }
     svg.words(LEFT - 8.0, layout.axis.top + 12.0, "name", "record");
     for record in frame.ticks() {
-        svg.words(frame.at(record), layout.axis.top + 12.0, "tick", &record.to_string());
+        svg.words(
+            frame.at(record),
+            layout.axis.top + 12.0,
+            "tick",
+            &record.to_string(),
+        );
     }
-    for step in layout.story.steps.iter().filter(|_| layout::ops_have_room(frame)) {
-        svg.words(frame.at(step.number), layout.axis.top + 25.0, "tick", step.record.op);
+    for step in layout
+        .story
+        .steps
+        .iter()
+        .filter(|_| layout::ops_have_room(frame))
+    {
+        svg.words(
+            frame.at(step.number),
+            layout.axis.top + 25.0,
+            "tick",
+            step.record.op,
+        );
     }
 }
 
@@ -107,60 +128,6 @@ fn cuts(svg: &mut Svg, layout: &Layout) {
     }
 }
 
-/// Each record's column, to point at.
-fn columns(svg: &mut Svg, layout: &Layout) {
-    let column = layout.frame.column;
-    for step in &layout.story.steps {
-        let x = layout.frame.at(step.number) - column / 2.0;
-        let place = [x, layout.chart.top, column, layout.chart.height];
-        svg.rect(place, "column", &words::step(layout.story, step));
-    }
-}
-
-/// From each vacuum down to its holder's row, but for the records' numbers.
-pub fn guides(svg: &mut Svg, layout: &Layout) {
-    if layout.story.vacuums().count() > GUIDES {
-        return;
-    }
-    for step in layout.story.vacuums() {
-        let Holder::Hold(at) = step.holder else {
-            continue;
-        };
-        let row = layout.rows.row(layout.story.hold(at).0.place);
-        let x = layout.frame.at(step.number);
-        let (line, bottom) = (layout.y(step.answer.line), layout.chart.bottom());
-        svg.stroke([x, line, x, bottom], "guide", "");
-        svg.stroke([x, layout.axis.bottom(), x, row.middle()], "guide", "");
-    }
-}
-
-/// A mark on the line at each vacuum, full where somebody held it, and beside it a line that is another than before, where
-/// there is room.
-fn vacuums(svg: &mut Svg, layout: &Layout) {
-    let half = layout.frame.mark();
-    let (mut free, mut height) = (f64::MIN, f64::MIN);
-    let mut told = None;
-    for step in layout.story.vacuums() {
-        let (x, y) = (layout.frame.at(step.number), layout.y(step.answer.line));
-        let class = match step.holder {
-            Holder::Hold(_) => "vacuum",
-            _ => "vacuum nobody",
-        };
-        svg.diamond(x, y, half, class, &words::step(layout.story, step));
-        let line = format!("line {}", step.answer.line);
-        let wide = labels::width(&line) + 4.0;
-        // To the right of the mark, or to the left of one at the edge.
-        let right = x + half + 2.0;
-        let place = if right + wide > layout.frame.width() { x - half - wide } else { right };
-        let room = place >= free || (y - height).abs() >= 12.0;
-        if room && told != Some(step.answer.line) {
-            svg.words(place, y - 5.0, "value", &line);
-            (free, height) = (place + wide, y);
-            told = Some(step.answer.line);
-        }
-    }
-}
-
 #[cfg(test)]
 mod tests {
     use super::*;
@@ -169,27 +136,21 @@ mod tests {
 
     #[test]
     fn stairs_change_at_the_record_and_break_where_nothing_is() {
-        let text = made_up::trace("proc-2", &["begin 0 0 1 0 0", "end 0 1 0 0 0", "begin 0 0 2 0 0"]);
-        let said = made_up::output(&["0 0 1 0 0 0 1 0 0", "0 0 0 0 0 0 1 0 0", "0 0 2 0 0 0 1 0 0"]);
+        let text = made_up::trace(
+            "proc-2",
+            &["begin 0 0 1 0 0", "end 0 1 0 0 0", "begin 0 0 2 0 0"],
+        );
+        let said = made_up::output(&[
+            "0 0 1 0 0 0 1 0 0",
+            "0 0 0 0 0 0 1 0 0",
+            "0 0 2 0 0 0 1 0 0",
+        ]);
         let story = made_up::story_of(&text, &said);
         let layout = Layout::of(&story, 0.0);
         let heights = [None, Some(9.0), None, Some(5.0)];
         assert_eq!(stairs(&layout, &heights), "M162 9H206M250 5H272");
         let flat = [Some(1.0), Some(1.0), Some(2.0), Some(2.0)];
         assert_eq!(stairs(&layout, &flat), "M140 1H206V2H272");
-    }
-
-    #[test]
-    fn each_vacuum_has_one_mark_and_each_record_one_column() {
-        let (text, said) = made_up::with_pins();
-        let story = made_up::story_of(&text, &said);
-        let mut svg = Svg::default();
-        let layout = Layout::of(&story, 0.0);
-        draw(&mut svg, &layout);
-        guides(&mut svg, &layout);
-        assert_eq!(svg.text.matches("class=\"vacuum\"").count(), 3);
-        assert_eq!(svg.text.matches("class=\"column\"").count(), 9);
-        assert_eq!(svg.text.matches("class=\"guide\"").count(), 6);
     }
 
     #[test]

@@ -50,7 +50,10 @@ impl Frame {
     /// The records whose numbers are written: as many as have room, in round steps.
     pub fn ticks(&self) -> impl Iterator<Item = usize> {
         let steps = [1, 2, 5, 10, 20, 50, 100, 200, 500];
-        let step = *steps.iter().find(|step| **step as f64 * self.column >= 30.0).unwrap_or(&500);
+        let step = *steps
+            .iter()
+            .find(|step| **step as f64 * self.column >= 30.0)
+            .unwrap_or(&500);
         (1..=self.records).filter(move |record| record % step == 0)
     }
 }

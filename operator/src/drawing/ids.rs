@@ -17,7 +17,11 @@ impl Ids {
         values.sort_unstable();
         values.dedup();
         let most = longest(&values);
-        let mut ids = Ids { values: Vec::new(), heights: Vec::new(), cuts: Vec::new() };
+        let mut ids = Ids {
+            values: Vec::new(),
+            heights: Vec::new(),
+            cuts: Vec::new(),
+        };
         for value in values {
             let height = match (ids.values.last(), ids.heights.last()) {
                 (Some(&before), Some(&height)) => {
@@ -48,7 +52,9 @@ impl Ids {
     pub fn ticks(&self, apart: f64) -> Vec<u64> {
         let mut ticks: Vec<u64> = Vec::new();
         for &value in &self.values {
-            let free = ticks.last().is_none_or(|&last| self.height(value) - self.height(last) >= apart);
+            let free = ticks
+                .last()
+                .is_none_or(|&last| self.height(value) - self.height(last) >= apart);
             if free {
                 ticks.push(value);
             }
@@ -79,7 +85,10 @@ mod tests {
     fn a_jump_is_cut_and_told() {
         let ids = Ids::of([1, 2, 3, u64::MAX].into_iter());
         assert_eq!(ids.cuts, [(3, u64::MAX)]);
-        assert_eq!([1, 2, 3, u64::MAX].map(|id| ids.height(id)), [0.0, 0.1, 0.2, 1.0]);
+        assert_eq!(
+            [1, 2, 3, u64::MAX].map(|id| ids.height(id)),
+            [0.0, 0.1, 0.2, 1.0]
+        );
     }
 
     #[test]

@@ -36,7 +36,11 @@ pub fn packed(wanted: &[(f64, Vec<String>)], end: f64, levels: usize) -> Vec<Lab
         let placed = wordings.iter().find_map(|words| {
             let x = at.min(end - width(words));
             let level = free.iter().position(|taken| *taken <= x)?;
-            Some(Label { x, level, words: words.clone() })
+            Some(Label {
+                x,
+                level,
+                words: words.clone(),
+            })
         });
         if let Some(label) = placed {
             free[label.level] = label.x + width(&label.words) + 4.0;
@@ -72,7 +76,10 @@ mod tests {
             .into_iter()
             .collect();
         let placed = packed(&wanted, 500.0, 2);
-        let short: Vec<_> = placed.iter().map(|label| (label.x, label.level, label.words.len())).collect();
+        let short: Vec<_> = placed
+            .iter()
+            .map(|label| (label.x, label.level, label.words.len()))
+            .collect();
         assert_eq!(short, [(0.0, 0, 16), (20.0, 1, 16)]);
         let apart = packed(&[(0.0, words(&["ab"])), (20.0, words(&["c"]))], 500.0, 1);
         assert_eq!(apart.len(), 2);

@@ -18,7 +18,11 @@ const MARKS: f64 = 14.0;
 pub fn held(svg: &mut Svg, layout: &Layout) {
     let (lane, frame, story) = (layout.held, &layout.frame, layout.story);
     svg.words(LEFT - 8.0, lane.middle() + 4.0, "name", "line held by");
-    svg.rect([LEFT, lane.top, frame.end() - LEFT, lane.height], "lane", "");
+    svg.rect(
+        [LEFT, lane.top, frame.end() - LEFT, lane.height],
+        "lane",
+        "",
+    );
     for reign in culprits::reigns(story) {
         let (stay, hold) = story.hold(reign.at);
         let (from, to) = (frame.at(reign.from), frame.until(reign.to));
@@ -26,8 +30,17 @@ pub fn held(svg: &mut Svg, layout: &Layout) {
         let span = words::span(reign.from, reign.to);
         let told = format!("{who} held the line {span}: it kept xmin {}", hold.xmin);
         svg.rect([from, lane.top, to - from, lane.height], "held", &told);
-        let wordings = [format!("{who}: xmin {}", hold.xmin), who, stay.place.to_string()];
-        svg.words(from + 4.0, lane.middle() + 4.0, "in", labels::fitting(&wordings, to - from));
+        let wordings = [
+            format!("{who}: xmin {}", hold.xmin),
+            who,
+            stay.place.to_string(),
+        ];
+        svg.words(
+            from + 4.0,
+            lane.middle() + 4.0,
+            "in",
+            labels::fitting(&wordings, to - from),
+        );
     }
 }
 
@@ -38,10 +51,21 @@ pub fn refused(svg: &mut Svg, layout: &Layout) {
         return;
     }
     svg.words(LEFT - 8.0, lane.top + 10.0, "name", "refused");
-    for step in layout.story.steps.iter().filter(|step| !step.answer.accepted()) {
+    for step in layout
+        .story
+        .steps
+        .iter()
+        .filter(|step| !step.answer.accepted())
+    {
         let x = layout.frame.at(step.number);
         let half = layout.frame.mark().min(4.0);
-        svg.cross(x, lane.top + 6.0, half, "refused", &words::step(layout.story, step));
+        svg.cross(
+            x,
+            lane.top + 6.0,
+            half,
+            "refused",
+            &words::step(layout.story, step),
+        );
     }
     for Label { x, level, words } in names(layout.story, &layout.frame) {
         let y = lane.top + MARKS + (level as f64 + 0.75) * LEVEL;
@@ -91,7 +115,12 @@ mod tests {
         let story = made_up::story_of(&text, &said);
         let mut svg = Svg::default();
         held(&mut svg, &Layout::of(&story, 0.0));
-        let told: Vec<&str> = svg.text.split("<title>").skip(1).filter_map(|rest| rest.split('<').next()).collect();
+        let told: Vec<&str> = svg
+            .text
+            .split("<title>")
+            .skip(1)
+            .filter_map(|rest| rest.split('<').next())
+            .collect();
         let expected = [
             "pin 0 held the line from record 5 to 6: it kept xmin 1",
             "slot 1, id 2 held the line from record 8 to the end: it kept xmin 2",

@@ -43,9 +43,15 @@ impl<'a> Layout<'a> {
         let frame = Frame::of(story.steps.len());
         let band = |top: f64, height: f64| Band { top, height };
         let chart = band(top + 26.0, CHART);
-        let axis = band(chart.bottom() + 6.0, if ops_have_room(&frame) { 30.0 } else { 18.0 });
+        let axis = band(
+            chart.bottom() + 6.0,
+            if ops_have_room(&frame) { 30.0 } else { 18.0 },
+        );
         let held = band(axis.bottom() + BETWEEN, HELD);
-        let refused = band(held.bottom() + BETWEEN, lanes::refused_height(story, &frame));
+        let refused = band(
+            held.bottom() + BETWEEN,
+            lanes::refused_height(story, &frame),
+        );
         let places: BTreeSet<Place> = story.stays.iter().map(|stay| stay.place).collect();
         let height = match places.len() {
             0..=40 => 24.0,
@@ -57,7 +63,16 @@ impl<'a> Layout<'a> {
             top: refused.bottom() + BETWEEN,
             height,
         };
-        Layout { story, frame, ids: ids(story), chart, axis, held, refused, rows }
+        Layout {
+            story,
+            frame,
+            ids: ids(story),
+            chart,
+            axis,
+            held,
+            refused,
+            rows,
+        }
     }
 
     /// How high an id stands in the chart.
@@ -84,7 +99,10 @@ impl Rows {
     /// The row of a place that is one of them.
     pub fn row(&self, place: Place) -> Band {
         let row = self.places.binary_search(&place).unwrap_or(0);
-        Band { top: self.top + row as f64 * self.height, height: self.height }
+        Band {
+            top: self.top + row as f64 * self.height,
+            height: self.height,
+        }
     }
 }
 
@@ -111,8 +129,15 @@ mod tests {
         let (text, said) = made_up::with_pins();
         let story = made_up::story_of(&text, &said);
         let layout = Layout::of(&story, 0.0);
-        assert_eq!(layout.rows.places, [Place::Slot(0), Place::Slot(1), Place::Pin(0)]);
-        let tops = layout.rows.places.iter().map(|place| layout.rows.row(*place).top);
+        assert_eq!(
+            layout.rows.places,
+            [Place::Slot(0), Place::Slot(1), Place::Pin(0)]
+        );
+        let tops = layout
+            .rows
+            .places
+            .iter()
+            .map(|place| layout.rows.row(*place).top);
         let expected = [0.0, 24.0, 48.0].map(|down| layout.rows.top + down);
         assert_eq!(tops.collect::<Vec<_>>(), expected);
         assert_eq!(layout.bottom(), layout.rows.top + 72.0 + BETWEEN);
@@ -126,7 +151,10 @@ mod tests {
         let parts = [layout.chart, layout.axis, layout.held, layout.refused];
         assert!(parts.windows(2).all(|pair| pair[0].bottom() <= pair[1].top));
         assert!(layout.refused.bottom() <= layout.rows.top);
-        assert_eq!((layout.y(1), layout.y(6)), (layout.chart.bottom(), layout.chart.top));
+        assert_eq!(
+            (layout.y(1), layout.y(6)),
+            (layout.chart.bottom(), layout.chart.top)
+        );
     }
 
     #[test]

@@ -3,7 +3,7 @@
 use super::labels;
 use super::svg::Svg;
 use crate::account::places::Place;
-use crate::account::story::Story;
+use crate::account::story::{Stay, Story};
 
 const LINE: f64 = 20.0;
 const SIGN: f64 = 30.0;
@@ -16,30 +16,43 @@ enum Sign {
     Diamond,
     Cross,
 }
+use Sign::{Bar, Cross, Diamond, Stroke};
 
-/// The entries that the story needs: no pins without pins, no refusals without refusals, no cut without one.
-fn entries(story: &Story, cut: bool) -> Vec<(Sign, &'static str)> {
-    let pins = story.stays.iter().any(|stay| matches!(stay.place, Place::Pin(_)));
+/// When an entry is needed: no pins without pins, no refusals without refusals, no cut without one.
+#[derive(Clone, Copy)]
+enum When {
+    Always,
+    Pins,
+    Refused,
+    Cut,
+}
+
+#[rustfmt::skip]
+static ENTRIES: [(When, Sign, &str); 10] = [
+    (When::Always, Stroke("clock"), "the clock"),
+    (When::Always, Stroke("line"), "the vacuum line: what an id below it replaced may go"),
+    (When::Always, Stroke("oldest"), "the oldest xmin that somebody retains"),
+    (When::Always, Bar("kept"), "between line and clock: old tiles stay"),
+    (When::Always, Bar("bar"), "a registration in its slot, with the xmin that it retains"),
+    (When::Pins, Bar("bar pin"), "a pin, with the xmin that it retains"),
+    (When::Always, Bar("held"), "it held the line: from the vacuum that named it until it let go"),
+    (When::Always, Diamond, "a vacuum: on the line, and again on who held it"),
+    (When::Refused, Cross, "a refused call, with its number and name"),
+    (When::Cut, Stroke("cut"), "many ids between two are left out: not to scale"),
+];
+
+fn entries(story: &Story, cut: bool) -> impl Iterator<Item = (&'static Sign, &'static str)> {
+    let pin = |stay: &Stay| matches!(stay.place, Place::Pin(_));
+    let pins = story.stays.iter().any(pin);
     let refused = story.steps.iter().any(|step| !step.answer.accepted());
-    let mut all = vec![
-        (Sign::Stroke("clock"), "the clock"),
-        (Sign::Stroke("line"), "the vacuum line: what an id below it replaced may go"),
-        (Sign::Stroke("oldest"), "the oldest xmin that somebody retains"),
-        (Sign::Bar("kept"), "between line and clock: old tiles stay"),
-        (Sign::Bar("bar"), "a registration in its slot, with the xmin that it retains"),
-    ];
-    if pins {
-        all.push((Sign::Bar("bar pin"), "a pin, with the xmin that it retains"));
-    }
-    all.push((Sign::Bar("held"), "it held the line: from the vacuum that named it until it let go"));
-    all.push((Sign::Diamond, "a vacuum: on the line, and again on who held it"));
-    if refused {
-        all.push((Sign::Cross, "a refused call, with its number and name"));
-    }
-    if cut {
-        all.push((Sign::Stroke("cut"), "many ids between two are left out: not to scale"));
-    }
-    all
+    let needed = move |when: When| match when {
+        When::Always => true,
+        When::Pins => pins,
+        When::Refused => refused,
+        When::Cut => cut,
+    };
+    let wanted = ENTRIES.iter().filter(move |(when, _, _)| needed(*when));
+    wanted.map(|(_, sign, words)| (sign, *words))
 }
 
 /// Draws it from the top, and answers where it ends.
@@ -51,7 +64,7 @@ pub fn draw(svg: &mut Svg, story: &Story, cut: bool, width: f64) -> f64 {
             x = INDENT;
             top += LINE;
         }
-        draw_sign(svg, &sign, x, top + LINE / 2.0);
+        draw_sign(svg, sign, x, top + LINE / 2.0);
         svg.words(x + SIGN + 6.0, top + LINE / 2.0 + 4.0, "legend", words);
         x += wide;
     }
@@ -61,10 +74,10 @@ pub fn draw(svg: &mut Svg, story: &Story, cut: bool, width: f64) -> f64 {
 fn draw_sign(svg: &mut Svg, sign: &Sign, x: f64, y: f64) {
     let middle = x + SIGN / 2.0;
     match sign {
-        Sign::Stroke(class) => svg.stroke([x, y, x + SIGN, y], class, ""),
-        Sign::Bar(class) => svg.rect([x, y - 6.0, SIGN, 12.0], class, ""),
-        Sign::Diamond => svg.diamond(middle, y, 5.0, "holder", ""),
-        Sign::Cross => svg.cross(middle, y, 4.0, "refused", ""),
+        Stroke(class) => svg.stroke([x, y, x + SIGN, y], class, ""),
+        Bar(class) => svg.rect([x, y - 6.0, SIGN, 12.0], class, ""),
+        Diamond => svg.diamond(middle, y, 5.0, "holder", ""),
+        Cross => svg.cross(middle, y, 4.0, "refused", ""),
     }
 }
 
@@ -76,8 +89,12 @@ mod tests {
     #[test]
     fn the_legend_tells_what_is_there() {
         let (text, said) = made_up::with_pins();
-        let all = entries(&made_up::story_of(&text, &said), true).len();
-        let none = entries(&Story::of(b"trace=proc-2\n", b"records=0\n").unwrap(), false).len();
+        let all = entries(&made_up::story_of(&text, &said), true).count();
+        let none = entries(
+            &Story::of(b"trace=proc-2\n", b"records=0\n").unwrap(),
+            false,
+        )
+        .count();
         assert_eq!((all, none), (10, 7));
     }
 
@@ -88,7 +105,15 @@ mod tests {
         let end = draw(&mut svg, &made_up::story_of(&text, &said), true, 900.0);
         assert!(end > LINE);
         for entry in svg.text.split("<text").skip(1) {
-            let x: f64 = entry.split("x=\"").nth(1).unwrap().split('"').next().unwrap().parse().unwrap();
+            let x: f64 = entry
+                .split("x=\"")
+                .nth(1)
+                .unwrap()
+                .split('"')
+                .next()
+                .unwrap()
+                .parse()
+                .unwrap();
             let words = entry.split('>').nth(1).unwrap().split('<').next().unwrap();
             assert!(x + labels::width(words) <= 900.0, "{words}");
         }

@@ -7,6 +7,7 @@ pub mod labels;
 pub mod lanes;
 pub mod layout;
 pub mod legend;
+pub mod marks;
 pub mod page;
 pub mod picture;
 pub mod rows;

@@ -17,10 +17,22 @@ const SOURCE: &str = "Every answer here is the proved replay's. A trace headed t
 same calls also print who holds the tiles.";
 
 pub fn page(name: &str, story: &Story) -> String {
-    let mut body = format!("<p class=\"summary\">{}</p>\n", escaped(&tables::summary(story)));
-    body.push_str(&format!("<figure class=\"wide\">\n{}</figure>\n", picture(story)));
-    body.push_str(&format!("<h2>Who held the line, longest first</h2>\n{}<p>{HELD}</p>\n", tables::culprits_table(story)));
-    body.push_str(&format!("<h2>Refused calls</h2>\n{}", tables::refused_table(story)));
+    let mut body = format!(
+        "<p class=\"summary\">{}</p>\n",
+        escaped(&tables::summary(story))
+    );
+    body.push_str(&format!(
+        "<figure class=\"wide\">\n{}</figure>\n",
+        picture(story)
+    ));
+    body.push_str(&format!(
+        "<h2>Who held the line, longest first</h2>\n{}<p>{HELD}</p>\n",
+        tables::culprits_table(story)
+    ));
+    body.push_str(&format!(
+        "<h2>Refused calls</h2>\n{}",
+        tables::refused_table(story)
+    ));
     body.push_str(&format!(
         "<h2>Every record</h2>\n<details><summary>in words</summary>\n<pre class=\"wide\">{}</pre></details>\n",
         escaped(&log(story))
@@ -31,7 +43,12 @@ pub fn page(name: &str, story: &Story) -> String {
 /// The page for a text that is no trace: why, and the line.
 pub fn refused(name: &str, reason: &str) -> String {
     let reason = escaped(reason);
-    whole(name, &format!("<p class=\"summary\">This is no trace, so no call was run: refusal 9. {reason}</p>\n"))
+    whole(
+        name,
+        &format!(
+            "<p class=\"summary\">This is no trace, so no call was run: refusal 9. {reason}</p>\n"
+        ),
+    )
 }
 
 fn whole(name: &str, body: &str) -> String {
@@ -74,15 +91,30 @@ mod tests {
         let page = page("a <b> & c", &made_up::story_of(&text, &said));
         assert!(balanced(&page));
         assert!(page.contains("a &lt;b&gt; &amp; c"));
-        for word in ["<script", "http", "src=", "href=", "@import", "<link", "url(h", "javascript"] {
+        for word in [
+            "<script",
+            "http",
+            "src=",
+            "href=",
+            "@import",
+            "<link",
+            "url(h",
+            "javascript",
+        ] {
             assert!(!page.contains(word), "{word}");
         }
-        assert_eq!(page.matches("url(").count(), page.matches("url(#hatch)").count());
+        assert_eq!(
+            page.matches("url(").count(),
+            page.matches("url(#hatch)").count()
+        );
     }
 
     #[test]
     fn an_empty_trace_and_no_trace_are_pages() {
-        let empty = page("empty", &Story::of(b"trace=proc-2\n", b"records=0\n").unwrap());
+        let empty = page(
+            "empty",
+            &Story::of(b"trace=proc-2\n", b"records=0\n").unwrap(),
+        );
         assert!(balanced(&empty) && empty.contains("0 records"));
         let none = refused("x", "Line 5 is `<stamp>`.");
         assert!(balanced(&none) && none.contains("refusal 9. Line 5 is `&lt;stamp&gt;`."));

@@ -3,7 +3,7 @@
 use super::frame::Frame;
 use super::layout::{self, Layout};
 use super::svg::{Svg, short};
-use super::{chart, lanes, legend, rows};
+use super::{chart, lanes, legend, marks, rows};
 use crate::account::story::Story;
 
 /// Held bars are hatched, so that they can be told without their colour.
@@ -18,10 +18,13 @@ pub fn picture(story: &Story) -> String {
     let top = legend::draw(&mut svg, story, cut, width);
     let layout = Layout::of(story, top);
     chart::draw(&mut svg, &layout);
+    marks::columns(&mut svg, &layout);
+    marks::vacuums(&mut svg, &layout);
+    marks::lines(&mut svg, &layout);
     lanes::held(&mut svg, &layout);
     rows::names(&mut svg, &layout);
     // Bars and words stand on the guides that come down from the chart.
-    chart::guides(&mut svg, &layout);
+    marks::guides(&mut svg, &layout);
     lanes::refused(&mut svg, &layout);
     rows::bars(&mut svg, &layout);
     let (width, height) = (short(width), short(layout.bottom()));

@@ -20,7 +20,11 @@ pub fn names(svg: &mut Svg, layout: &Layout) {
     for (row, &place) in layout.rows.places.iter().enumerate() {
         let band = layout.rows.row(place);
         if row % 2 == 0 {
-            svg.rect([LEFT, band.top, layout.frame.end() - LEFT, band.height], "lane", "");
+            svg.rect(
+                [LEFT, band.top, layout.frame.end() - LEFT, band.height],
+                "lane",
+                "",
+            );
         }
         let held = culprits.iter().any(|one| one.stay.place == place);
         let class = if held { "name culprit" } else { "name" };
@@ -37,7 +41,13 @@ pub fn bars(svg: &mut Svg, layout: &Layout) {
     for stay in &layout.story.stays {
         for hold in &stay.holds {
             let named = culprits.iter().find(|one| std::ptr::eq(one.hold, hold));
-            bar(svg, layout, stay, hold, named.map_or(&[], |one| &one.vacuums));
+            bar(
+                svg,
+                layout,
+                stay,
+                hold,
+                named.map_or(&[], |one| &one.vacuums),
+            );
         }
     }
     holders(svg, layout);
@@ -52,7 +62,10 @@ fn bar(svg: &mut Svg, layout: &Layout, stay: &Stay, hold: &Hold, vacuums: &[usiz
         Place::Pin(_) => "bar pin",
     };
     let (from, to) = (layout.frame.at(hold.from), layout.frame.until(hold.to));
-    let marks: Vec<f64> = vacuums.iter().map(|vacuum| layout.frame.at(*vacuum)).collect();
+    let marks: Vec<f64> = vacuums
+        .iter()
+        .map(|vacuum| layout.frame.at(*vacuum))
+        .collect();
     svg.rect([from, band.top, to - from, band.height], class, &title);
     if let Some(&first) = marks.first() {
         svg.rect([first, band.top, to - first, band.height], "held", &title);
@@ -60,22 +73,35 @@ fn bar(svg: &mut Svg, layout: &Layout, stay: &Stay, hold: &Hold, vacuums: &[usiz
     if layout.rows.height >= LEGIBLE {
         let (x, room) = widest(from, &marks, to, layout.frame.mark());
         let wordings = wordings(stay, hold);
-        svg.words(x + 4.0, band.middle() + 4.0, "in", labels::fitting(&wordings, room));
+        svg.words(
+            x + 4.0,
+            band.middle() + 4.0,
+            "in",
+            labels::fitting(&wordings, room),
+        );
     }
 }
 
 /// The widest stretch of a bar that no mark covers: where it begins, and how wide it is.
 fn widest(from: f64, marks: &[f64], to: f64, half: f64) -> (f64, f64) {
-    let begins = [from].into_iter().chain(marks.iter().map(|mark| mark + half));
+    let begins = [from]
+        .into_iter()
+        .chain(marks.iter().map(|mark| mark + half));
     let ends = marks.iter().map(|mark| mark - half).chain([to]);
     let stretches = begins.zip(ends).map(|(begin, end)| (begin, end - begin));
-    stretches.fold((from, 0.0), |best, next| if next.1 > best.1 { next } else { best })
+    stretches.fold(
+        (from, 0.0),
+        |best, next| if next.1 > best.1 { next } else { best },
+    )
 }
 
 /// A row without its margins.
 fn inner(row: Band) -> Band {
     let margin = if row.height >= LEGIBLE { 2.0 } else { 1.0 };
-    Band { top: row.top + margin, height: row.height - 2.0 * margin }
+    Band {
+        top: row.top + margin,
+        height: row.height - 2.0 * margin,
+    }
 }
 
 /// What a bar says, the longest first.
@@ -90,7 +116,9 @@ fn told(stay: &Stay, hold: &Hold, vacuums: &[usize]) -> String {
     let mut told = format!("{} kept xmin {} {span}", words::stay(stay), hold.xmin);
     if let Some(first) = vacuums.first() {
         let count = words::counted(vacuums.len() as u64, "vacuum");
-        told.push_str(&format!(" and held the line: {count} named it, the first is record {first}"));
+        told.push_str(&format!(
+            " and held the line: {count} named it, the first is record {first}"
+        ));
     }
     told
 }
@@ -104,7 +132,13 @@ fn holders(svg: &mut Svg, layout: &Layout) {
         let row = layout.rows.row(layout.story.hold(at).0.place);
         let half = layout.frame.mark().min(row.height / 2.0 - 1.0);
         let x = layout.frame.at(step.number);
-        svg.diamond(x, row.middle(), half, "holder", &words::step(layout.story, step));
+        svg.diamond(
+            x,
+            row.middle(),
+            half,
+            "holder",
+            &words::step(layout.story, step),
+        );
     }
 }
 

@@ -18,7 +18,11 @@ impl Svg {
     }
 
     pub fn path(&mut self, drawn: &str, class: &str, title: Title) {
-        self.element(&format!("<path class=\"{class}\" d=\"{drawn}\""), "path", title);
+        self.element(
+            &format!("<path class=\"{class}\" d=\"{drawn}\""),
+            "path",
+            title,
+        );
     }
 
     /// A straight line.
@@ -28,14 +32,32 @@ impl Svg {
     }
 
     pub fn diamond(&mut self, x: f64, y: f64, half: f64, class: &str, title: Title) {
-        let (left, right, up, down) = (short(x - half), short(x + half), short(y - half), short(y + half));
+        let (left, right, up, down) = (
+            short(x - half),
+            short(x + half),
+            short(y - half),
+            short(y + half),
+        );
         let (x, y) = (short(x), short(y));
-        self.path(&format!("M{x} {up}L{right} {y}L{x} {down}L{left} {y}Z"), class, title);
+        self.path(
+            &format!("M{x} {up}L{right} {y}L{x} {down}L{left} {y}Z"),
+            class,
+            title,
+        );
     }
 
     pub fn cross(&mut self, x: f64, y: f64, half: f64, class: &str, title: Title) {
-        let (left, right, up, down) = (short(x - half), short(x + half), short(y - half), short(y + half));
-        self.path(&format!("M{left} {up}L{right} {down}M{left} {down}L{right} {up}"), class, title);
+        let (left, right, up, down) = (
+            short(x - half),
+            short(x + half),
+            short(y - half),
+            short(y + half),
+        );
+        self.path(
+            &format!("M{left} {up}L{right} {down}M{left} {down}L{right} {up}"),
+            class,
+            title,
+        );
     }
 
     /// Nothing where there are no words.
@@ -44,7 +66,9 @@ impl Svg {
             return;
         }
         let (x, y, words) = (short(x), short(y), escaped(words));
-        self.text.push_str(&format!("<text class=\"{class}\" x=\"{x}\" y=\"{y}\">{words}</text>\n"));
+        self.text.push_str(&format!(
+            "<text class=\"{class}\" x=\"{x}\" y=\"{y}\">{words}</text>\n"
+        ));
     }
 
     fn element(&mut self, head: &str, name: &str, title: Title) {
@@ -53,7 +77,8 @@ impl Svg {
             self.text.push_str("/>\n");
         } else {
             let title = escaped(title);
-            self.text.push_str(&format!("><title>{title}</title></{name}>\n"));
+            self.text
+                .push_str(&format!("><title>{title}</title></{name}>\n"));
         }
     }
 }
@@ -86,12 +111,18 @@ mod tests {
 
     #[test]
     fn words_can_not_become_elements() {
-        assert_eq!(escaped("<b> & \"c\"\u{7}"), "&lt;b&gt; &amp; &quot;c&quot;\u{fffd}");
+        assert_eq!(
+            escaped("<b> & \"c\"\u{7}"),
+            "&lt;b&gt; &amp; &quot;c&quot;\u{fffd}"
+        );
     }
 
     #[test]
     fn lengths_are_short() {
-        assert_eq!((short(3.0), short(3.14)), ("3".to_string(), "3.1".to_string()));
+        assert_eq!(
+            (short(3.0), short(3.14)),
+            ("3".to_string(), "3.1".to_string())
+        );
     }
 
     #[test]

@@ -19,13 +19,27 @@ pub fn summary(story: &Story) -> String {
     let who = words::stay(first.stay);
     let span = words::span(first.hold.from, first.hold.to);
     let back = words::counted(first.back, "id");
-    format!("{end} The longest hold of the line was that of {who}: it kept xmin {} {span}, and the line {back} back.", first.hold.xmin)
+    format!(
+        "{end} The longest hold of the line was that of {who}: it kept xmin {} {span}, and the line {back} back.",
+        first.hold.xmin
+    )
 }
 
-const CULPRITS: [&str; 7] = ["who", "kept xmin", "from record", "to record", "line stood at", "ids kept back", "named by vacuum"];
+const CULPRITS: [&str; 7] = [
+    "who",
+    "kept xmin",
+    "from record",
+    "to record",
+    "line stood at",
+    "ids kept back",
+    "named by vacuum",
+];
 
 pub fn culprits_table(story: &Story) -> String {
-    let rows: Vec<Vec<String>> = culprits::culprits(story).iter().map(|one| culprit(story, one)).collect();
+    let rows: Vec<Vec<String>> = culprits::culprits(story)
+        .iter()
+        .map(|one| culprit(story, one))
+        .collect();
     if rows.is_empty() {
         return "<p>Nobody: no vacuum named a holder.</p>\n".to_string();
     }
@@ -58,11 +72,19 @@ const REFUSED: [&str; 4] = ["refusal", "given when", "how often", "records"];
 pub fn refused_table(story: &Story) -> String {
     let mut found: BTreeMap<u64, Vec<usize>> = BTreeMap::new();
     for step in story.steps.iter().filter(|step| !step.answer.accepted()) {
-        found.entry(step.answer.number).or_default().push(step.number);
+        found
+            .entry(step.answer.number)
+            .or_default()
+            .push(step.number);
     }
     let row = |(number, records): (&u64, &Vec<usize>)| {
         let name = refusals::name(*number);
-        vec![name, refusals::when(*number).to_string(), records.len().to_string(), listed(records)]
+        vec![
+            name,
+            refusals::when(*number).to_string(),
+            records.len().to_string(),
+            listed(records),
+        ]
     };
     let rows: Vec<Vec<String>> = found.iter().map(row).collect();
     if rows.is_empty() {
@@ -76,7 +98,11 @@ fn listed(numbers: &[usize]) -> String {
     const MOST: usize = 12;
     let shown: Vec<String> = numbers.iter().take(MOST).map(usize::to_string).collect();
     let more = numbers.len() - shown.len();
-    let rest = if more > 0 { format!(" and {more} more") } else { String::new() };
+    let rest = if more > 0 {
+        format!(" and {more} more")
+    } else {
+        String::new()
+    };
     shown.join(", ") + &rest
 }
 
@@ -87,7 +113,10 @@ fn table(class: &str, head: &[&str], rows: &[Vec<String>]) -> String {
     }
     text.push_str("</tr>\n");
     for row in rows {
-        let cells: String = row.iter().map(|cell| format!("<td>{}</td>", escaped(cell))).collect();
+        let cells: String = row
+            .iter()
+            .map(|cell| format!("<td>{}</td>", escaped(cell)))
+            .collect();
         text.push_str(&format!("<tr>{cells}</tr>\n"));
     }
     text + "</table></div>\n"
@@ -112,7 +141,11 @@ mod tests {
     fn refusals_stand_by_their_number() {
         let (text, said) = made_up::with_pins();
         let table = refused_table(&made_up::story_of(&text, &said));
-        assert!(table.contains("<tr><td>16 FreePin</td><td>the pin is free</td><td>1</td><td>7</td></tr>"));
+        assert!(
+            table.contains(
+                "<tr><td>16 FreePin</td><td>the pin is free</td><td>1</td><td>7</td></tr>"
+            )
+        );
     }
 
     #[test]
@@ -130,7 +163,10 @@ mod tests {
     #[test]
     fn long_lists_are_cut() {
         let numbers: Vec<usize> = (1..=15).collect();
-        assert_eq!(listed(&numbers), "1, 2, 3, 4, 5, 6, 7, 8, 9, 10, 11, 12 and 3 more");
+        assert_eq!(
+            listed(&numbers),
+            "1, 2, 3, 4, 5, 6, 7, 8, 9, 10, 11, 12 and 3 more"
+        );
         assert_eq!(listed(&numbers[..2]), "1, 2");
     }
 }
