@@ -57,32 +57,26 @@ fn stairs(layout: &Layout, heights: &[Option<f64>]) -> String {
     drawn
 }
 
-/// What lies between the line and the clock.
+/// What lies between the line and the clock: along the one, and back along the other.
 fn area(layout: &Layout, line: &[Option<f64>], clock: &[Option<f64>]) -> String {
-    let corner = |drawn: &mut String, x: f64, y: f64| {
-        let sign = if drawn.is_empty() { 'M' } else { 'L' };
-        drawn.push_str(&format!("{sign}{} {}", short(x), short(y)));
-    };
-    let mut drawn = String::new();
-    let spans = |record: usize| {
-        (
-            layout.frame.at(record),
-            layout
-                .frame
-                .until((record + 1 < line.len()).then_some(record + 1)),
-        )
-    };
-    for (record, y) in clock.iter().enumerate() {
-        let (from, to) = spans(record);
-        corner(&mut drawn, from, y.unwrap_or(0.0));
-        corner(&mut drawn, to, y.unwrap_or(0.0));
+    let back = corners(layout, line).into_iter().rev();
+    let corners = corners(layout, clock).into_iter().chain(back);
+    let drawn: Vec<String> = corners
+        .map(|(x, y)| format!("{} {}", short(x), short(y)))
+        .collect();
+    format!("M{}Z", drawn.join("L"))
+}
+
+/// Where each height begins and ends.
+fn corners(layout: &Layout, heights: &[Option<f64>]) -> Vec<(f64, f64)> {
+    let mut all = Vec::new();
+    for (record, height) in heights.iter().enumerate() {
+        let next = (record + 1 < heights.len()).then_some(record + 1);
+        let y = height.unwrap_or(layout.chart.bottom());
+        all.push((layout.frame.at(record), y));
+        all.push((layout.frame.until(next), y));
     }
-    for (record, y) in line.iter().enumerate().rev() {
-        let (from, to) = spans(record);
-        corner(&mut drawn, to, y.unwrap_or(0.0));
-        corner(&mut drawn, from, y.unwrap_or(0.0));
-    }
-    drawn + "Z"
+    all
 }
 
 /// The ids on the left and the records' numbers below.
@@ -96,25 +90,14 @@ fn axis(svg: &mut Svg, layout: &Layout) {
     }
     svg.words(LEFT - 8.0, layout.axis.top + 12.0, "name", "record");
     for record in frame.ticks() {
-        svg.words(
-            frame.at(record),
-            layout.axis.top + 12.0,
-            "tick",
-            &record.to_string(),
-        );
+        let x = frame.at(record);
+        svg.words(x, layout.axis.top + 12.0, "tick", &record.to_string());
     }
-    for step in layout
-        .story
-        .steps
-        .iter()
-        .filter(|_| layout::ops_have_room(frame))
-    {
-        svg.words(
-            frame.at(step.number),
-            layout.axis.top + 25.0,
-            "tick",
-            step.record.op,
-        );
+    if layout::ops_have_room(frame) {
+        for step in &layout.story.steps {
+            let x = frame.at(step.number);
+            svg.words(x, layout.axis.top + 25.0, "tick", step.record.op);
+        }
     }
 }
 
@@ -151,6 +134,8 @@ mod tests {
         assert_eq!(stairs(&layout, &heights), "M162 9H206M250 5H272");
         let flat = [Some(1.0), Some(1.0), Some(2.0), Some(2.0)];
         assert_eq!(stairs(&layout, &flat), "M140 1H206V2H272");
+        let there = "M140 1L162 1L162 1L206 1L206 2L250 2L250 2L272 2L";
+        assert!(area(&layout, &heights, &flat).starts_with(there));
     }
 
     #[test]

@@ -20,11 +20,8 @@ pub fn names(svg: &mut Svg, layout: &Layout) {
     for (row, &place) in layout.rows.places.iter().enumerate() {
         let band = layout.rows.row(place);
         if row % 2 == 0 {
-            svg.rect(
-                [LEFT, band.top, layout.frame.end() - LEFT, band.height],
-                "lane",
-                "",
-            );
+            let wide = layout.frame.end() - LEFT;
+            svg.rect([LEFT, band.top, wide, band.height], "lane", "");
         }
         let held = culprits.iter().any(|one| one.stay.place == place);
         let class = if held { "name culprit" } else { "name" };
@@ -41,13 +38,8 @@ pub fn bars(svg: &mut Svg, layout: &Layout) {
     for stay in &layout.story.stays {
         for hold in &stay.holds {
             let named = culprits.iter().find(|one| std::ptr::eq(one.hold, hold));
-            bar(
-                svg,
-                layout,
-                stay,
-                hold,
-                named.map_or(&[], |one| &one.vacuums),
-            );
+            let vacuums = named.map_or(&[][..], |one| &one.vacuums);
+            bar(svg, layout, stay, hold, vacuums);
         }
     }
     holders(svg, layout);
@@ -73,12 +65,8 @@ fn bar(svg: &mut Svg, layout: &Layout, stay: &Stay, hold: &Hold, vacuums: &[usiz
     if layout.rows.height >= LEGIBLE {
         let (x, room) = widest(from, &marks, to, layout.frame.mark());
         let wordings = wordings(stay, hold);
-        svg.words(
-            x + 4.0,
-            band.middle() + 4.0,
-            "in",
-            labels::fitting(&wordings, room),
-        );
+        let fitting = labels::fitting(&wordings, room);
+        svg.words(x + 4.0, band.middle() + 4.0, "in", fitting);
     }
 }
 
