@@ -31,7 +31,7 @@ fn the_story_is_what_the_replay_answers() {
     assert!(asked > 400, "only {asked} records were asked about");
 }
 
-/// While somebody whom a vacuum named keeps his xmin, the line stands still (docs/PROMISE.md).
+/// While the one whom a vacuum named keeps that xmin, the line stands still (docs/PROMISE.md).
 #[test]
 fn a_culprit_keeps_the_line_where_it_was() {
     let mut held = 0;
