@@ -7,14 +7,14 @@ use std::fmt::Write;
 use std::hint::black_box;
 use std::time::Instant;
 
-/// The ops in the order of docs/TRACE.md; a call is numbered by its place here.
+/// The ops in the order of docs/TRACE.md, numbered from 1, as `trace_writer` has them.
 const OPS: [&str; 8] = [
     "begin", "end", "snap", "own", "oldest", "vacuum", "stamp", "finish",
 ];
-const BEGIN: u64 = 0;
-const OWN: u64 = 3;
-const VACUUM: u64 = 5;
-const FINISH: u64 = 7;
+const BEGIN: u64 = 1;
+const OWN: u64 = 4;
+const VACUUM: u64 = 6;
+const FINISH: u64 = 8;
 
 /// No trace has more records.
 const MOST: usize = 1_489;
@@ -44,7 +44,7 @@ impl Capture {
         let mut text = String::from("trace=proc-2\n");
         for &[op, slot, id, stamp, clock, sample] in &self.calls {
             let whole = text.len();
-            let op = OPS[op as usize];
+            let op = OPS[op as usize - 1];
             let _ = write!(
                 text,
                 "op={op}\nslot={slot}\nid={id}\nstamp={stamp}\nclock={clock}\nsample={sample}\n"
