@@ -118,11 +118,12 @@ pub pinned-snapshot :
     (lineAfter 2 emptyAt100 ≡ 100)
     × Accepts 2 (reached 2 emptyAt100) (pin 100 50)
     × (shown 2 (reached 2 emptyAt100) (pin 100 50) ≡ snapshot 100 100 (0 ∷ 0 ∷ []) 0)
+    × (lineAfter 2 (emptyAt100 ++ pin 100 50 ∷ []) ≡ 100)
     × (lineAfter 2 (emptyAt100 ++ pin 100 50 ∷ vacuum 200 200 ∷ []) ≡ 100)
     × (lineAfter 2 (emptyAt100 ++ pin 100 50 ∷ unpin (pinNo 0) ∷ vacuum 200 200 ∷ []) ≡ 200)
 unfolding freePins freshTable run active retained holderFrom lowestEmpty minimum maximum refusal changeAccepted changeOf after
     snapshotOf shownAccepted shown
-pinned-snapshot = (refl, refl, refl, refl, refl)
+pinned-snapshot = (refl, refl, refl, refl, refl, refl)
 
 pub pinned-covered : Covered 2 (emptyAt100 ++ pin 100 50 ∷ []) (shown 2 (reached 2 emptyAt100) (pin 100 50))
 pinned-covered = pin-covered 2 emptyAt100 100 50 (pinned-snapshot .1)
@@ -130,7 +131,8 @@ pinned-covered = pin-covered 2 emptyAt100 100 50 (pinned-snapshot .1)
 pub pinned-settled : settledIn 100 (0 ∷ 0 ∷ []) 0 60 ≡ true
 pinned-settled =
     rw (pinned-snapshot .2)
-    at (covered-settled 2 (emptyAt100 ++ pin 100 50 ∷ []) _ pinned-covered 60 (omega arith) (omega arith))
+    at (covered-settled 2 (emptyAt100 ++ pin 100 50 ∷ []) _ pinned-covered 60 (omega arith)
+    (rw (pinned-snapshot .3) (omega arith)))
 
 -- Not covered: a snapshot whose pin was released, also where another one took the pin. The first lists 1, which then ends
 

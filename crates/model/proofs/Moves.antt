@@ -191,7 +191,7 @@ good-fresh n =
     record {
       txid-column = length-replicate n 0;
       xmin-column = length-replicate n 0;
-      pin-column = length-replicate pinCount 0;
+      pin-column = length-replicate {A = ℕ} pinCount 0;
       sample-from-1 = omega arith;
       sample-to-clock = omega arith;
       line-from-1 = omega arith;

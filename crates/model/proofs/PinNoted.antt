@@ -19,7 +19,7 @@ use Rattle.model.specs.declared.Counters.{Counters}
 use Rattle.model.specs.declared.Table.{Table}
 use Rattle.model.specs.Tally.{lowestEmpty}
 use Rattle.model.specs.Tables.{pinAt, lineOf}
-use Rattle.model.specs.Changes.{applied}
+use Rattle.model.specs.Changes.{pastNumber, applied}
 use Rattle.model.specs.Calls.{Call, pin, refusal, changeAccepted, spent, after, shown}
 use Rattle.model.specs.Deeds.{releaseOf}
 use Rattle.model.specs.Pins.{heldBy}
@@ -85,4 +85,4 @@ module _ (n : ℕ) (t : Table) (k : PinNo) where
     where
       refused : (r : Refusal) → Declined n t c r → LineUnder t k (changeRefused t r .counters)
       refused r (stays p) = rw p (under (t .counters) (line-stays refl))
-      refused r (spends number p q h f) = rw q (under _ (line-stays refl))
+      refused r (spends number p q h f) = rw q (under (pastNumber (number .0) (t .counters)) (line-stays refl))

@@ -70,15 +70,15 @@ held-kept :
     (n : ℕ) (k : PinNo) (t : Table) (cs : List Call) (s : Snapshot) → Good n t → KeepsPin n t k s →
     Never n t (releaseOf k) cs → heldFrom n k t cs (some s) ≡ some s
 unfolding heldFrom
-held-kept n k t [] s g h none = refl
-held-kept n k t (c ∷ cs) s g h none =
+held-kept n k t [] s g h never = refl
+held-kept n k t (c ∷ cs) s g h never =
     ap (λ (held : Option Snapshot). heldFrom n k (after n t c) cs held) same
-    ∙ held-kept n k (after n t c) cs s (good-after n t c g) still (never-tail n t (releaseOf k) c cs none)
+    ∙ held-kept n k (after n t c) cs s (good-after n t c g) still (never-tail n t (releaseOf k) c cs never)
   where
     one : PinNoted n t k c (some s) (refusal n t c) (after n t c) → heldBy (refusal n t c) n k t c (some s) ≡ some s
     one (now-pinned clock sample p v y w e) =
         absurd (kept-taken n t k s h (rw w at (lowest-empty (t .pins))))
-    one (now-released p v e) = absurd (true≢false (sym p ∙ never-head n t (releaseOf k) c cs none v))
+    one (now-released p v e) = absurd (true≢false (sym p ∙ never-head n t (releaseOf k) c cs never v))
     one (pin-stays e p q l) = e
 
     same : heldBy (refusal n t c) n k t c (some s) ≡ some s
@@ -140,7 +140,7 @@ first :
     Accepts n t c → lowestEmpty (t .pins) ≡ k .0 → s ≡ shown n t c → Never n (after n t c) (releaseOf k) cs →
     IsHeld n t k (c ∷ cs) s
 unfolding run
-first n k t c cs clock sample s p a l e none =
+first n k t c cs clock sample s p a l e never =
     let a′ : Accepts n t (pin clock sample) = rw (← p) a in
     record {
       before = [];
@@ -150,7 +150,7 @@ first n k t c cs clock sample s p a l e none =
       written = ap (λ (d : Call). d ∷ cs) p;
       answers = pin-answers n t clock sample a′ ∙ pinned-as l;
       shows = rw (← p) e;
-      not-released = rw (← p) none;
+      not-released = rw (← p) never;
     }
 
 -- found by the walk, so: held from the start and not released since, or held in words
