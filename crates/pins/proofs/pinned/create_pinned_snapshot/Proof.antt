@@ -16,7 +16,7 @@ apply-requires c κs = search needs
 returns : tie.Need-returns
 returns c =
     let decided = c .before .before .before in
-    let start = decided .before .before .before .before .before in
+    let start = decided .before .before .before .before .before .before .before in
     let few = le-of-eq (simp length-map at (start .good .0 .1 .1 .0 .1 .0 .1)) in
     rw (c .apply .ensures) (snapshot-outcome-of _ _ _ (decided .decide-pin .ensures ∙ lent-pins _ _ _ _ few))
 
