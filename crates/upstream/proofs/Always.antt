@@ -116,14 +116,14 @@ released-same n t history k e = rw e
 table-kept :
     (n : ℕ) (t : Table) (history : List ℕ) → Shaped n t → (c : Call) → TableOf n (stateOf t history) →
     TableOf n (stateAfter n t history c)
-table-kept n t history s (begin number) = unpinned-kept n t history s (begin number) refl
-table-kept n t history s (end slot id) = unpinned-kept n t history s (end slot id) refl
-table-kept n t history s (snap clock sample) = unpinned-kept n t history s (snap clock sample) refl
-table-kept n t history s (own slot id clock sample) = unpinned-kept n t history s (own slot id clock sample) refl
-table-kept n t history s (oldest clock sample) = unpinned-kept n t history s (oldest clock sample) refl
-table-kept n t history s (vacuum clock sample) = unpinned-kept n t history s (vacuum clock sample) refl
-table-kept n t history s (stamp number) = unpinned-kept n t history s (stamp number) refl
-table-kept n t history s (finish slot id number) = unpinned-kept n t history s (finish slot id number) refl
+table-kept n t history s (begin number) y = unpinned-kept n t history s (begin number) refl y
+table-kept n t history s (end slot id) y = unpinned-kept n t history s (end slot id) refl y
+table-kept n t history s (snap clock sample) y = unpinned-kept n t history s (snap clock sample) refl y
+table-kept n t history s (own slot id clock sample) y = unpinned-kept n t history s (own slot id clock sample) refl y
+table-kept n t history s (oldest clock sample) y = unpinned-kept n t history s (oldest clock sample) refl y
+table-kept n t history s (vacuum clock sample) y = unpinned-kept n t history s (vacuum clock sample) refl y
+table-kept n t history s (stamp number) y = unpinned-kept n t history s (stamp number) refl y
+table-kept n t history s (finish slot id number) y = unpinned-kept n t history s (finish slot id number) refl y
 table-kept n t history s (pin clock sample) y = go (refusal n t (pin clock sample)) refl
   where
     go : (v : Verdict) → refusal n t (pin clock sample) ≡ v → TableOf n (stateAfter n t history (pin clock sample))

@@ -37,7 +37,7 @@ loop-again : tie.Need-loop-again Inv-loop μ-loop
 loop-again c =
     let read = c .before .before .before in
     let l = read .before .loop in
-    let a = read .before .before .before .before .args in
+    let a = read .before .before .before .args in
     let good = sym (c .before .pin-passes .ensures) ∙ c .if2 .taken in
     (omega arith, l .inv .1 ∙ pins-good (a .clock) (a .line) (a .pins .now) (l .i) (omega arith) good)
 
@@ -45,14 +45,14 @@ returns : tie.Need-returns Inv-loop μ-loop
 returns c =
     let read = c .before .before .before in
     let l = read .before .loop in
-    let a = read .before .before .before .before .args in
+    let a = read .before .before .before .args in
     let bad = sym (c .before .pin-passes .ensures) ∙ c .if2 .left in
     sym (l .inv .1 ∙ pins-bad (a .clock) (a .line) (a .pins .now) (l .i) (omega arith) bad)
 
 returns-2 : tie.Need-returns-2 Inv-loop μ-loop
 returns-2 c =
     let l = c .before .loop in
-    let a = c .before .before .before .before .args in
+    let a = c .before .before .before .args in
     sym (l .inv .1 ∙ pins-over (a .clock) (a .line) (a .pins .now) (l .i) (omega arith))
 
 pub each-pin-passes-spec : {M : Type 1} → statement M
