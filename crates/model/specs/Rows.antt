@@ -52,7 +52,7 @@ abbrev pub RowsHold : ℕ → List Row → Type 0
 RowsHold n rs = seenIn n rs ≡ said rs
 
 -- ids from k on, one a slot
-abbrev from : ℕ → ℕ → List ℕ
+abbrev pub from : ℕ → ℕ → List ℕ
 from zero k = []
 from (suc n) k = k ∷ from n (k + 1)
 
@@ -102,16 +102,20 @@ rows n any =
     ∷ one (three n) (snap 12 2) (snapped n 2 10 (9 ∷ 4 ∷ 7 ∷ []) 12)
     -- P4 the same, sample 12
     ∷ one (three n) (snap 12 12) (snapped n 4 12 (9 ∷ 4 ∷ 7 ∷ []) 12)
-    -- P5 full with ids from 1 on, clock 300, begin 400: refusal 1 with 400, clock 401
-    ∷ one (full n 300) (begin (number 400)) (seen n (Refused (NoFreeSlot (txid 400))) 401 1)
+    -- P5 full with ids from 1 on, clock 1,200, begin 1,300: refusal 1 with 1,300, clock 1,301
+    ∷ one (full n 1200) (begin (number 1300)) (seen n (Refused (NoFreeSlot (txid 1300))) 1301 1)
     -- P6 clock 1, begin 2^64 − 2: 13
     ∷ one (freshTable n) (begin (number 18446744073709551614)) (seen n (Refused WildJump) 1 1)
     -- P7 clock 2^64 − 1, any begin: 5
     ∷ one (empty n top) (begin any) (seen n (Refused ClockExhausted) top 1)
     -- P8 clock 1, begin 2^64 − 1: 6
     ∷ one (freshTable n) (begin (number 18446744073709551615)) (seen n (Refused BadReservation) 1 1)
-    -- P9 end, the first slot number that no slot has, id 0: 2
-    ∷ one (freshTable n) (end (slot n) (txid 0)) (seen n (Refused (InvalidSlot (slot n))) 1 1)
+    -- P9 end, the first slot number that no slot has, id 0: 2; the last slot passes that check, so 4
+    ∷ record {
+      start = freshTable n;
+      calls = end (slot n) (txid 0) ∷ end (slot (n - 1)) (txid 0) ∷ [];
+      sees = seen n (Refused (InvalidSlot (slot n))) 1 1 ∷ seen n (Refused ZeroTxid) 1 1 ∷ [];
+    }
     -- P10 end, empty slot 0, id 0: 4
     ∷ one (freshTable n) (end (slot 0) (txid 0)) (seen n (Refused ZeroTxid) 1 1)
     -- P11 end twice: the second is 3, observed 0
@@ -147,6 +151,16 @@ nowhere n clock = seen n (Refused (InvalidSlot (slot n))) clock 1
 -- slot 0 holds 9, and the clock is at its end
 abbrev exhausted : ℕ → Table
 exhausted n = holding (9 ∷ replicate (n - 1) 0) top
+
+-- three slots hold 9, 4, 7, and every pin holds 3
+abbrev allPinned : ℕ → Table
+allPinned n =
+    record {
+      txids = 9 ∷ 4 ∷ 7 ∷ replicate (n - 3) 0;
+      «snapshot_xmins» = 9 ∷ 4 ∷ 7 ∷ replicate (n - 3) 0;
+      pins = replicate pinCount 3;
+      counters = counted 12 1 1;
+    }
 
 -- a call that earns two refusals is given the one that its order has first; the clock of `three` is 12, so that 4294967308 is the
 -- farthest number there. 5 and 13 are never earned together: no number is above 2^64 − 1
@@ -208,11 +222,20 @@ orders n =
     -- near the end of the clock nothing wraps: 2^64 − 2 is still reserved there
     ∷ one (empty n 18446744073709551614) (stamp (number 18446744073709551614))
     (seen n (Stamped (number 18446744073709551614)) top 1)
+    -- 7 before 14 and 8 before 14, by a pinned snapshot, where every pin is taken; 8 reads the sample as given
+    ∷ one (three n) (pin 11 0) (seen n (Refused BadClock) 12 1)
+    ∷ one (allPinned n) (pin 11 1) (seen n (Refused BadClock) 12 1)
+    ∷ one (allPinned n) (pin 12 0) (seen n (Refused BadSample) 12 1)
+    ∷ one (allPinned n) (pin 12 13) (seen n (Refused BadSample) 12 1)
+    ∷ one (allPinned n) (pin 12 12) (seen n (Refused NoFreePin) 12 1)
+    -- 15 before 16, at the first number that no pin has; 16
+    ∷ one (three n) (unpin (pinNo pinCount)) (seen n (Refused (InvalidPin (pinNo pinCount))) 12 1)
+    ∷ one (three n) (unpin (pinNo 0)) (seen n (Refused (FreePin (pinNo 0))) 12 1)
     -- 5, 6 and 13 before 1
     ∷ one (full n top) (begin (number 1)) (seen n (Refused ClockExhausted) top 1)
-    ∷ one (full n 300) (begin (number 299)) (seen n (Refused BadReservation) 300 1)
-    ∷ one (full n 300) (begin (number 4294967597)) (seen n (Refused WildJump) 300 1)
-    ∷ one (full n 300) (begin (number 4294967596)) (seen n (Refused (NoFreeSlot (txid 4294967596))) 4294967597 1)
+    ∷ one (full n 1200) (begin (number 1199)) (seen n (Refused BadReservation) 1200 1)
+    ∷ one (full n 1200) (begin (number 4294968497)) (seen n (Refused WildJump) 1200 1)
+    ∷ one (full n 1200) (begin (number 4294968496)) (seen n (Refused (NoFreeSlot (txid 4294968496))) 4294968497 1)
     ∷ []
 
 -- seen of a pinned snapshot
@@ -225,35 +248,17 @@ pinned n k xmin xmax ids clock line =
       line = line;
     }
 
--- three slots hold 9, 4, 7, and every pin holds 3
-abbrev allPinned : ℕ → Table
-allPinned n =
-    record {
-      txids = 9 ∷ 4 ∷ 7 ∷ replicate (n - 3) 0;
-      «snapshot_xmins» = 9 ∷ 4 ∷ 7 ∷ replicate (n - 3) 0;
-      pins = replicate pinCount 3;
-      counters = counted 12 1 1;
-    }
-
--- pins: their refusals in order, the sample that they use, and whom they hold back
+-- what pins do: which one is taken, the sample that a snapshot uses, and whom they hold back
 unfoldable pub pinRows : ℕ → List Row
 pinRows n =
-    -- 7 before 8, 7 before 14, 8 before 14; 14
-    one (three n) (pin 11 0) (seen n (Refused BadClock) 12 1)
-    ∷ one (allPinned n) (pin 11 1) (seen n (Refused BadClock) 12 1)
-    ∷ one (allPinned n) (pin 12 0) (seen n (Refused BadSample) 12 1)
-    ∷ one (allPinned n) (pin 12 13) (seen n (Refused BadSample) 12 1)
-    ∷ one (allPinned n) (pin 12 12) (seen n (Refused NoFreePin) 12 1)
-    -- 15 before 16: the first number that no pin has; 16, and once more after a release
-    ∷ one (three n) (unpin (pinNo pinCount)) (seen n (Refused (InvalidPin (pinNo pinCount))) 12 1)
-    ∷ one (three n) (unpin (pinNo 0)) (seen n (Refused (FreePin (pinNo 0))) 12 1)
-    ∷ record {
+    -- a free pin is not released once more, and is taken next
+    record {
       start = allPinned n;
       calls = unpin (pinNo 5) ∷ unpin (pinNo 5) ∷ pin 12 2 ∷ [];
       sees = seen n Done 12 1 ∷ seen n (Refused (FreePin (pinNo 5))) 12 1 ∷ pinned n 5 2 10 (9 ∷ 4 ∷ 7 ∷ []) 12 1 ∷ [];
     }
-    -- a full table of slots refuses no pin
-    ∷ one (full n 300) (pin 5000 5000) (pinned n 0 1 5000 (from n 1) 5000 1)
+    -- a full table of slots refuses no pin: every id is listed
+    ∷ one (full n 1200) (pin 5000 5000) (pinned n 0 1 5000 (from n 1) 5000 1)
     -- the lowest free pin
     ∷ record {
       start = freshTable n;
@@ -299,4 +304,3 @@ pinRows n =
 pub record AllRowsHold (n : ℕ) : Type 0 where
   pub edges : (any : Stamp) → RowsHold n (rows n any)
   pub in-order : RowsHold n (orders n)
-  pub of-pins : RowsHold n (pinRows n)

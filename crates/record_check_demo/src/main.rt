@@ -10,9 +10,9 @@ use record_check::Rest;
 use record_check::Slot;
 use runs::beside;
 use runs::empty;
-use runs::pinned;
 use runs::full;
 use runs::good;
+use runs::pinned;
 use runs::put;
 
 // One line: the case's name, and the check's answer.
@@ -42,18 +42,9 @@ fn with_pin(k: usize, x: u64) -> bool {
 
 fn lengths() {
     tell(b"no record", first(empty(), 0));
-    tell(
-        b"one record too few",
-        first(good(), SLOTS - 1),
-    );
-    tell(
-        b"as many records as slots",
-        first(good(), SLOTS),
-    );
-    tell(
-        b"one record too many",
-        first(good(), SLOTS + 1),
-    );
+    tell(b"one record too few", first(good(), SLOTS - 1));
+    tell(b"as many records as slots", first(good(), SLOTS));
+    tell(b"one record too many", first(good(), SLOTS + 1));
     tell(
         b"damage past the end",
         check(put(good(), SLOTS, 9, 0), 12, 2, 4),

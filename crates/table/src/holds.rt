@@ -3,7 +3,7 @@ ghost use Rattle.model.specs.Rows.{AllRowsHold};
 ghost use Rattle.model.specs.Promise.{Promise, VacuumPromise};
 ghost use Rattle.model.specs.HeldBack.{HolderPromise};
 
-// Every situation at the edges, every order of refusals, and what pins do.
+// Every situation at the edges, and every order of refusals.
 pub fn rows_hold()
     ensures { λ r. do ⌜ AllRowsHold (← ⟦kinds::SLOTS⟧ .entry) ⌝ }
 {}

@@ -39,10 +39,5 @@ pub fn check_table(table: Table) -> bool
     ensures { λ r. do ⌜ r ≡ tablePasses (← ⟦kinds::SLOTS⟧ .entry) table ⌝ }
 {
     let counters = table.counters;
-    check_columns(
-        &table.txids,
-        &table.snapshot_xmins,
-        &table.pins,
-        counters,
-    )
+    check_columns(&table.txids, &table.snapshot_xmins, &table.pins, counters)
 }

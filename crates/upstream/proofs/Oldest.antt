@@ -44,9 +44,8 @@ module _ (n : ℕ) (t : Table) (history : List ℕ) (c m : ℕ) (s : Shaped n t)
       let same = retention-same (t .txids) (t .«snapshot_xmins») m (even n t s) in
       rw (accepts, none-active (t .pins) free)
       (record {
-        l-oldest-e6 =
-            (
-              holderOf (t .txids) (t .«snapshot_xmins») (oldestOf (t .txids) (t .«snapshot_xmins») m) _,
-              ap (λ (xmin : ℕ). Oldest xmin _) (sym (rw (s .txids-size) at same)),
-            );
+        l-oldest-e6 = (
+          holderOf (t .txids) (t .«snapshot_xmins») (oldestOf (t .txids) (t .«snapshot_xmins») m) _,
+          ap (λ (xmin : ℕ). Oldest xmin _) (sym (rw (s .txids-size) at same)),
+        );
       })
