@@ -130,12 +130,12 @@ table-kept n t history s (pin clock sample) y = go (refusal n t (pin clock sampl
     go Pass e =
         subst (λ (x : State). TableOf n x) (pinned-as-plain n t history clock sample e)
         (unpinned-kept n t history s (snap clock sample) refl y)
-    go (Refuse r) e = rw (refused-same n t history (pin clock sample) r refl e) y
+    go (Refuse r) e = subst (λ (x : State). TableOf n x) (sym (refused-same n t history (pin clock sample) r refl e)) y
 table-kept n t history s (unpin k) y = go (refusal n t (unpin k)) refl
   where
     go : (v : Verdict) → refusal n t (unpin k) ≡ v → TableOf n (stateAfter n t history (unpin k))
-    go Pass e = rw (released-same n t history k e) y
-    go (Refuse r) e = rw (refused-same n t history (unpin k) r refl e) y
+    go Pass e = subst (λ (x : State). TableOf n x) (sym (released-same n t history k e)) y
+    go (Refuse r) e = subst (λ (x : State). TableOf n x) (sym (refused-same n t history (unpin k) r refl e)) y
 
 module _ (n : ℕ) (t : Table) (history : List ℕ) (s : Shaped n t) (c : Call) where
   history-kept : HistoryOf (stateOf t history) → HistoryOf (stateAfter n t history c)

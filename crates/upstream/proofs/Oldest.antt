@@ -7,7 +7,7 @@ use Rattle.kinds.specs.declared.refusal.Verdict.the-variants.{Pass}
 use Rattle.model.specs.declared.Table.{Table}
 use Rattle.model.specs.declared.answer.Answer.the-variants.{Oldest}
 use Rattle.model.specs.Tables.{clockOf}
-use Rattle.model.specs.Tally.{minimum, oldestOf, holderOf}
+use Rattle.model.specs.Tally.{minimum, oldestOf, holderOf, pinHolderOf}
 use Rattle.model.specs.Calls.{oldest, refusal, changeAccepted, changeOf, after, answerAccepted, answer}
 use Rattle.model.specs.Accepted.{Observes}
 use Rattle.model.proofs.Tests.{observes}
@@ -43,9 +43,10 @@ module _ (n : ℕ) (t : Table) (history : List ℕ) (c m : ℕ) (s : Shaped n t)
   oldest-retains free =
       let same = retention-same (t .txids) (t .«snapshot_xmins») m (even n t s) in
       rw (accepts, none-active (t .pins) free)
-      (record {
-        l-oldest-e6 = (
-          holderOf (t .txids) (t .«snapshot_xmins») (oldestOf (t .txids) (t .«snapshot_xmins») m) _,
-          ap (λ (xmin : ℕ). Oldest xmin _) (sym (rw (s .txids-size) at same)),
-        );
-      })
+      (record { l-oldest-e6 = (holder, ap (λ (x : ℕ). Oldest x holder) (sym (rw (s .txids-size) at same))) })
+    where
+      found : ℕ
+      found = oldestOf (t .txids) (t .«snapshot_xmins») m
+
+      holder : ℕ
+      holder = holderOf (t .txids) (t .«snapshot_xmins») found (pinHolderOf (t .pins) found)
