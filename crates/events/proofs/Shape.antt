@@ -1,24 +1,21 @@
--- What the grammar asks of waits: kinds and the header are found where they stand, and each of their lines is one line.
-use Prim.Native.Nat.{ℕ, _+_, _≤_}
-use native.Mathlib.Omega.{arith}
-use mathlib.Core.Path.{_≡_, refl, ap}
+-- What the grammar asks of waits, proved by computing: kinds and the header are found where they stand, and each of their lines is
+-- one line.
+use Prim.Native.Nat.{ℕ, _+_}
+use mathlib.Core.Path.{_≡_, refl}
 use mathlib.Core.List.{List, _++_}
 use mathlib.Core.Bool.{true}
-use lib.ListN.{length, drop, length-append, length-drop}
+use lib.ListN.{length, drop}
 use Rattle.text.specs.Bytes.{starts}
 use Rattle.text.specs.Line.{oneLine}
-use Rattle.grammar.specs.Names.{nameLine, Named, firstNamed, nameAt}
-use Rattle.grammar.specs.Texts.{textLines}
-use Rattle.grammar.proofs.Names.{NameLaws, line-there}
-use Rattle.grammar.proofs.Named.{ShapeLaws, form-facts}
-use Rattle.grammar.proofs.Facts.{AllLines, Facts, Laws}
-use Rattle.grammar.proofs.Grammar.{text-one}
+use Rattle.grammar.specs.Names.{nameLine, Named, firstNamed}
+use Rattle.grammar.proofs.Named.{ShapeLaws}
+use Rattle.grammar.proofs.Facts.{Facts, Laws}
+use Rattle.grammar.proofs.Laws.{GrammarLaws, format-laws, any-facts}
 use Rattle.events.specs.Kind.{kindName, kinds, kindNames}
-use Rattle.events.specs.Event.{eventShape, everyKind, eventForm}
-use Rattle.events.specs.Wait.{Header, Wait1, headerName, headers, header, waitFormat, firstEvent}
+use Rattle.events.specs.Event.{eventShape, eventForm}
+use Rattle.events.specs.Wait.{Header, Wait1, headerName, headers, firstEvent, waitGrammar, waitFormat}
 use Rattle.events.specs.declared.Kind.{Kind}
 use Rattle.events.specs.declared.Kind.the-variants.{Register, End, Horizon, Reserve, Observe}
-use Rattle.events.specs.declared.Event.{Event}
 
 kind-found : (k : Kind) (s : List ℕ) (at : ℕ) (rest : List ℕ) → drop at s ≡ kindName k ++ rest
     → firstNamed kindName kinds s at ≡ Named k (at + length (kindName k))
@@ -47,9 +44,6 @@ event-laws = record {
   plain = λ t. refl;
 }
 
-pub event-facts : Facts eventForm
-event-facts = form-facts eventShape event-laws everyKind Register refl
-
 header-found : (h : Header) (s : List ℕ) (at : ℕ) (rest : List ℕ) → drop at s ≡ headerName h ++ rest
     → firstNamed headerName (headers .kinds) s at ≡ Named h (at + length (headerName h))
 unfolding starts firstNamed
@@ -59,22 +53,23 @@ header-one : (h : Header) → oneLine (nameLine headers h) ≡ true
 unfolding oneLine nameLine
 header-one Wait1 = refl
 
-header-laws : NameLaws headers
-header-laws = record { found = header-found; one = header-one }
-
-pub wait-laws : Laws waitFormat
-wait-laws = record { any = Wait1; heads = header-laws; facts = λ h. event-facts }
-
--- for `FirstBroken`, which counts the lines of a wait: each of them ends in a newline and has no other
-pub wait-one : (es : List Event) → AllLines (textLines waitFormat Wait1 es)
-wait-one es = text-one waitFormat wait-laws Wait1 es
-
-pub header-length : length header ≡ firstEvent
+header-length : (h : Header) → length (nameLine headers h) ≡ firstEvent
 unfolding nameLine
-header-length = refl
+header-length Wait1 = refl
 
--- the header stands inside a text that begins with it
-pub head-inside : (s : List ℕ) (e : ℕ) → nameAt headers s 0 ≡ Named Wait1 e → e ≤ length s
-head-inside s e q =
-    let t = line-there headers header-laws s 0 Wait1 e q in
-    omega (arith, t .past, simp (length-append, length-drop) at (ap length (t .text)))
+pub wait-grammar : GrammarLaws waitGrammar
+wait-grammar = record {
+  heads = record { found = header-found; one = header-one };
+  long = header-length;
+  shape = event-laws;
+  head = Wait1;
+  kind = Register;
+  allowed = λ h. refl;
+}
+
+-- so waits have all of the grammar's laws
+pub wait-laws : Laws waitFormat
+wait-laws = format-laws waitGrammar wait-grammar
+
+pub event-facts : Facts eventForm
+event-facts = any-facts waitGrammar wait-grammar

@@ -1,13 +1,12 @@
 -- An event of six lines: its text, and what is read of a text.
 use Prim.Native.Nat.{ℕ}
-use mathlib.Core.Bool.{Bool, true}
 use mathlib.Core.List.{List}
 use Rattle.text.specs.Keys.{xminKey}
 use Rattle.text.specs.FiveLines.{Fits, fieldsAt}
 use Rattle.text.specs.declared.Values.{Values}
-use Rattle.grammar.specs.Items.{ItemAt, Form, itemText}
-use Rattle.grammar.specs.Items as item
+use Rattle.grammar.specs.Items.{Form, itemText, sayItem}
 use Rattle.grammar.specs.Named.{Shape, onFields, formOf}
+use Rattle.grammar.specs.Grammar.{everyKind}
 use Rattle.events.specs.Kind.{readsOf, kindNames}
 use Rattle.events.specs.declared.Kind.{Kind}
 use Rattle.events.specs.declared.Event.{Event}
@@ -32,10 +31,7 @@ eventShape = record { names = kindNames; fourth = xminKey; reads = readsOf; item
 abbrev pub Expressible : Event → Type 0
 Expressible e = Fits xminKey (readsOf (e .kind)) (valuesOf e)
 
--- every kind may stand under the one header
-abbrev pub everyKind : Kind → Bool
-everyKind k = true
-
+-- events: every kind may stand under the one header
 abbrev pub eventForm : Form Event
 eventForm = formOf eventShape everyKind
 
@@ -43,14 +39,10 @@ eventForm = formOf eventShape everyKind
 abbrev pub eventText : Event → List ℕ
 eventText e = itemText eventForm e
 
-abbrev pub asEvent : ItemAt Event → EventAt
-asEvent (item.Is e a) = Is e a
-asEvent (item.Broken k) = Broken k
-
 -- the event of a kind whose line ends just before `at`
 abbrev pub eventAfter : List ℕ → Kind → ℕ → EventAt
-eventAfter s k at = asEvent (onFields (eventOf k) (fieldsAt s at xminKey (readsOf k)))
+eventAfter s k at = sayItem Is Broken (onFields (eventOf k) (fieldsAt s at xminKey (readsOf k)))
 
 -- the event at `at`, or the first of its six lines that breaks a rule
 unfoldable pub eventAt : List ℕ → ℕ → EventAt
-eventAt s at = asEvent (eventForm .at s at)
+eventAt s at = sayItem Is Broken (eventForm .at s at)

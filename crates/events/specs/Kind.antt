@@ -1,11 +1,10 @@
 -- The events that a wait can name: their names, and which fields they read.
-use Prim.Native.Nat.{ℕ, _+_}
-use mathlib.Core.Bool.{true, false, cond}
+use Prim.Native.Nat.{ℕ}
+use mathlib.Core.Bool.{true, false}
 use mathlib.Core.List.{List, [], _∷_}
-use lib.ListN.{length, drop}
-use Rattle.text.specs.Bytes.{bytes, starts}
+use Rattle.text.specs.Bytes.{bytes}
 use Rattle.text.specs.declared.Reads.{Reads}
-use Rattle.grammar.specs.Names.{Names, NameAt, Named, Unknown, firstNamed, nameAt}
+use Rattle.grammar.specs.Names.{Names, nameAt, sayName}
 use Rattle.events.specs.declared.Kind.{Kind}
 use Rattle.events.specs.declared.Kind.the-variants.{Register, End, Horizon, Reserve, Observe}
 use Rattle.events.specs.declared.names.KindAt.{KindAt}
@@ -36,17 +35,6 @@ eventKey = bytes "event="
 abbrev pub kindNames : Names Kind
 kindNames = record { key = eventKey; kinds = kinds; name = kindName }
 
-abbrev pub asKind : NameAt Kind → KindAt
-asKind (Named k e) = kind.Is k e
-asKind Unknown = kind.Unknown
-
--- k and the place past its name, where the name stands at `at`
-unfoldable pub tryName : List ℕ → ℕ → List ℕ → Kind → KindAt → KindAt
-tryName s at name k other = cond (starts name (drop at s)) (kind.Is k (at + length name)) other
-
--- the kind whose name stands at `at`, and the kind whose line does
-abbrev pub kindNameAt : List ℕ → ℕ → KindAt
-kindNameAt s at = asKind (firstNamed kindName kinds s at)
-
+-- the kind whose line stands at `at`
 unfoldable pub kindAt : List ℕ → ℕ → KindAt
-kindAt s at = asKind (nameAt kindNames s at)
+kindAt s at = sayName kind.Is kind.Unknown (nameAt kindNames s at)

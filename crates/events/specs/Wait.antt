@@ -1,14 +1,16 @@
--- A wait: its text, and what is read of a text.
+-- A wait: its grammar, its text, and what is read of a text.
 use Prim.Native.Nat.{ℕ}
-use mathlib.Core.Bool.{Bool, true, false}
+use mathlib.Core.Bool.{true}
 use mathlib.Core.List.{List, [], _∷_}
 use Rattle.text.specs.Bytes.{bytes}
-use Rattle.grammar.specs.Names.{Names, NameAt, Named, Unknown, nameLine, nameAt}
+use Rattle.grammar.specs.Names.{Names, nameLine}
 use Rattle.grammar.specs.Items.{AllGood, itemsFrom}
 use Rattle.grammar.specs.Items as items
-use Rattle.grammar.specs.Texts.{Format, Read, Count, Many, Refused, wholeText, readText, countText}
+use Rattle.grammar.specs.Texts.{Format, Read, wholeText, readText, countText, sayCount}
 use Rattle.grammar.specs.Texts as texts
-use Rattle.events.specs.Event.{eventForm}
+use Rattle.grammar.specs.Grammar.{Grammar, formatOf}
+use Rattle.events.specs.Event.{eventShape, eventForm}
+use Rattle.events.specs.declared.Kind.{Kind}
 use Rattle.events.specs.declared.Event.{Event}
 use Rattle.events.specs.declared.Reading.{Reading}
 use Rattle.events.specs.declared.Reading.the-variants.{Whole, Broken}
@@ -27,21 +29,16 @@ headers = record { key = bytes "wait="; kinds = Wait1 ∷ []; name = headerName 
 abbrev pub header : List ℕ
 header = nameLine headers Wait1
 
-abbrev pub isHeader : NameAt Header → Bool
-isHeader (Named h e) = true
-isHeader Unknown = false
-
--- whether a text begins with it
-unfoldable pub headed : List ℕ → Bool
-headed s = isHeader (nameAt headers s 0)
-
--- the header, and events under it
-abbrev pub waitFormat : Format Header Event
-waitFormat = record { heads = headers; form = λ h. eventForm }
-
 -- the place of the first event
 abbrev pub firstEvent : ℕ
 firstEvent = 12
+
+-- the header, and events of every kind
+abbrev pub waitGrammar : Grammar Header Kind Event
+waitGrammar = record { heads = headers; first = firstEvent; shape = eventShape; allowed = λ h k. true }
+
+abbrev pub waitFormat : Format Header Event
+waitFormat = formatOf waitGrammar
 
 -- the most bytes that a wait may have
 abbrev pub longest : ℕ
@@ -55,20 +52,15 @@ waitText es = wholeText waitFormat Wait1 es
 abbrev pub AllExpressible : List Event → Type 0
 AllExpressible es = AllGood eventForm es
 
--- the events of a whole text, or the first line that breaks a rule
-unfoldable pub eventsOf : List ℕ → Read Header Event
+-- the events of a whole text, or the first line that breaks a rule; and how many events
+abbrev pub eventsOf : List ℕ → Read Header Event
 eventsOf s = readText waitFormat s
 
--- how many events, or the first line that breaks a rule
-abbrev pub asReading : Count Header → Reading
-asReading (Many h n) = Whole n
-asReading (Refused k) = Broken k
-
 unfoldable pub reading : List ℕ → Reading
-reading s = asReading (countText waitFormat s)
+reading s = sayCount (λ h n. Whole n) Broken (countText waitFormat s)
 
 -- the events that are left from `at` on
-unfoldable pub eventsFrom : List ℕ → ℕ → List Event
+abbrev pub eventsFrom : List ℕ → ℕ → List Event
 eventsFrom s at = itemsFrom eventForm s at
 
 -- from `at` on the text is those events and nothing else: where a loop over the events stands

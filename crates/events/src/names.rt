@@ -1,10 +1,12 @@
 // The line that names an event, and which fields an event reads.
 use crate::Kind;
 use text::Reads;
-ghost use Prim.Native.Nat.{_<_};
+ghost use Prim.Native.Nat.{_+_, _<_};
 ghost use mathlib.Core.Path.{_≡_};
 ghost use lib.ListN.{length};
-ghost use Rattle.events.specs.Kind.{readsOf, tryName, kindNameAt, kindAt};
+ghost use Rattle.grammar.specs.Names.{firstNamed, ifNamed, sayName};
+ghost use Rattle.events.specs.declared.names.KindAt.the-variants.{Is, Unknown};
+ghost use Rattle.events.specs.Kind.{readsOf, kindName, kinds, kindAt};
 
 // A kind of event, with the place past its line, or none.
 pub enum KindAt {
@@ -39,7 +41,7 @@ pub fn reads_of(kind: Kind) -> Reads
 // `kind` and the place past its name, where the name stands at `at`, and `other` where it doesn't.
 fn try_name(s: &[u8], at: usize, name: &[u8], kind: Kind, other: KindAt) -> KindAt
     requires { ⌜ 0 < length (now name) ⌝ }
-    ensures { λ r. ⌜ r ≡ tryName (now (s .entry)) at (now (name .entry)) kind other ⌝ }
+    ensures { λ r. ⌜ r ≡ ifNamed (now (s .entry)) at (now (name .entry)) (Is kind (at + length (now (name .entry)))) other ⌝ }
 {
     if text::bytes_at(s, at, name) {
         return KindAt::Is(kind, at + name.len());
@@ -50,7 +52,7 @@ fn try_name(s: &[u8], at: usize, name: &[u8], kind: Kind, other: KindAt) -> Kind
 // The kind whose name, with its newline, stands at `at`. All five are compared; no two can stand at
 // one place.
 fn name_at(s: &[u8], at: usize) -> KindAt
-    ensures { λ r. ⌜ r ≡ kindNameAt (now (s .entry)) at ⌝ }
+    ensures { λ r. ⌜ r ≡ sayName Is Unknown (firstNamed kindName kinds (now (s .entry)) at) ⌝ }
 {
     let observe = try_name(s, at, b"observe\n", Kind::Observe, KindAt::Unknown);
     let reserve = try_name(s, at, b"reserve\n", Kind::Reserve, observe);

@@ -2,7 +2,7 @@
 use crate::EventAt;
 use crate::Reading;
 ghost use mathlib.Core.Path.{_≡_};
-ghost use Rattle.events.specs.Wait.{firstEvent, headed, reading};
+ghost use Rattle.events.specs.Wait.{firstEvent, reading};
 
 // The most bytes that a wait may have.
 pub const LONGEST: usize = 65536;
@@ -14,16 +14,6 @@ pub fn first_event() -> usize
     12
 }
 
-// Whether the text begins with the header and its newline.
-fn headed(s: &[u8]) -> bool
-    ensures { λ r. ⌜ r ≡ headed (now (s .entry)) ⌝ }
-{
-    if text::bytes_at(s, 0, b"wait=") {
-        return text::bytes_at(s, 5, b"proc-1\n");
-    }
-    false
-}
-
 // The number of the events of the text s, or the first line that breaks a rule.
 pub fn read_wait(s: &[u8]) -> Reading
     ensures { λ r. ⌜ r ≡ reading (now (s .entry)) ⌝ }
@@ -31,7 +21,7 @@ pub fn read_wait(s: &[u8]) -> Reading
     if LONGEST < s.len() {
         return Reading::Broken(0);
     }
-    if !headed(s) {
+    if !text::bytes_at(s, 0, b"wait=proc-1\n") {
         return Reading::Broken(1);
     }
     let mut at = first_event();

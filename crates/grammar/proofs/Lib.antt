@@ -4,4 +4,6 @@ pub mod Named
 pub mod Walk
 pub mod Grammar
 pub mod Refusal
+pub mod Said
+pub mod Laws
 pub mod Count

@@ -208,3 +208,18 @@ module _ {K I : Type 0} (w : Shape K I) (laws : ShapeLaws w) (allowed more : K �
       let t = item-text w laws allowed s at x e h in
       let good : Expressed w more x = record { permitted = wide (w .kind x) (t .good .permitted); fits = t .good .fits } in
       item-of w laws more x s at (drop e s) good (t .text .text) ∙ ap (Is x) (sym (t .text .past))
+
+-- an item by the line that names it
+module _ {K I : Type 0} (w : Shape K I) (allowed : K → Bool) (s : List ℕ) (at : ℕ) where
+  pub item-unknown : nameAt (w .names) s at ≡ Unknown → itemAt w allowed s at ≡ Broken 1
+  unfolding itemAt
+  item-unknown h = rw h
+
+  pub item-refused : {k : K} {a : ℕ} → nameAt (w .names) s at ≡ Named k a → allowed k ≡ false → itemAt w allowed s at ≡ Broken 1
+  unfolding itemAt
+  item-refused h l = rw (h, l)
+
+  pub item-named : {k : K} {a : ℕ} → nameAt (w .names) s at ≡ Named k a → allowed k ≡ true
+      → itemAt w allowed s at ≡ onFields (w .item k) (fieldsAt s a (w .fourth) (w .reads k))
+  unfolding itemAt
+  item-named h l = rw (h, l)

@@ -12,6 +12,11 @@ pub data ItemAt (I : Type 0) : Type 0 where
   Is : I → ℕ → ItemAt I
   Broken : ℕ → ItemAt I
 
+-- the same in a code's own words
+abbrev pub sayItem : {I A : Type 0} → (I → ℕ → A) → (ℕ → A) → ItemAt I → A
+sayItem is broken (Is x e) = is x e
+sayItem is broken (Broken k) = broken k
+
 -- a kind of item: what is read at a place, the lines of an item, and which items a text can express
 pub record Form (I : Type 0) : Type 1 where
   pub at : List ℕ → ℕ → ItemAt I

@@ -26,3 +26,12 @@ firstNamed name (k ∷ ks) s at = cond (starts (name k) (drop at s)) (Named k (a
 
 unfoldable pub nameAt : {K : Type 0} → Names K → List ℕ → ℕ → NameAt K
 nameAt w s at = cond (starts (w .key) (drop at s)) (firstNamed (w .name) (w .kinds) s (at + length (w .key))) Unknown
+
+-- one answer where a name stands at `at`, and another where it doesn't
+unfoldable pub ifNamed : {A : Type 0} → List ℕ → ℕ → List ℕ → A → A → A
+ifNamed s at name this other = cond (starts name (drop at s)) this other
+
+-- the same in a code's own words
+abbrev pub sayName : {K A : Type 0} → (K → ℕ → A) → A → NameAt K → A
+sayName named unknown (Named k e) = named k e
+sayName named unknown Unknown = unknown

@@ -60,6 +60,11 @@ counted (Broken k) = Refused k
 unfoldable pub countText : {H I : Type 0} → Format H I → List ℕ → Count H
 countText t s = counted (readText t s)
 
+-- the same in a code's own words
+abbrev pub sayCount : {H A : Type 0} → (H → ℕ → A) → (ℕ → A) → Count H → A
+sayCount whole broken (Many h n) = whole h n
+sayCount whole broken (Refused k) = broken k
+
 -- s begins with the first k lines of some text of this format, each with its newline
 pub record Opens {H I : Type 0} (t : Format H I) (k : ℕ) (s : List ℕ) : Type 0 where
   pub head : H

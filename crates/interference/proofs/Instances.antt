@@ -24,7 +24,7 @@ use Rattle.grammar.specs.Texts.{readText}
 use Rattle.upstream.specs.States.{stateOf}
 use Rattle.upstream.specs.Relations.{HistoryOf}
 use Rattle.upstream.proofs.Fresh.{from-fresh}
-use Rattle.events.specs.Wait.{header, eventsOf}
+use Rattle.events.specs.Wait.{header}
 use Rattle.wait.specs.declared.Owner.{Owner}
 use Rattle.wait.specs.declared.Owner.the-variants.{Nobody, Holds}
 use Rattle.wait.specs.Steps.{registerRule, endRule, ruleOf, eventTest, changeBy, eventChange}
@@ -63,7 +63,7 @@ pub owner-accepted :
     waitOf 3 entry first text ≡ record { table = lent (4 ∷ 0 ∷ 9 ∷ []) (4 ∷ 0 ∷ 9 ∷ []) freePins (counted 10 1 1); verdict = Pass }
 unfolding
     waitOf verdictOn stepsFrom ended eventTest ruleOf registerRule endRule eventChange changeBy passes slotsPass differ freePins pinsPass
-    listed eventsOf readText nameAt firstNamed nameLine foundFrom foundIn itemAt fieldsAt fieldRules limit
+    listed readText nameAt firstNamed nameLine foundFrom foundIn itemAt fieldsAt fieldRules limit
     linesAt fieldAt numberAt numberFrom numberTail starts
 owner-accepted = refl
 
@@ -71,7 +71,7 @@ pub nobody-accepted :
     waitOf 3 entry Nobody text ≡ record { table = lent (4 ∷ 0 ∷ 9 ∷ []) (4 ∷ 0 ∷ 9 ∷ []) freePins (counted 10 1 1); verdict = Pass }
 unfolding
     waitOf verdictOn stepsFrom ended eventTest ruleOf registerRule endRule eventChange changeBy passes slotsPass differ freePins pinsPass
-    listed eventsOf readText nameAt firstNamed nameLine foundFrom foundIn itemAt fieldsAt fieldRules limit
+    listed readText nameAt firstNamed nameLine foundFrom foundIn itemAt fieldsAt fieldRules limit
     linesAt fieldAt numberAt numberFrom numberTail starts
 nobody-accepted = refl
 

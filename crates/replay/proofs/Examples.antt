@@ -19,7 +19,6 @@ use Rattle.grammar.specs.Items.{foundIn, foundFrom}
 use Rattle.grammar.specs.Named.{itemAt}
 use Rattle.grammar.specs.Texts.{readText}
 use Rattle.trace.specs.Version.{allowed}
-use Rattle.trace.specs.Trace.{traceOf}
 use Rattle.output.specs.Output.{toldLines, restLines, holderLine, inLines, answerText, printed}
 use Rattle.step.specs.Named.{callOf}
 use Rattle.replay.specs.Replay.{textOf, brokenText, replayOf}
@@ -31,7 +30,7 @@ unfolding
     replayOf textOf brokenText callOf printed answerText toldLines restLines holderLine inLines lineText numberText decimal decimalIn
     told consumed noSnapshot active retained holderFrom lowestEmpty minimum maximum snapshotOf freePins freshTable
     tellsOf xminTold holderTold numbersOf refusal changeAccepted spent changeOf after answerAccepted answer shownAccepted shown
-    traceOf readText nameAt firstNamed nameLine foundFrom foundIn itemAt allowed fieldsAt fieldRules limit
+    readText nameAt firstNamed nameLine foundFrom foundIn itemAt allowed fieldsAt fieldRules limit
     linesAt fieldAt numberAt numberFrom numberTail starts
 examples = record {
   whole-case = refl;

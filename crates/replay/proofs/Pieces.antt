@@ -22,7 +22,6 @@ use Rattle.grammar.specs.Texts.{Read}
 use Rattle.trace.specs.declared.Version.{Version}
 use Rattle.trace.specs.declared.Version.the-variants.{Proc2}
 use Rattle.trace.specs.Trace.{traceOf, reading}
-use Rattle.trace.proofs.Refusal.{trace-breaks}
 use Rattle.output.specs.Output.{need}
 use Rattle.output.proofs.Wrote.{holder-few}
 use Rattle.replay.specs.Replay.{textOf, brokenText, replayBy, replayOf}

@@ -17,9 +17,11 @@ use Rattle.text.proofs.Splice.{splice-none, splice-append}
 use Rattle.trace.specs.declared.Record.{Record}
 use Rattle.trace.specs.declared.Version.{Version}
 use Rattle.trace.specs.declared.RecordAt.the-variants.{Is}
-use Rattle.trace.specs.Record.{recordAt}
+use Rattle.trace.specs.Record.{anyForm, recordAt}
 use Rattle.trace.specs.Trace.{recordsFrom, Boundary}
-use Rattle.trace.proofs.Loop.{next-record, none-left}
+use Rattle.trace.proofs.Shape.{any-facts}
+use Rattle.trace.proofs.Answers.{record-is}
+use Rattle.grammar.proofs.Walk.{next-item, none-left}
 use Rattle.output.specs.Output.{printed, fits, putText, leftText}
 use Rattle.step.specs.Named.{callOf}
 use Rattle.step.specs.Step.{ranOf, leftOf, ran, ranLeft}
@@ -100,7 +102,7 @@ module _ (v : Version) (n : ℕ) (s : List ℕ) (from : ℕ) (t₀ : Table) (xs 
         length (u .txids) ≡ n → Running v n s from t₀ xs zs u e past
     unfolding partOf
     running-more r e {o} {zs} {past} {u} q a p k made few′ =
-        let m = next-record s at r e (w .boundary) q in
+        let m = next-item anyForm any-facts s at r e (w .boundary) (record-is s at q) in
         let out = printed v n t (callOf r) in
         let many = shown n t (callOf r) .count in
         let put = sym p ∙ a .put in
@@ -127,7 +129,7 @@ module _ (v : Version) (n : ℕ) (s : List ℕ) (from : ℕ) (t₀ : Table) (xs 
         o .put ≡ NoRoom → PartFits v n s from t₀ xs zs (record { table = t; at = at; filled = filled })
     unfolding partOf
     running-full r e {o} {zs} q a p =
-        let m = next-record s at r e (w .boundary) q in
+        let m = next-item anyForm any-facts s at r e (w .boundary) (record-is s at q) in
         let out = printed v n t (callOf r) in
         let many = shown n t (callOf r) .count in
         let put = sym p ∙ a .put in
@@ -157,7 +159,7 @@ module _ (v : Version) (n : ℕ) (s : List ℕ) (from : ℕ) (t₀ : Table) (xs 
     pub running-over : at ≡ length s → PartFits v n s from t₀ xs ys (record { table = t; at = at; filled = filled })
     unfolding partOf
     running-over h =
-        let none = none-left s at h in
+        let none = none-left anyForm any-facts s at h in
         let whole : partOf v n (length xs) 0 t₀ (recordsFrom s from) ≡ record { text = w .done; table = t; left = recordsFrom s at } =
         w .rest ∙ rw (none, append-nil) in
         record {

@@ -21,10 +21,13 @@ use Rattle.grammar.specs.Texts as texts
 use Rattle.grammar.specs.Texts.{Read}
 use Rattle.trace.specs.declared.Version.{Version}
 use Rattle.trace.specs.declared.Version.the-variants.{Proc2}
-use Rattle.trace.specs.Trace.{traceOf, reading, recordsFrom, firstRecord, Boundary}
-use Rattle.trace.proofs.Grammar.{accepted, opened}
-use Rattle.trace.proofs.Refusal.{trace-breaks}
-use Rattle.trace.proofs.Loop.{none-left, records-inside, end-only}
+use Rattle.trace.specs.Trace.{traceGrammar, traceFormat, traceOf, reading, recordsFrom, firstRecord, Boundary}
+use Rattle.trace.specs.Record.{anyForm}
+use Rattle.trace.proofs.Shape.{trace-grammar, trace-laws, any-facts}
+use Rattle.trace.proofs.Answers.{reading-is}
+use Rattle.grammar.proofs.Laws.{opened, count-breaks}
+use Rattle.grammar.proofs.Grammar.{accepted}
+use Rattle.grammar.proofs.Walk.{none-left, items-inside, end-only}
 use Rattle.output.specs.Output.{need}
 use Rattle.output.proofs.Wrote.{holder-few}
 use Rattle.replay.specs.Replay.{brokenText}
@@ -38,8 +41,7 @@ use Rattle.replay.proofs.Pieces.{pieces-few, no-parts, piece-next, all-
 -- refusal 9 is the one piece of a text that is no trace
 module _ (n : ℕ) (s : List ℕ) (line : ℕ) (e : reading s ≡ Broken line) where
   breaks : traceOf s ≡ texts.Broken line
-  unfolding reading
-  breaks = trace-breaks s line e
+  breaks = count-breaks traceFormat s (reading-is s e)
 
   one-piece : piecesOf n s ≡ brokenText line ∷ []
   unfolding piecesOf
@@ -83,25 +85,25 @@ to-fresh {v} {n} {t₀} e w =
 
 module _ (v : Version) (n : ℕ) (s : List ℕ) (count : ℕ) where
   pub is-whole : reading s ≡ Whole v count → isTrace (traceOf s) ≡ true
-  is-whole e = ap isTrace (opened s v count e .records)
+  is-whole e = ap isTrace (opened traceGrammar trace-grammar s v count (reading-is s e) .items)
 
   pub sending-start :
       {to : ℤ} → reading s ≡ Whole v count →
       Sending v n s count to (freshTable n) firstRecord (handed to 0)
   unfolding piecesOf
   sending-start e =
-      let b = opened s v count e in
+      let b = opened traceGrammar trace-grammar s v count (reading-is s e) in
       let rs = recordsFrom s firstRecord in
-      let short = accepted s v rs (b .records) .short in
-      let inside = records-inside s firstRecord (b .boundary) in
+      let short = accepted traceFormat trace-laws s v rs (b .items) .short in
+      let inside = items-inside anyForm any-facts s firstRecord (b .boundary) in
       record {
         boundary = b .boundary;
         good = good-fresh n;
-        few = omega (arith, short, inside, pieces-few n s v rs (b .records));
+        few = omega (arith, short, inside, pieces-few n s v rs (b .items));
         same = refl;
         most = length rs;
         enough = omega arith;
-        rest = rw (b .records) (rw (b .many));
+        rest = rw (b .items) (rw (b .many));
       }
 
   module _ {to : ℤ} {t : Table} {at : ℕ} {h : Handed} (w : Sending v n s count to t at h) where
@@ -120,7 +122,7 @@ module _ (v : Version) (n : ℕ) (s : List ℕ) (count : ℕ) where
       split size room more = go (recordsFrom s at) refl (w .most) refl
         where
           go : (rs : List Record) → recordsFrom s at ≡ rs → (m : ℕ) → w .most ≡ m → Split
-          go [] e m f = absurd (more (end-only s at (w .boundary) e))
+          go [] e m f = absurd (more (end-only anyForm any-facts s at (w .boundary) e))
           go (q ∷ rs) e zero f = absurd (omega (arith, w .enough, ap length e))
           go (q ∷ rs) e (suc m) f =
               let on = part-goes-on v n (length xs) t q rs (w .good) (omega (arith, holder-few v)) in
@@ -156,7 +158,7 @@ module _ (v : Version) (n : ℕ) (s : List ℕ) (count : ℕ) where
     -- no record is left: the last line is
     module _ (over : at ≡ length s) where
       last-piece : drop (h .pieces) (piecesOf n s) ≡ lineText recordsKey count ∷ []
-      last-piece = w .rest ∙ rw (none-left s at over, no-parts (w .most) v n t)
+      last-piece = w .rest ∙ rw (none-left anyForm any-facts s at over, no-parts (w .most) v n t)
 
       pub last-next :
           (xs : List ℕ) {ys : List ℕ} {size : ℕ} → size ≡ length (lineText recordsKey count) →

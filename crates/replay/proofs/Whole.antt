@@ -18,10 +18,12 @@ use Rattle.trace.specs.declared.Record.{Record}
 use Rattle.trace.specs.declared.Reading.the-variants as reads
 use Rattle.grammar.specs.Texts.{Broken}
 use Rattle.trace.specs.declared.Version.{Version}
-use Rattle.trace.specs.Trace.{traceOf, reading, recordsFrom, firstRecord, Boundary}
-use Rattle.trace.proofs.Grammar.{opened}
-use Rattle.trace.proofs.Refusal.{trace-breaks}
-use Rattle.trace.proofs.Loop.{none-left, end-only}
+use Rattle.trace.specs.Trace.{traceGrammar, traceFormat, traceOf, reading, recordsFrom, firstRecord, Boundary}
+use Rattle.trace.specs.Record.{anyForm}
+use Rattle.trace.proofs.Shape.{trace-grammar, any-facts}
+use Rattle.trace.proofs.Answers.{reading-is}
+use Rattle.grammar.proofs.Laws.{opened, count-breaks}
+use Rattle.grammar.proofs.Walk.{none-left, end-only}
 use Rattle.replay.specs.Replay.{brokenText}
 use Rattle.replay.specs.Part.{Part, partOf, PartFits}
 use Rattle.replay.specs.Into.{Into, whole, cut, textIn, intoEnd, intoOf, BrokenFits, EndFits, replayed, IntoFits}
@@ -40,7 +42,7 @@ module _ (n : ℕ) (s xs : List ℕ) where
   into-broken line {ys} {r} e f = go (leb 33 (length xs)) refl
     where
       found : traceOf s ≡ Broken line
-      found = trace-breaks s line e
+      found = count-breaks traceFormat s (reading-is s e)
 
       go : (b : Bool) → leb 33 (length xs) ≡ b → IntoFits n s xs ys r
       go true q = fits-by (whole (brokenText line)) (rw (found, q)) (rw q at (f .says)) (rw q at (f .text))
@@ -52,7 +54,7 @@ module _ (n : ℕ) (s xs : List ℕ) where
       PartFits v n s at t xs xs (record { table = t; at = at; filled = 0 })
   unfolding partOf
   part-none v at t h b =
-      let none = none-left s at h in
+      let none = none-left anyForm any-facts s at h in
       record {
         text = rw none (splice-none xs 0);
         filled = rw none;
@@ -71,7 +73,7 @@ module _ (n : ℕ) (s xs : List ℕ) where
 
       into-is : intoOf n (length xs) s ≡ intoEnd (length xs) count (part .left) (part .text)
       unfolding intoOf part
-      into-is = let b = opened s version count e in rw (b .records) (rw (b .many))
+      into-is = let b = opened traceGrammar trace-grammar s version count (reading-is s e) in rw (b .items) (rw (b .many))
 
       pub into-whole :
           {zs : List ℕ} {r : Replayed} → at ≡ length s → length ys ≡ length xs → EndFits count filled ys zs r →
@@ -80,7 +82,7 @@ module _ (n : ℕ) (s xs : List ℕ) where
       into-whole {zs} {r} h k f = go (leb (length (part .text) + length (lineText recordsKey count)) (length xs)) refl
         where
           none : part .left ≡ []
-          none = sym (p .left) ∙ none-left s at h
+          none = sym (p .left) ∙ none-left anyForm any-facts s at h
 
           ended : intoOf n (length xs) s ≡ intoEnd (length xs) count [] (part .text)
           ended = into-is ∙ rw none
@@ -103,5 +105,5 @@ module _ (n : ℕ) (s xs : List ℕ) where
       into-cut h = go (part .left) refl
         where
           go : (l : List Record) → part .left ≡ l → IntoFits n s xs ys (NoRoom filled)
-          go [] q = absurd (h (end-only s at (p .boundary) (p .left ∙ q)))
+          go [] q = absurd (h (end-only anyForm any-facts s at (p .boundary) (p .left ∙ q)))
           go (r ∷ rs) q = fits-by (cut (part .text)) (into-is ∙ rw q) (ap NoRoom (p .filled)) (p .text)

@@ -1,12 +1,11 @@
 -- The ops of a trace: their names, and which fields they read.
-use Prim.Native.Nat.{ℕ, _+_}
-use mathlib.Core.Bool.{true, false, cond}
+use Prim.Native.Nat.{ℕ}
+use mathlib.Core.Bool.{true, false}
 use mathlib.Core.List.{List, [], _∷_}
-use lib.ListN.{length, drop}
-use Rattle.text.specs.Bytes.{bytes, starts}
+use Rattle.text.specs.Bytes.{bytes}
 use Rattle.text.specs.Keys.{opKey}
 use Rattle.text.specs.declared.Reads.{Reads}
-use Rattle.grammar.specs.Names.{Names, NameAt, Named, Unknown, firstNamed, nameAt}
+use Rattle.grammar.specs.Names.{Names, nameAt, sayName}
 use Rattle.trace.specs.declared.Op.{Op}
 use Rattle.trace.specs.declared.Op.the-variants.{Begin, End, Snap, Own, Oldest, Vacuum, Stamp, Finish}
 use Rattle.trace.specs.declared.ops.OpAt.{OpAt}
@@ -40,17 +39,6 @@ ops = Begin ∷ End ∷ Snap ∷ Own ∷ Oldest ∷ Vacuum ∷ Stamp ∷ Finish 
 abbrev pub opNames : Names Op
 opNames = record { key = opKey; kinds = ops; name = opName }
 
-abbrev pub asOp : NameAt Op → OpAt
-asOp (Named o e) = op.Is o e
-asOp Unknown = op.Unknown
-
--- o and the place past its name, where the name stands at `at`
-unfoldable pub tryName : List ℕ → ℕ → List ℕ → Op → OpAt → OpAt
-tryName s at name o other = cond (starts name (drop at s)) (op.Is o (at + length name)) other
-
--- the op whose name stands at `at`, and the op whose line does
-abbrev pub opNameAt : List ℕ → ℕ → OpAt
-opNameAt s at = asOp (firstNamed opName ops s at)
-
+-- the op whose line stands at `at`
 unfoldable pub opAt : List ℕ → ℕ → OpAt
-opAt s at = asOp (nameAt opNames s at)
+opAt s at = sayName op.Is op.Unknown (nameAt opNames s at)

@@ -1,13 +1,12 @@
 -- A record of six lines: its text, and what is read of a text.
 use Prim.Native.Nat.{ℕ}
-use mathlib.Core.Bool.{Bool, true}
 use mathlib.Core.List.{List}
 use Rattle.text.specs.Keys.{stampKey}
 use Rattle.text.specs.FiveLines.{Fits, fieldsAt}
 use Rattle.text.specs.declared.Values.{Values}
-use Rattle.grammar.specs.Items.{ItemAt, Form, itemText}
-use Rattle.grammar.specs.Items as item
-use Rattle.grammar.specs.Named.{Shape, onFields, itemAt, sixLines, formOf}
+use Rattle.grammar.specs.Items.{Form, itemText, sayItem}
+use Rattle.grammar.specs.Named.{Shape, onFields, formOf}
+use Rattle.grammar.specs.Grammar.{everyKind}
 use Rattle.trace.specs.Op.{readsOf, opNames}
 use Rattle.trace.specs.Version.{allowed}
 use Rattle.trace.specs.declared.Op.{Op}
@@ -38,27 +37,20 @@ Expressible r = Fits stampKey (readsOf (r .op)) (valuesOf r)
 abbrev pub recordForm : Version → Form Record
 recordForm v = formOf recordShape (allowed v)
 
-abbrev pub everyOp : Op → Bool
-everyOp o = true
-
 abbrev pub anyForm : Form Record
-anyForm = formOf recordShape everyOp
+anyForm = formOf recordShape everyKind
 
 -- the text of a record
 abbrev pub recordText : Record → List ℕ
 recordText r = itemText anyForm r
 
-abbrev pub asRecord : ItemAt Record → RecordAt
-asRecord (item.Is r e) = Is r e
-asRecord (item.Broken k) = Broken k
-
 -- the record of an op whose line ends just before `at`
 abbrev pub recordAfter : List ℕ → Op → ℕ → RecordAt
-recordAfter s o at = asRecord (onFields (recordOf o) (fieldsAt s at stampKey (readsOf o)))
+recordAfter s o at = sayItem Is Broken (onFields (recordOf o) (fieldsAt s at stampKey (readsOf o)))
 
 -- the record at `at` under a header, or the first of its six lines that breaks a rule; and whatever the header
 unfoldable pub recordUnder : Version → List ℕ → ℕ → RecordAt
-recordUnder v s at = asRecord (recordForm v .at s at)
+recordUnder v s at = sayItem Is Broken (recordForm v .at s at)
 
 unfoldable pub recordAt : List ℕ → ℕ → RecordAt
-recordAt s at = asRecord (anyForm .at s at)
+recordAt s at = sayItem Is Broken (anyForm .at s at)

@@ -1,26 +1,29 @@
--- A trace: its text, and what is read of a text.
+-- A trace: its grammar, its text, and what is read of a text.
 use Prim.Native.Nat.{ℕ}
 use mathlib.Core.List.{List}
-use lib.ListN.{length}
 use Rattle.grammar.specs.Items.{AllGood, itemsFrom}
 use Rattle.grammar.specs.Items as items
-use Rattle.grammar.specs.Texts.{Format, Read, Count, Many, Refused, wholeText, readText, countText}
+use Rattle.grammar.specs.Texts.{Format, Read, wholeText, readText, countText, sayCount}
 use Rattle.grammar.specs.Texts as texts
-use Rattle.trace.specs.Version.{versions, headerOf}
-use Rattle.trace.specs.Record.{recordForm, anyForm}
+use Rattle.grammar.specs.Grammar.{Grammar, formatOf}
+use Rattle.trace.specs.Version.{versions, allowed}
+use Rattle.trace.specs.Record.{recordShape, recordForm, anyForm}
+use Rattle.trace.specs.declared.Op.{Op}
 use Rattle.trace.specs.declared.Version.{Version}
-use Rattle.trace.specs.declared.Version.the-variants.{Proc1}
 use Rattle.trace.specs.declared.Record.{Record}
 use Rattle.trace.specs.declared.Reading.{Reading}
 use Rattle.trace.specs.declared.Reading.the-variants.{Whole, Broken}
 
--- a header, and records under it
-abbrev pub traceFormat : Format Version Record
-traceFormat = record { heads = versions; form = recordForm }
-
 -- the place of the first record, one for all headers
 abbrev pub firstRecord : ℕ
 firstRecord = 13
+
+-- a header, and records of the ops that it allows
+abbrev pub traceGrammar : Grammar Version Op Record
+traceGrammar = record { heads = versions; first = firstRecord; shape = recordShape; allowed = allowed }
+
+abbrev pub traceFormat : Format Version Record
+traceFormat = formatOf traceGrammar
 
 -- the most bytes that a trace may have
 abbrev pub longest : ℕ
@@ -34,20 +37,15 @@ traceText v rs = wholeText traceFormat v rs
 abbrev pub AllExpressible : Version → List Record → Type 0
 AllExpressible v rs = AllGood (recordForm v) rs
 
--- the header and the records of a whole text, or the first line that breaks a rule
-unfoldable pub traceOf : List ℕ → Read Version Record
+-- the header and the records of a whole text, or the first line that breaks a rule; and how many records
+abbrev pub traceOf : List ℕ → Read Version Record
 traceOf s = readText traceFormat s
 
--- the header and how many records, or the first line that breaks a rule
-abbrev pub asReading : Count Version → Reading
-asReading (Many v n) = Whole v n
-asReading (Refused k) = Broken k
-
 unfoldable pub reading : List ℕ → Reading
-reading s = asReading (countText traceFormat s)
+reading s = sayCount Whole Broken (countText traceFormat s)
 
 -- the records that are left from `at` on
-unfoldable pub recordsFrom : List ℕ → ℕ → List Record
+abbrev pub recordsFrom : List ℕ → ℕ → List Record
 recordsFrom s at = itemsFrom anyForm s at
 
 -- from `at` on the text is those records and nothing else: where a loop over the records stands

@@ -3,7 +3,7 @@ use Prim.Native.Nat.{ℕ}
 use mathlib.Core.Bool.{Bool, true}
 use mathlib.Core.List.{List, [], _∷_}
 use Rattle.text.specs.Bytes.{bytes}
-use Rattle.grammar.specs.Names.{Names, NameAt, Named, Unknown, nameLine, nameAt}
+use Rattle.grammar.specs.Names.{Names, nameLine, nameAt, sayName}
 use Rattle.trace.specs.declared.Op.{Op}
 use Rattle.trace.specs.declared.Version.{Version}
 use Rattle.trace.specs.declared.Version.the-variants.{Proc1, Proc2}
@@ -27,10 +27,6 @@ unfoldable pub allowed : Version → Op → Bool
 allowed Proc1 o = true
 allowed Proc2 o = true
 
-abbrev pub asHeader : NameAt Version → HeaderAt
-asHeader (Named v e) = at.Is v e
-asHeader Unknown = at.Unknown
-
 -- the header that a text begins with
 unfoldable pub headerAt : List ℕ → HeaderAt
-headerAt s = asHeader (nameAt versions s 0)
+headerAt s = sayName at.Is at.Unknown (nameAt versions s 0)

@@ -1,10 +1,12 @@
 // The line of an op, and which fields an op reads.
 use crate::Op;
 use text::Reads;
-ghost use Prim.Native.Nat.{_<_};
+ghost use Prim.Native.Nat.{_+_, _<_};
 ghost use mathlib.Core.Path.{_≡_};
 ghost use lib.ListN.{length};
-ghost use Rattle.trace.specs.Op.{readsOf, tryName, opNameAt, opAt};
+ghost use Rattle.grammar.specs.Names.{firstNamed, ifNamed, sayName};
+ghost use Rattle.trace.specs.declared.ops.OpAt.the-variants.{Is, Unknown};
+ghost use Rattle.trace.specs.Op.{readsOf, opName, ops, opAt};
 
 // An op, with the place past its line, or none.
 pub enum OpAt {
@@ -42,7 +44,7 @@ pub fn reads_of(op: Op) -> Reads
 // `op` and the place past its name, where the name stands at `at`, and `other` where it doesn't.
 fn try_name(s: &[u8], at: usize, name: &[u8], op: Op, other: OpAt) -> OpAt
     requires { ⌜ 0 < length (now name) ⌝ }
-    ensures { λ r. ⌜ r ≡ tryName (now (s .entry)) at (now (name .entry)) op other ⌝ }
+    ensures { λ r. ⌜ r ≡ ifNamed (now (s .entry)) at (now (name .entry)) (Is op (at + length (now (name .entry)))) other ⌝ }
 {
     if text::bytes_at(s, at, name) {
         return OpAt::Is(op, at + name.len());
@@ -53,7 +55,7 @@ fn try_name(s: &[u8], at: usize, name: &[u8], op: Op, other: OpAt) -> OpAt
 // The op whose name, with its newline, stands at `at`. All eight are compared; no two can stand at
 // one place.
 fn name_at(s: &[u8], at: usize) -> OpAt
-    ensures { λ r. ⌜ r ≡ opNameAt (now (s .entry)) at ⌝ }
+    ensures { λ r. ⌜ r ≡ sayName Is Unknown (firstNamed opName ops (now (s .entry)) at) ⌝ }
 {
     let finish = try_name(s, at, b"finish\n", Op::Finish, OpAt::Unknown);
     let stamp = try_name(s, at, b"stamp\n", Op::Stamp, finish);

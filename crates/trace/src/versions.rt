@@ -14,13 +14,11 @@ pub enum HeaderAt {
 pub fn header_at(s: &[u8]) -> HeaderAt
     ensures { λ r. ⌜ r ≡ headerAt (now (s .entry)) ⌝ }
 {
-    if text::bytes_at(s, 0, b"trace=") {
-        if text::bytes_at(s, 6, b"proc-1\n") {
-            return HeaderAt::Is(Version::Proc1, 13);
-        }
-        if text::bytes_at(s, 6, b"proc-2\n") {
-            return HeaderAt::Is(Version::Proc2, 13);
-        }
+    if text::bytes_at(s, 0, b"trace=proc-1\n") {
+        return HeaderAt::Is(Version::Proc1, 13);
+    }
+    if text::bytes_at(s, 0, b"trace=proc-2\n") {
+        return HeaderAt::Is(Version::Proc2, 13);
     }
     HeaderAt::Unknown
 }

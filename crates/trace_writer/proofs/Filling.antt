@@ -8,11 +8,13 @@ use mathlib.Core.Path.{_≡_, refl, sym, ap, _∙_}
 use mathlib.Core.List.{List, [], _∷_, _++_}
 use lib.ListN.{length, drop, set, length-set}
 use lib.Seq.{sets, sets-eq}
-use Rattle.trace.specs.Record.{recordAt}
+use Rattle.grammar.proofs.Walk.{next-item, none-left}
+use Rattle.trace.specs.Record.{anyForm, recordAt}
 use Rattle.trace.specs.Trace.{recordsFrom, Boundary}
 use Rattle.trace.specs.declared.Record.{Record}
 use Rattle.trace.specs.declared.RecordAt.the-variants.{Is, Broken}
-use Rattle.trace.proofs.Loop.{next-record, none-left}
+use Rattle.trace.proofs.Shape.{any-facts}
+use Rattle.trace.proofs.Answers.{record-is}
 use Rattle.record_rows.specs.Rows.{rowOf}
 use Rattle.trace_writer.specs.Reading.{rowsOf, inFront}
 
@@ -41,12 +43,12 @@ module _ (s : List ℕ) where
 
   module _ (whole run : List (List ℕ)) (at i : ℕ) (r : Record) (e : ℕ) where
     pub row-room : Filled s whole run at i → recordAt s at ≡ Is r e → i < length run
-    row-room f q = omega (arith, f .room, ap length (next-record s at r e (f .boundary) q .first))
+    row-room f q = omega (arith, f .room, ap length (next-item anyForm any-facts s at r e (f .boundary) (record-is s at q) .first))
 
     pub filled-next : Filled s whole run at i → recordAt s at ≡ Is r e → Filled s whole (set run i (rowOf r)) e (i + 1)
     unfolding rowsOf
     filled-next f q =
-        let n = next-record s at r e (f .boundary) q in
+        let n = next-item anyForm any-facts s at r e (f .boundary) (record-is s at q) in
         record {
           boundary = n .again;
           room = omega (arith, f .room, ap length (n .first), length-set run i (rowOf r));
@@ -55,4 +57,4 @@ module _ (s : List ℕ) where
 
   pub filled-over : (whole run : List (List ℕ)) (at i : ℕ) → at ≡ length s → Filled s whole run at i → run ≡ whole
   unfolding rowsOf
-  filled-over whole run at i h f = sym (f .text ∙ rw (none-left s at h))
+  filled-over whole run at i h f = sym (f .text ∙ rw (none-left anyForm any-facts s at h))

@@ -17,12 +17,13 @@ use Rattle.grammar.specs.Texts.{Read, Whole}
 use Rattle.trace.specs.Op.{opName}
 use Rattle.trace.specs.Version.{allowed}
 use Rattle.trace.specs.Record.{recordText}
-use Rattle.trace.specs.Trace.{longest, traceText, AllExpressible, traceOf}
+use Rattle.trace.specs.Trace.{traceFormat, longest, traceText, AllExpressible, traceOf}
 use Rattle.trace.specs.declared.Op.{Op}
 use Rattle.trace.specs.declared.Op.the-variants.{Begin, End, Snap, Own, Oldest, Vacuum, Stamp, Finish}
 use Rattle.trace.specs.declared.Version.{Version}
 use Rattle.trace.specs.declared.Record.{Record}
-use Rattle.trace.proofs.Grammar.{accepted, accepts, one-text}
+use Rattle.grammar.proofs.Grammar.{accepted, accepts, one-text}
+use Rattle.trace.proofs.Shape.{trace-laws}
 use Rattle.record_rows.specs.Rows.{rowOf, recordRow}
 use Rattle.record_rows.specs.declared.RowIs.{RowIs}
 use Rattle.record_rows.specs.declared.RowIs.the-variants as row
@@ -152,7 +153,7 @@ reads-back v rows xs n m w run h =
     let rs = w .records in
     let a = rows-are v rows rs m (w .are) in
     let many : length rs ≡ length rows = sym (rows-many rs) ∙ ap length (a .rows-are) in
-    let found = accepts v rs (a .expressible) (w .short) in
+    let found = accepts traceFormat trace-laws v rs (a .expressible) (w .short) in
     let fits = le-leb (length rs) (length run) (omega arith) in
     (rw (found, fits) (ap (read.Rows v) many), rw (found, fits) (ap (λ (x : List (List ℕ)). inFront x run) (a .rows-are)))
 
@@ -161,8 +162,8 @@ pub rewritten : (s : List ℕ) (v : Version) (rs : List Record) (xs : List ℕ) 
     → (wroteOf v (rowsOf rs) (length xs) ≡ Length (length s)) × (leftOf v (rowsOf rs) xs ≡ s ++ drop (length s) xs)
 unfolding wroteOf leftOf
 rewritten s v rs xs h l =
-    let a = accepted s v rs h in
-    let are = records-are v rs (a .expressible) in
+    let a = accepted traceFormat trace-laws s v rs h in
+    let are = records-are v rs (a .good) in
     let inside = le-leb (length s) longest (a .short) in
     let fits = le-leb (length s) (length xs) l in
     (rw (are, ← a .text, inside, fits), rw (are, ← a .text, inside, fits) (front xs s))
@@ -174,7 +175,7 @@ pub one-run : (v w : Version) (rows others : List (List ℕ)) (rs ts : List Reco
 one-run v w rows others rs ts m k p q l e =
     let a = rows-are v rows rs m p in
     let b = rows-are w others ts k q in
-    let both = one-text v w rs ts (a .expressible) (b .expressible) l e in
+    let both = one-text traceFormat trace-laws v w rs ts (a .expressible) (b .expressible) l e in
     let same : rs ≡ ts = cc in
     let heads : v ≡ w = cc in
     (heads, sym (a .rows-are) ∙ ap rowsOf same ∙ b .rows-are)
@@ -263,15 +264,15 @@ pub again-wrote : (s : List ℕ) (v : Version) (rs : List Record) (size : ℕ) �
     → wroteOf v (rowsOf rs) size ≡ cond (leb (length s) size) (Length (length s)) (Refused refusal.NoRoom)
 unfolding wroteOf
 again-wrote s v rs size h =
-    let a = accepted s v rs h in
-    rw (records-are v rs (a .expressible), ← a .text, le-leb (length s) longest (a .short))
+    let a = accepted traceFormat trace-laws s v rs h in
+    rw (records-are v rs (a .good), ← a .text, le-leb (length s) longest (a .short))
 
 pub again-left : (s : List ℕ) (v : Version) (rs : List Record) (xs : List ℕ) → traceOf s ≡ Whole v rs
     → leftOf v (rowsOf rs) xs ≡ cond (leb (length s) (length xs)) (spliced xs 0 s) xs
 unfolding leftOf
 again-left s v rs xs h =
-    let a = accepted s v rs h in
-    rw (records-are v rs (a .expressible), ← a .text, le-leb (length s) longest (a .short))
+    let a = accepted traceFormat trace-laws s v rs h in
+    rw (records-are v rs (a .good), ← a .text, le-leb (length s) longest (a .short))
 
 -- a record has 44 bytes at least, so a trace has 1,489 records at most
 name-least : (o : Op) → 4 ≤ length (opName o)
@@ -302,5 +303,5 @@ records-least (r ∷ rs) =
 
 pub most-records : (s : List ℕ) (v : Version) (rs : List Record) → traceOf s ≡ Whole v rs → length rs ≤ 1489
 most-records s v rs h =
-    let a = accepted s v rs h in
+    let a = accepted traceFormat trace-laws s v rs h in
     omega (arith, a .short, ap length (a .text), trace-length v rs, records-least rs)

@@ -20,7 +20,7 @@ use Rattle.grammar.specs.Names.{nameLine, firstNamed, nameAt}
 use Rattle.grammar.specs.Items.{foundIn, foundFrom}
 use Rattle.grammar.specs.Named.{itemAt}
 use Rattle.grammar.specs.Texts.{readText}
-use Rattle.events.specs.Wait.{header, eventsOf}
+use Rattle.events.specs.Wait.{header}
 use Rattle.wait.specs.declared.Owner.{Owner}
 use Rattle.wait.specs.declared.Owner.the-variants.{Nobody, Holds}
 use Rattle.wait.specs.declared.WaitAnswer.{WaitAnswer}
@@ -91,7 +91,7 @@ record Answers : Type 0 where
 answers : Answers
 unfolding
     waitOf verdictOn stepsFrom ended eventTest ruleOf registerRule endRule horizonRule eventChange changeBy passes slotsPass differ
-    freePins pinsPass listed active minimum eventsOf readText nameAt firstNamed nameLine foundFrom foundIn itemAt fieldsAt fieldRules limit
+    freePins pinsPass listed active minimum readText nameAt firstNamed nameLine foundFrom foundIn itemAt fieldsAt fieldRules limit
     linesAt fieldAt numberAt numberFrom numberTail starts
 answers = record {
   nothing = refl;

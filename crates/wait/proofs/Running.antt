@@ -17,14 +17,16 @@ use Rattle.model.specs.declared.Table.{Table}
 use Rattle.model.specs.declared.change.Change.{Change}
 use Rattle.model.specs.Tables.{lentTxids}
 use Rattle.model.specs.Changes.{applied}
-use Rattle.events.specs.Event.{eventAt}
-use Rattle.events.specs.Wait.{firstEvent, longest, eventsOf, reading, eventsFrom, Boundary}
+use Rattle.events.specs.Event.{eventForm, eventAt}
+use Rattle.events.specs.Wait.{Wait1, waitGrammar, waitFormat, firstEvent, longest, reading, eventsFrom, Boundary}
 use Rattle.events.specs.declared.Event.{Event}
 use Rattle.events.specs.declared.EventAt.the-variants.{Is}
 use Rattle.events.specs.declared.Reading.the-variants.{Whole, Broken}
-use Rattle.events.proofs.Loop.{none-left, next-event}
-use Rattle.events.proofs.Grammar.{accepted, opened}
-use Rattle.events.proofs.Refusal.{wait-breaks}
+use Rattle.events.proofs.Shape.{wait-grammar, wait-laws, event-facts}
+use Rattle.events.proofs.Answers.{event-is, reading-is}
+use Rattle.grammar.proofs.Laws.{opened, count-breaks}
+use Rattle.grammar.proofs.Grammar.{accepted}
+use Rattle.grammar.proofs.Walk.{none-left, next-item}
 use Rattle.wait.specs.declared.Owner.{Owner}
 use Rattle.wait.specs.declared.WaitAnswer.{WaitAnswer}
 use Rattle.wait.specs.Steps.{eventTest, heldChange, eventAfter}
@@ -46,7 +48,7 @@ module _ (n : ℕ) (owner : Owner) (s : List ℕ) (t₀ : Table) where
         → u ≡ eventAfter t e → Running n owner s t₀ u next (step + 1)
     unfolding stepsFrom ended
     running-next e next u q h k =
-        let x = next-event s at e next (r .boundary) q in
+        let x = next-item eventForm event-facts s at e next (r .boundary) (event-is s at q) in
         let goes : stepsFrom n owner t step (e ∷ eventsFrom s next) ≡ stepsFrom n owner (eventAfter t e) (step + 1) (eventsFrom s next) =
         rw h in
         record {
@@ -60,7 +62,7 @@ module _ (n : ℕ) (owner : Owner) (s : List ℕ) (t₀ : Table) where
         → record { table = t₀; verdict = Refuse (BadStep step) } ≡ steppedOf n owner t₀ (eventsFrom s firstEvent)
     unfolding stepsFrom
     running-bad e next q h =
-        let x = next-event s at e next (r .boundary) q in
+        let x = next-item eventForm event-facts s at e next (r .boundary) (event-is s at q) in
         let stops : stepsFrom n owner t step (e ∷ eventsFrom s next) ≡ Refuse (BadStep step) = rw h in
         let whole = r .steps ∙ ap (stepsFrom n owner t step) (x .first) ∙ stops in
         rw whole
@@ -81,25 +83,28 @@ module _ (n : ℕ) (owner : Owner) (s : List ℕ) (t₀ : Table) where
     pub running-over : at ≡ length s → record { table = t; verdict = Pass } ≡ steppedOf n owner t₀ (eventsFrom s firstEvent)
     unfolding stepsFrom ended
     running-over h =
-        let none = none-left s at h in
+        let none = none-left eventForm event-facts s at h in
         let whole : stepsFrom n owner t₀ 1 (eventsFrom s firstEvent) ≡ Pass = r .steps ∙ ap (stepsFrom n owner t step) none in
         let last : ended t₀ (eventsFrom s firstEvent) ≡ t = r .ends ∙ ap (ended t) none in
         rw (whole, last)
 
 -- what is known before the first step of a text that was read
 pub whole-opens : (s : List ℕ) (m : ℕ) → reading s ≡ Whole m → (Boundary s firstEvent) × (length s ≤ longest)
-whole-opens s m h = let o = opened s m h in (o .boundary, accepted s (eventsFrom s firstEvent) (o .events) .short)
+whole-opens s m h =
+    let o = opened waitGrammar wait-grammar s Wait1 m (reading-is s h) in
+    (o .boundary, accepted waitFormat wait-laws s Wait1 (eventsFrom s firstEvent) (o .items) .short)
 
 module _ (n : ℕ) (t : Table) (owner : Owner) (s : List ℕ) where
   pub wait-broken : (k : ℕ) → reading s ≡ Broken k → record { table = t; verdict = Refuse (BadTrace k) } ≡ waitOf n t owner s
   unfolding waitOf
-  wait-broken k h = rw (wait-breaks s k h)
+  wait-broken k h = rw (count-breaks waitFormat s (reading-is s h))
 
   pub wait-refused : (m : ℕ) (r : Refusal) → reading s ≡ Whole m → then (entryTest n t) (holderTest n t owner) ≡ Refuse r
       → record { table = t; verdict = Refuse r } ≡ waitOf n t owner s
   unfolding waitOf verdictOn
   wait-refused m r h e =
-      rw (opened s m h .events, before (entryTest n t) (holderTest n t owner) (stepsFrom n owner t 1 (eventsFrom s firstEvent)) e)
+      let o = opened waitGrammar wait-grammar s Wait1 m (reading-is s h) in
+      rw (o .items, before (entryTest n t) (holderTest n t owner) (stepsFrom n owner t 1 (eventsFrom s firstEvent)) e)
     where
       before : (a b c : Verdict) → then a b ≡ Refuse r → then a (then b c) ≡ Refuse r
       before (Refuse q) b c e = e
@@ -111,4 +116,4 @@ module _ (n : ℕ) (t : Table) (owner : Owner) (s : List ℕ) where
   unfolding waitOf verdictOn
   wait-stepped m h e =
       let (a, b) = then-pass (entryTest n t) (holderTest n t owner) e in
-      rw (opened s m h .events, a, b)
+      rw (opened waitGrammar wait-grammar s Wait1 m (reading-is s h) .items, a, b)

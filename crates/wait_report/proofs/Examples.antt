@@ -15,7 +15,6 @@ use Rattle.grammar.specs.Names.{nameLine, firstNamed, nameAt}
 use Rattle.grammar.specs.Items.{foundIn, foundFrom}
 use Rattle.grammar.specs.Named.{itemAt}
 use Rattle.grammar.specs.Texts.{readText}
-use Rattle.events.specs.Wait.{eventsOf}
 use Rattle.table_text.specs.TableText.{tableRules, numbersOf, linesUnder, tableText, tableFrom, brokenAt, tableOf}
 use Rattle.wait.specs.declared.Owner.the-variants.{Nobody, Holds}
 use Rattle.wait.specs.Steps.{registerRule, endRule, horizonRule, ruleOf, eventTest, changeBy, eventChange}
@@ -53,6 +52,6 @@ unfolding
     reportOf onTable answerText verdictLines tableText linesUnder tableRules numbersOf lineTexts joined lineText numberText
     decimal decimalIn tableOf tableFrom brokenAt told
     waitOf verdictOn stepsFrom ended eventTest ruleOf registerRule endRule horizonRule eventChange changeBy passes slotsPass differ
-    listed active minimum eventsOf readText nameAt firstNamed nameLine foundFrom foundIn itemAt fieldsAt fieldRules limit
+    listed active minimum readText nameAt firstNamed nameLine foundFrom foundIn itemAt fieldsAt fieldRules limit
     linesAt fieldAt numberAt numberFrom numberTail starts
 reports = record { accepted = refl; refused = refl; nobody = refl; mismatch = refl; no-wait = refl; no-table = refl }

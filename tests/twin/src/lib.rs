@@ -1,5 +1,6 @@
 //! The independent oracle of the replay program, and the tools that compare with it.
 
+pub mod batch;
 pub mod cells_of_calls;
 pub mod cells_of_texts;
 pub mod compare;

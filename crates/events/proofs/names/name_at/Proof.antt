@@ -1,7 +1,8 @@
 -- `name_at` meets its contract: the calls, last first, are the definition's list of names.
 use borrow.Author.Needs.{needs}
-use Rattle.events.specs.Kind.{kinds}
-use Rattle.events.proofs.Answers.{first-kind}
+use Rattle.grammar.proofs.Said.{first-tried}
+use Rattle.events.specs.Kind.{kindName, kinds}
+use Rattle.events.specs.declared.names.KindAt.the-variants.{Is, Unknown}
 use Rattle.events.proofs.names.name_at.Statement.{statement}
 use Rattle.events.proofs.names.name_at.Tie as tie
 
@@ -47,7 +48,7 @@ returns c =
       horizon .try-name3 .ensures,
       reserve .try-name2 .ensures,
       observe .try-name .ensures,
-    ) (first-kind kinds _ _)
+    ) (first-tried Is Unknown kindName kinds _ _)
 
 pub name-at-spec : {M : Type 1} → statement M
 name-at-spec =

@@ -124,6 +124,12 @@ enum-told-12 c = search needs
 bare-number-requires-12 : tie.Need-bare-number-requires-12
 bare-number-requires-12 c κs = search needs
 
+enum-told-13 : tie.Need-enum-told-13
+enum-told-13 c = search needs
+
+bare-number-requires-13 : tie.Need-bare-number-requires-13
+bare-number-requires-13 c κs = search needs
+
 enum-known-r-7 : tie.Need-enum-known-r-7
 enum-known-r-7 c = search needs
 
@@ -204,7 +210,11 @@ returns-18 c = rw (c .before .enum-told12 .given .1) (c .bare-number12 .ensures)
 
 returns-19 : tie.Need-returns-19
 unfolding told
-returns-19 c = rw (c .before .before .r7 .given .1) (c .numbers7 .ensures)
+returns-19 c = rw (c .before .enum-told13 .given .1) (c .bare-number13 .ensures)
+
+returns-20 : tie.Need-returns-20
+unfolding told
+returns-20 c = rw (c .before .before .r7 .given .1) (c .numbers7 .ensures)
 
 pub tell-spec : {M : Type 1} → statement M
 tell-spec =
@@ -250,6 +260,8 @@ tell-spec =
     bare-number-requires-11
     enum-told-12
     bare-number-requires-12
+    enum-told-13
+    bare-number-requires-13
     enum-known-r-7
     numbers-requires-7
     returns
@@ -270,4 +282,5 @@ tell-spec =
     returns-16
     returns-17
     returns-18
-    returns-19)
+    returns-19
+    returns-20)

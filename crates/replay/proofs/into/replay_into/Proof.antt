@@ -3,7 +3,10 @@
 -- crate's proofs/Whole.antt.
 use mathlib.Core.Path.{refl, sym, _∙_}
 use Rattle.model.specs.Tables.{freshTable}
-use Rattle.trace.proofs.Grammar.{opened}
+use Rattle.grammar.proofs.Laws.{opened}
+use Rattle.trace.specs.Trace.{traceGrammar}
+use Rattle.trace.proofs.Shape.{trace-grammar}
+use Rattle.trace.proofs.Answers.{reading-is}
 use Rattle.replay.proofs.Whole.{into-broken, part-none, into-whole, into-cut}
 use borrow.Author.Needs.{needs}
 use Rattle.replay.proofs.into.replay_into.Statement.{statement}
@@ -41,7 +44,8 @@ returns c =
     let e = sym (asked .read-trace .ensures) ∙ read .reading2 .given .1 in
     let first = found .first-record .ensures in
     let here = sym first ∙ tested .if1 .taken in
-    let p = part-none _ (a .s .now) (a .out .now) _ _ (freshTable _) here (opened _ _ _ e .boundary) in
+    let b = opened traceGrammar trace-grammar _ _ _ (reading-is _ e) .boundary in
+    let p = part-none _ (a .s .now) (a .out .now) _ _ (freshTable _) here b in
     into-whole _ (a .s .now) (a .out .now) _ _ e p here refl (put .put-records .ensures)
 
 fresh-requires : tie.Need-fresh-requires
@@ -68,7 +72,7 @@ returns-2 c =
     let a = asked .before .before .before .args in
     let e = sym (asked .read-trace .ensures) ∙ read .reading2 .given .1 in
     let first = found .first-record .ensures in
-    let part = ran .run-part .ensures (rw first (opened _ _ _ e .boundary)) in
+    let part = ran .run-part .ensures (rw first (opened traceGrammar trace-grammar _ _ _ (reading-is _ e) .boundary)) in
     let p = rw (first, made .fresh .ensures) at part in
     let kept = ran .run-part .kept .1 .1 .1 .1 .0 in
     into-whole _ (a .s .now) (a .out .now) _ _ e p (tested .if2 .taken) kept (put .put-records2 .ensures)
@@ -98,7 +102,7 @@ returns-4 c =
     let a = asked .before .before .before .args in
     let e = sym (asked .read-trace .ensures) ∙ read .reading2 .given .1 in
     let first = found .first-record .ensures in
-    let part = ran .run-part .ensures (rw first (opened _ _ _ e .boundary)) in
+    let part = ran .run-part .ensures (rw first (opened traceGrammar trace-grammar _ _ _ (reading-is _ e) .boundary)) in
     let p = rw (first, made .fresh .ensures) at part in
     into-cut _ (a .s .now) (a .out .now) _ _ e p (c .if2 .left)
 

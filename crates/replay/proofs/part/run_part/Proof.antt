@@ -6,7 +6,10 @@ use native.Mathlib.Omega.{arith}
 use lib.ListN.{length, length-map}
 use Rattle.model.proofs.Stores.{stored-txid-long, stored-xmin-long, stored-pin-long, stored-applied}
 use Rattle.trace.specs.Trace.{Boundary}
-use Rattle.trace.proofs.Loop.{moves, none-broken}
+use Rattle.trace.specs.Record.{anyForm}
+use Rattle.trace.proofs.Shape.{any-facts}
+use Rattle.trace.proofs.Answers.{record-is}
+use Rattle.grammar.proofs.Walk.{none-broken}
 use Rattle.replay.proofs.Running.{Running, ran-there, running-start, running-more, running-full, running-over}
 use borrow.Author.Needs.{needs}
 use Rattle.replay.proofs.part.run_part.Statement.{statement}
@@ -44,7 +47,7 @@ returns c =
     let asked = c .before .before in
     let l = asked .before .before .loop in
     let broken = sym (asked .next-record .ensures) ∙ c .enum-told .given .1 in
-    absurd (none-broken _ _ _ (l .inv .4 h .boundary) (asked .before .loop-test .taken) broken)
+    absurd (none-broken anyForm any-facts _ _ _ (l .inv .4 h .boundary) (asked .before .loop-test .taken) (record-is _ _ broken))
 
 run-record-requires : tie.Need-run-record-requires Inv-loop μ-loop
 run-record-requires c κs = search needs
@@ -96,7 +99,7 @@ loop-less c =
     let looped = found .before .before .before .before in
     let l = looped .loop in
     let q = sym (found .before .before .next-record .ensures) ∙ found .found .given .1 in
-    let m = moves _ _ _ _ q in
+    let m = any-facts .moves _ _ _ _ (record-is _ _ q) in
     omega arith
 
 loop-again : tie.Need-loop-again Inv-loop μ-loop

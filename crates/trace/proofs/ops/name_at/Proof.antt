@@ -1,7 +1,8 @@
 -- `name_at` meets its contract: the calls, last first, are the definition's list of names.
 use borrow.Author.Needs.{needs}
-use Rattle.trace.specs.Op.{ops}
-use Rattle.trace.proofs.Answers.{first-op}
+use Rattle.grammar.proofs.Said.{first-tried}
+use Rattle.trace.specs.Op.{opName, ops}
+use Rattle.trace.specs.declared.ops.OpAt.the-variants.{Is, Unknown}
 use Rattle.trace.proofs.ops.name_at.Statement.{statement}
 use Rattle.trace.proofs.ops.name_at.Tie as tie
 
@@ -71,7 +72,7 @@ returns c =
       vacuum .try-name3 .ensures,
       stamp .try-name2 .ensures,
       finish .try-name .ensures,
-    ) (first-op ops _ _)
+    ) (first-tried Is Unknown opName ops _ _)
 
 pub name-at-spec : {M : Type 1} → statement M
 name-at-spec =

@@ -1,10 +1,25 @@
--- `header_at` meets its contract: the key, then the names that are known, one after the other.
-use mathlib.Core.Path.{sym, _∙_}
-use Rattle.grammar.specs.Names.{firstNamed, nameAt}
-use Rattle.trace.specs.Version.{headerAt}
+-- `header_at` meets its contract: the first lines that are known, one after the other. No two can stand in front.
+use mathlib.Core.Path.{_≡_, sym, _∙_}
+use mathlib.Core.Bool.{false}
+use mathlib.Core.List.{List}
+use Prim.Native.Nat.{ℕ}
+use lib.ListN.{drop}
+use Rattle.text.specs.Bytes.{starts}
+use Rattle.grammar.specs.Names.{nameLine}
+use Rattle.grammar.proofs.Laws.{head-is, no-head}
+use Rattle.trace.specs.Version.{headerOf, headerAt}
+use Rattle.trace.specs.Trace.{traceGrammar}
+use Rattle.trace.specs.declared.Version.{Version}
+use Rattle.trace.specs.declared.Version.the-variants.{Proc1, Proc2}
+use Rattle.trace.proofs.Shape.{trace-grammar}
 use borrow.Author.Needs.{needs}
 use Rattle.trace.proofs.versions.header_at.Statement.{statement}
 use Rattle.trace.proofs.versions.header_at.Tie as tie
+
+neither : (s : List ℕ) → starts (headerOf Proc1) (drop 0 s) ≡ false → starts (headerOf Proc2) (drop 0 s) ≡ false
+    → (v : Version) → starts (headerOf v) (drop 0 s) ≡ false
+neither s p q Proc1 = p
+neither s p q Proc2 = q
 
 slice-aggregate-bytes-at : tie.Need-slice-aggregate-bytes-at
 slice-aggregate-bytes-at c = search needs
@@ -12,49 +27,26 @@ slice-aggregate-bytes-at c = search needs
 bytes-at-requires : tie.Need-bytes-at-requires
 bytes-at-requires c κs = search needs
 
+returns : tie.Need-returns
+unfolding headerAt nameLine
+returns c = rw (head-is traceGrammar trace-grammar _ Proc1 (sym (c .before .bytes-at .ensures) ∙ c .if1 .taken))
+
 slice-aggregate-bytes-at-2 : tie.Need-slice-aggregate-bytes-at-2
 slice-aggregate-bytes-at-2 c = search needs
 
 bytes-at-requires-2 : tie.Need-bytes-at-requires-2
 bytes-at-requires-2 c κs = search needs
 
-returns : tie.Need-returns
-unfolding headerAt nameAt firstNamed
-returns c =
-    let key = c .before .before .before in
-    rw (sym (key .before .bytes-at .ensures) ∙ key .if1 .taken, sym (c .before .bytes-at2 .ensures) ∙ c .if2 .taken)
-
-slice-aggregate-bytes-at-3 : tie.Need-slice-aggregate-bytes-at-3
-slice-aggregate-bytes-at-3 c = search needs
-
-bytes-at-requires-3 : tie.Need-bytes-at-requires-3
-bytes-at-requires-3 c κs = search needs
-
 returns-2 : tie.Need-returns-2
-unfolding headerAt nameAt firstNamed
-returns-2 c =
-    let first = c .before .before .before in
-    let key = first .before .before .before in
-    rw (
-      sym (key .before .bytes-at .ensures) ∙ key .if1 .taken,
-      sym (first .before .bytes-at2 .ensures) ∙ first .if2 .left,
-      sym (c .before .bytes-at3 .ensures) ∙ c .if3 .taken,
-    )
+unfolding headerAt nameLine
+returns-2 c = rw (head-is traceGrammar trace-grammar _ Proc2 (sym (c .before .bytes-at2 .ensures) ∙ c .if2 .taken))
 
 returns-3 : tie.Need-returns-3
-unfolding headerAt nameAt firstNamed
+unfolding headerAt nameLine
 returns-3 c =
     let first = c .before .before .before in
-    let key = first .before .before .before in
-    rw (
-      sym (key .before .bytes-at .ensures) ∙ key .if1 .taken,
-      sym (first .before .bytes-at2 .ensures) ∙ first .if2 .left,
-      sym (c .before .bytes-at3 .ensures) ∙ c .if3 .left,
-    )
-
-returns-4 : tie.Need-returns-4
-unfolding headerAt nameAt firstNamed
-returns-4 c = rw (sym (c .before .bytes-at .ensures) ∙ c .if1 .left)
+    let one = sym (first .before .bytes-at .ensures) ∙ first .if1 .left in
+    rw (no-head traceGrammar trace-grammar _ (neither _ one (sym (c .before .bytes-at2 .ensures) ∙ c .if2 .left)))
 
 pub header-at-spec : {M : Type 1} → statement M
 header-at-spec =
@@ -62,11 +54,8 @@ header-at-spec =
     (tie.spec
     slice-aggregate-bytes-at
     bytes-at-requires
+    returns
     slice-aggregate-bytes-at-2
     bytes-at-requires-2
-    returns
-    slice-aggregate-bytes-at-3
-    bytes-at-requires-3
     returns-2
-    returns-3
-    returns-4)
+    returns-3)

@@ -1,20 +1,21 @@
--- `read_trace` meets its contract. The invariant is the grammar's `Counting`: past n records, at the place `at`, the count goes on
--- from there; with it go the bounds that keep the line's number a machine number.
-use Prim.Native.Nat.{_≤_, _-_}
+-- `read_trace` meets its contract. The invariant is the grammar's `Stands`: past n records, at the place `at`, the count goes on from
+-- there, and its numbers are machine numbers.
+use Prim.Native.Nat.{_-_}
 use mathlib.Core.Path.{_≡_, sym, ap, _∙_}
 use native.Mathlib.Omega.{arith}
 use borrow.Author.Tests.{lt-ltb, le-ltb}
 use lib.ListN.{length}
 use Rattle.grammar.specs.Texts.{countText, readText}
-use Rattle.grammar.proofs.Count.{Counting, counting-start, counting-next, counting-broken, counting-end}
-use Rattle.trace.specs.Trace.{traceFormat, longest, asReading, reading}
-use Rattle.trace.proofs.Shape.{trace-laws, under-facts, head-inside}
-use Rattle.trace.proofs.Answers.{header-is, no-header, under-is, under-broken}
+use Rattle.grammar.proofs.Laws.{under-facts}
+use Rattle.grammar.proofs.Count.{Stands, stands-start, stands-next, stands-small, stands-broken, stands-end}
+use Rattle.trace.specs.Trace.{traceGrammar, reading}
+use Rattle.trace.proofs.Shape.{trace-grammar}
+use Rattle.trace.proofs.Answers.{header-is, under-is}
 use Rattle.trace.proofs.whole.read_trace.Statement.{statement}
 use Rattle.trace.proofs.whole.read_trace.Tie as tie
 
 abbrev Inv-loop : tie.InvT-loop
-Inv-loop s version first at₀ n₀ at n = (length s ≤ longest) × (at ≤ length s) × (n ≤ at) × Counting traceFormat trace-laws s version at n
+Inv-loop s version first at₀ n₀ at n = Stands traceGrammar trace-grammar s version at n
 
 abbrev μ-loop : tie.MeasureT-loop
 μ-loop s version first at₀ n₀ at n = length s - at
@@ -36,14 +37,13 @@ returns-2 : tie.Need-returns-2 Inv-loop μ-loop
 unfolding reading countText readText
 returns-2 c =
     let long = c .before .before .before in
-    rw (le-ltb _ _ (long .if1 .left), no-header _ (sym (c .before .before .header-at .ensures) ∙ c .enum-told .given .1))
+    rw (le-ltb _ _ (long .if1 .left), header-is _ (sym (c .before .before .header-at .ensures) ∙ c .enum-told .given .1))
 
 loop-holds : tie.Need-loop-holds Inv-loop μ-loop
 loop-holds c =
     let asked = c .before .before .before in
-    let short = asked .before .if1 .left in
     let head = header-is _ (sym (asked .header-at .ensures) ∙ c .before .version .given .1) in
-    (short, head-inside _ _ _ head, omega arith, counting-start traceFormat trace-laws _ _ _ short head)
+    stands-start traceGrammar trace-grammar _ _ _ (asked .before .if1 .left) head
 
 record-under-requires : tie.Need-record-under-requires Inv-loop μ-loop
 record-under-requires c κs = tt
@@ -52,23 +52,18 @@ enum-known-r : tie.Need-enum-known-r Inv-loop μ-loop
 enum-known-r c = c .match2 .keys1
 
 add-n : tie.Need-add-n Inv-loop μ-loop
-add-n c =
-    let read = under-is _ _ _ (sym (c .before .before .before .record-under .ensures) ∙ c .before .r .given .1) in
-    let m = under-facts _ .moves _ _ _ _ read in
-    omega (arith, m .0, m .1)
+add-n c = omega arith
 
 loop-less : tie.Need-loop-less Inv-loop μ-loop
 loop-less c =
     let read = under-is _ _ _ (sym (c .before .before .before .record-under .ensures) ∙ c .before .r .given .1) in
-    let m = under-facts _ .moves _ _ _ _ read in
+    let m = under-facts traceGrammar trace-grammar _ .moves _ _ _ _ read in
     omega (arith, m .0, m .1)
 
 loop-again : tie.Need-loop-again Inv-loop μ-loop
 loop-again c =
     let read = under-is _ _ _ (sym (c .before .before .before .record-under .ensures) ∙ c .before .r .given .1) in
-    let m = under-facts _ .moves _ _ _ _ read in
-    let at-loop = c .before .before .before .before .before .loop in
-    (omega arith, m .1, omega (arith, m .0), counting-next traceFormat trace-laws _ _ _ _ _ _ (at-loop .inv .3) read)
+    stands-next traceGrammar trace-grammar _ _ _ _ _ _ (c .before .before .before .before .before .loop .inv) read
 
 enum-known-r-2 : tie.Need-enum-known-r-2 Inv-loop μ-loop
 enum-known-r-2 c = c .match2 .keys2
@@ -81,20 +76,20 @@ add-t15 c = omega arith
 
 add-t16 : tie.Need-add-t16 Inv-loop μ-loop
 add-t16 c =
-    let read = under-broken _ _ _ (sym (c .before .before .before .record-under .ensures) ∙ c .before .r2 .given .1) in
-    let b = under-facts _ .item-open _ _ _ read in
-    omega (arith, b .which, b .short)
+    let read = under-is _ _ _ (sym (c .before .before .before .record-under .ensures) ∙ c .before .r2 .given .1) in
+    let small = stands-small traceGrammar trace-grammar _ _ _ _ _ (c .before .before .before .before .before .loop .inv) read in
+    omega (arith, small)
 
 returns-3 : tie.Need-returns-3 Inv-loop μ-loop
 unfolding reading
 returns-3 c =
-    let read = under-broken _ _ _ (sym (c .before .before .before .record-under .ensures) ∙ c .before .r2 .given .1) in
+    let read = under-is _ _ _ (sym (c .before .before .before .record-under .ensures) ∙ c .before .r2 .given .1) in
     let tested = c .before .before .before .before in
-    sym (ap asReading (counting-broken traceFormat trace-laws _ _ _ _ _ (tested .before .loop .inv .3) (tested .loop-test .taken) read))
+    rw (stands-broken traceGrammar trace-grammar _ _ _ _ _ (tested .before .loop .inv) (tested .loop-test .taken) read)
 
 returns-4 : tie.Need-returns-4 Inv-loop μ-loop
 unfolding reading
-returns-4 c = sym (ap asReading (counting-end traceFormat trace-laws _ _ _ _ (c .before .loop .inv .3) (c .loop-test .left)))
+returns-4 c = rw (stands-end traceGrammar trace-grammar _ _ _ _ (c .before .loop .inv) (c .loop-test .left))
 
 pub read-trace-spec : {M : Type 1} → statement M
 read-trace-spec =

@@ -4,7 +4,10 @@ use mathlib.Core.Path.{_≡_, refl, sym, _∙_}
 use native.Mathlib.Omega.{arith}
 use lib.ListN.{length, length-set}
 use Rattle.trace.specs.Trace.{firstRecord, recordsFrom}
-use Rattle.trace.proofs.Loop.{next-record, none-broken}
+use Rattle.grammar.proofs.Walk.{next-item, none-broken}
+use Rattle.trace.specs.Record.{anyForm}
+use Rattle.trace.proofs.Shape.{any-facts}
+use Rattle.trace.proofs.Answers.{record-is}
 use Rattle.trace_writer.specs.Reading.{rowsOf, inFront}
 use Rattle.trace_writer.proofs.Filling.{Filled, filled-start, row-room, filled-next, filled-over}
 use borrow.Author.Needs.{needs}
@@ -58,7 +61,7 @@ loop-less c =
     let l = asked .before .before .loop in
     let s = asked .before .before .before .before .before .args .s .now in
     let q = sym (asked .record-at .ensures) ∙ found .found .given .1 in
-    let n = next-record s (l .at) _ _ (l .inv .1 .boundary) q in
+    let n = next-item anyForm any-facts s (l .at) _ _ (l .inv .1 .boundary) (record-is s (l .at) q) in
     omega (arith, n .further, n .inside)
 
 loop-again : tie.Need-loop-again Inv-loop μ-loop
@@ -82,7 +85,7 @@ returns c =
     let l = asked .before .before .loop in
     let s = asked .before .before .before .before .before .args .s .now in
     let q = sym (asked .record-at .ensures) ∙ c .enum-told .given .1 in
-    absurd (none-broken s (l .at) _ (l .inv .1 .boundary) (asked .before .loop-test .taken) q)
+    absurd (none-broken anyForm any-facts s (l .at) _ (l .inv .1 .boundary) (asked .before .loop-test .taken) (record-is s (l .at) q))
 
 same-length-2 : tie.Need-same-length-2 Inv-loop μ-loop
 same-length-2 c = c .before .loop .inv .0

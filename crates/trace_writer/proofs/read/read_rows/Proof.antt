@@ -1,6 +1,9 @@
 -- By what was read: a broken line, more records than rows, or a row for each record (crate's proofs/Answering.antt).
 use mathlib.Core.Path.{sym, _∙_}
-use Rattle.trace.proofs.Grammar.{opened}
+use Rattle.grammar.proofs.Laws.{opened}
+use Rattle.trace.specs.Trace.{traceGrammar}
+use Rattle.trace.proofs.Shape.{trace-grammar}
+use Rattle.trace.proofs.Answers.{reading-is}
 use Rattle.trace_writer.proofs.Answering.{read-broken, read-short, room-read, read-whole}
 use borrow.Author.Needs.{needs}
 use Rattle.trace_writer.proofs.read.read_rows.Statement.{statement}
@@ -29,7 +32,7 @@ fill-rows-requires c κs =
     let asked = known .before .before in
     let a = asked .before .before .args in
     let e = sym (asked .read-trace .ensures) ∙ known .reading2 .given .1 in
-    let o = opened (a .s .now) _ _ e in
+    let o = opened traceGrammar trace-grammar (a .s .now) _ _ (reading-is _ e) in
     (o .boundary, room-read (a .s .now) (a .rows .now) _ _ e (c .before .if1 .left))
 
 returns-2 : tie.Need-returns-2

@@ -4,7 +4,10 @@ use Prim.Native.Nat.{_-_}
 use mathlib.Core.Path.{_≡_, sym, _∙_}
 use native.Mathlib.Omega.{arith}
 use lib.ListN.{length, length-map}
-use Rattle.events.proofs.Loop.{moves, none-broken}
+use Rattle.grammar.proofs.Walk.{none-broken}
+use Rattle.events.specs.Event.{eventForm}
+use Rattle.events.proofs.Shape.{event-facts}
+use Rattle.events.proofs.Answers.{event-is}
 use Rattle.wait.proofs.Running.{Running, running-start, running-took, running-stopped, running-over}
 use borrow.Author.Needs.{needs}
 use Rattle.wait.proofs.run.run_steps.Statement.{statement}
@@ -34,8 +37,8 @@ enum-told c = search needs
 returns : tie.Need-returns Inv-loop μ-loop
 returns c =
     let asked = c .before .before in
-    let broken = sym (asked .event-at .ensures) ∙ c .enum-told .given .1 in
-    absurd (none-broken _ _ _ (asked .before .before .loop .inv .boundary) (asked .before .loop-test .taken) broken)
+    let broken = event-is _ _ (sym (asked .event-at .ensures) ∙ c .enum-told .given .1) in
+    absurd (none-broken eventForm event-facts _ _ _ (asked .before .before .loop .inv .boundary) (asked .before .loop-test .taken) broken)
 
 keeps-rule-requires : tie.Need-keeps-rule-requires Inv-loop μ-loop
 keeps-rule-requires c κs = search needs
@@ -51,7 +54,7 @@ add-step c =
     let ruled = c .before .before .before in
     let found = ruled .before .before .before .before .before .before in
     let asked = found .before .before in
-    let m = moves _ _ _ _ (sym (asked .event-at .ensures) ∙ found .found .given .1) in
+    let m = event-facts .moves _ _ _ _ (event-is _ _ (sym (asked .event-at .ensures) ∙ found .found .given .1)) in
     let looped = asked .before .before in
     omega (arith, m .0, m .1, looped .loop .inv .small, looped .before .before .before .pre .1)
 
@@ -60,7 +63,7 @@ loop-less c =
     let ruled = c .before .before .before in
     let found = ruled .before .before .before .before .before .before in
     let asked = found .before .before in
-    let m = moves _ _ _ _ (sym (asked .event-at .ensures) ∙ found .found .given .1) in
+    let m = event-facts .moves _ _ _ _ (event-is _ _ (sym (asked .event-at .ensures) ∙ found .found .given .1)) in
     omega (arith, m .0, m .1)
 
 loop-again : tie.Need-loop-again Inv-loop μ-loop

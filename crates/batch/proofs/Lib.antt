@@ -1,0 +1,5 @@
+pub mod Walk
+pub mod Exactly
+pub mod Removal
+pub mod Rows
+pub mod Examples

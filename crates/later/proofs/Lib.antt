@@ -1,0 +1,3 @@
+pub mod Later
+pub mod Ends
+pub mod Examples

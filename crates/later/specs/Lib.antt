@@ -1,0 +1,2 @@
+pub mod Later
+pub mod Ends
