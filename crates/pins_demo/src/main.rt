@@ -34,9 +34,15 @@ fn line_of(t: Table) {
 fn sixty(s: Snapshot) {
     let settled = settled::is_settled(s, Txid(60));
     match settled {
-        Settled::Yes => io::write_all(1, b" 60 settled"),
-        Settled::No => io::write_all(1, b" 60 in flight"),
-        Settled::Refused(_) => io::write_all(1, b" refused"),
+        Settled::Yes => {
+            io::write_all(1, b" 60 settled");
+        }
+        Settled::No => {
+            io::write_all(1, b" 60 in flight");
+        }
+        Settled::Refused(_) => {
+            io::write_all(1, b" refused");
+        }
     }
 }
 
