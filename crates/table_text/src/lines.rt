@@ -72,7 +72,7 @@ pub fn lines_under<'a>(
     requires { ⌜ length (now xmins) ≡ length (now txids) ⌝ }
     requires { ⌜ at + length (linesUnder (now txids) (now xmins) (now pins) counters) ≤ length (now buf) ⌝ }
     ensures { λ r. ⌜ Placed (now (buf .entry)) at
-      (linesUnder (now (txids .entry)) (now (xmins .entry)) (now (pins .entry)) counters) (now (buf .exit)) r ⌝ }
+        (linesUnder (now (txids .entry)) (now (xmins .entry)) (now (pins .entry)) counters) (now (buf .exit)) r ⌝ }
 {
     let mut past = at;
     let mut i: usize = 0;

@@ -83,11 +83,6 @@ pub fn table_length(table: Table) -> usize
     ensures { λ r. ⌜ r ≡ length (tableText table) ⌝ }
 {
     let counters = table.counters;
-    let under = length_under(
-        &table.txids,
-        &table.snapshot_xmins,
-        &table.pins,
-        counters,
-    );
+    let under = length_under(&table.txids, &table.snapshot_xmins, &table.pins, counters);
     13 + under
 }

@@ -15,6 +15,7 @@ ghost use Rattle.table_text.specs.Filling.{restRead, pinsRead};
 
 // The number of the first line after the slots, and after the pins.
 const AFTER_SLOTS: usize = 2 * SLOTS + 2;
+
 const AFTER_PINS: usize = 2 * SLOTS + 2 + PINS;
 
 fn no_table(line: usize) -> TableRead
