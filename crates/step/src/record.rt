@@ -1,8 +1,10 @@
 // The call that a record names.
 use crate::Ran;
 use crate::listing::run_own;
+use crate::listing::run_pin;
 use crate::listing::run_snap;
 use crate::put::put_plain;
+use kinds::PinNo;
 use kinds::SLOTS;
 use kinds::SlotNo;
 use kinds::Stamp;
@@ -72,6 +74,13 @@ pub fn run_record<'a>(
         Op::Finish => put_plain(
             version,
             table::decide_finish(txids, was, slot, id, number),
+            buf,
+            at,
+        ),
+        Op::Pin => run_pin(version, txids, pins, was, r.clock, r.sample, buf, at),
+        Op::Unpin => put_plain(
+            version,
+            table::decide_unpin(pins, was, PinNo(r.slot)),
             buf,
             at,
         ),
