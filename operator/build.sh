@@ -29,7 +29,7 @@ build() {
         return 1
     CARGO_TARGET_DIR=$built/cargo RUSTFLAGS="-L native=$built" \
         cargo build --quiet --release --offline --locked --manifest-path operator/Cargo.toml </dev/null >&2 || return 1
-    for made in replay wait; do
+    for made in replay wait picture; do
         cmp -s "$built/cargo/release/$made" "$built/$made" ||
             { cp "$built/cargo/release/$made" "$built/new" && mv "$built/new" "$built/$made"; } || return 1
     done

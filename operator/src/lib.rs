@@ -1,4 +1,7 @@
-//! What the operator's commands share: the proved library, and words for what it answers by numbers.
+//! What the operator's commands share: the proved library, words for what it answers by numbers, and its answers told and
+//! drawn.
 
+pub mod account;
+pub mod drawing;
 pub mod library;
 pub mod why;

@@ -72,12 +72,23 @@ pub fn replay_to(text: &[u8], to: RawFd) -> c_int {
     unsafe { sockhurdle_replay_to(text.as_ptr(), text.len(), to) }
 }
 
+/// All that a replay prints, in a buffer that has room for it.
+pub fn replay(text: &[u8]) -> Vec<u8> {
+    let mut out = vec![0; ROOM];
+    loop {
+        let (o, room) = (out.as_mut_ptr(), out.len());
+        let size = unsafe { sockhurdle_replay(text.as_ptr(), text.len(), o, room) };
+        if size != 0 {
+            out.truncate(size);
+            return out;
+        }
+        out = vec![0; room * 2];
+    }
+}
+
 /// The line that refusal 9 names: its two lines are `answer=9` and `at=`.
 pub fn broken_line(text: &[u8]) -> usize {
-    let mut said = [0; 64];
-    let size =
-        unsafe { sockhurdle_replay(text.as_ptr(), text.len(), said.as_mut_ptr(), said.len()) };
-    number(&said[..size], "at=").unwrap_or(0) as usize
+    number(&replay(text), "at=").unwrap_or(0) as usize
 }
 
 /// The report on a wait, for nobody or for the owner of a slot, in a buffer that has room for it.
