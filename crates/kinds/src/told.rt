@@ -34,6 +34,7 @@ pub fn tell(r: Refusal) -> Told
         Refusal::BadLength => bare_number(11),
         Refusal::NoRoom => bare_number(12),
         Refusal::WildJump => bare_number(13),
+        Refusal::BadImage => bare_number(18),
         Refusal::BadRecord => bare_number(20),
         Refusal::BadEntry => bare_number(21),
         Refusal::BadStep(step) => numbers(22, 0, 0, 0, step),

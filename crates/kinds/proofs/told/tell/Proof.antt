@@ -100,6 +100,12 @@ enum-told-11 c = search needs
 bare-number-requires-11 : tie.Need-bare-number-requires-11
 bare-number-requires-11 c κs = search needs
 
+enum-told-12 : tie.Need-enum-told-12
+enum-told-12 c = search needs
+
+bare-number-requires-12 : tie.Need-bare-number-requires-12
+bare-number-requires-12 c κs = search needs
+
 enum-known-r-5 : tie.Need-enum-known-r-5
 enum-known-r-5 c = search needs
 
@@ -168,7 +174,11 @@ returns-15 c = rw (c .before .enum-told11 .given .1) (c .bare-number11 .ensures)
 
 returns-16 : tie.Need-returns-16
 unfolding told
-returns-16 c = rw (c .before .before .r5 .given .1) (c .numbers5 .ensures)
+returns-16 c = rw (c .before .enum-told12 .given .1) (c .bare-number12 .ensures)
+
+returns-17 : tie.Need-returns-17
+unfolding told
+returns-17 c = rw (c .before .before .r5 .given .1) (c .numbers5 .ensures)
 
 pub tell-spec : {M : Type 1} → statement M
 tell-spec =
@@ -206,6 +216,8 @@ tell-spec =
     bare-number-requires-10
     enum-told-11
     bare-number-requires-11
+    enum-told-12
+    bare-number-requires-12
     enum-known-r-5
     numbers-requires-5
     returns
@@ -223,4 +235,5 @@ tell-spec =
     returns-13
     returns-14
     returns-15
-    returns-16)
+    returns-16
+    returns-17)
