@@ -7,6 +7,7 @@ use lib.Dec.{eqb}
 use lib.ListN.{length, replicate}
 use Rattle.kinds.specs.Kinds.{top}
 use Rattle.kinds.specs.declared.refusal.Refusal.the-variants.{BadImage}
+use Rattle.kinds.specs.declared.refusal.Verdict.{Verdict}
 use Rattle.kinds.specs.declared.refusal.Verdict.the-variants.{Pass, Refuse}
 use Rattle.model.specs.declared.Counters.{Counters}
 use Rattle.model.specs.declared.Table.{Table}
@@ -41,12 +42,19 @@ countersAt s at = counted (wordAt s at) (wordAt s (at + 8)) (wordAt s (at + 16))
 unfoldable pub tableOf : ℕ → List ℕ → Table
 tableOf n s = lent (wordsFrom n s 0 16) (wordsFrom n s 8 16) (countersAt s (countersFrom n))
 
--- 18, for bytes of any other length; beside it stands a table of zeros
+-- 18: the bytes have any other length
+abbrev pub imageTest : ℕ → List ℕ → Verdict
+imageTest n s = cond (eqb (length s) (imageSize n)) Pass (Refuse BadImage)
+
+-- beside 18 stands a table of zeros
 unfoldable pub noImage : ℕ → ImageRead
 noImage n = record { verdict = Refuse BadImage; table = lent (replicate n 0) (replicate n 0) (counted 0 0 0) }
 
+abbrev pub whole : ℕ → List ℕ → ImageRead
+whole n s = record { verdict = Pass; table = tableOf n s }
+
 unfoldable pub imageRead : ℕ → List ℕ → ImageRead
-imageRead n s = cond (eqb (length s) (imageSize n)) (record { verdict = Pass; table = tableOf n s }) (noImage n)
+imageRead n s = cond (eqb (length s) (imageSize n)) (whole n s) (noImage n)
 
 -- a table that some image says: n slots, and numbers of 64 bits
 pub record Expressible (n : ℕ) (t : Table) : Type 0 where

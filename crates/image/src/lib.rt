@@ -13,8 +13,11 @@ ghost use Rattle.image.specs.Images.{imageSize, countersFrom, countersAt
 
 // Where the numbers past the slots stand, and how many bytes an image has.
 const CLOCK: usize = 16 * SLOTS;
+
 const SAMPLE: usize = CLOCK + 8;
+
 const LINE: usize = SAMPLE + 8;
+
 const LENGTH: usize = LINE + 8;
 
 // What an image is read as: a table; or refusal 18, beside a table of zeros.
