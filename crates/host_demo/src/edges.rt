@@ -29,7 +29,7 @@ pub fn snapshots_and_begins() {
     row(4);
     snap(taken, 12, 12);
     row(5);
-    begin(full(), 400);
+    begin(full(), 1300);
     row(6);
     begin(fresh, u64::MAX - 1);
     row(7);

@@ -23,8 +23,8 @@ pub fn of_begin_and_stamp() {
     let last = stamp(observed(taken, u64::MAX - 1), u64::MAX - 1);
     begin(last, 0);
     begin(taken, u64::MAX);
-    begin(taken, 4294967597);
-    begin(taken, 300);
+    begin(taken, 4294968497);
+    begin(taken, 1200);
     let t = one();
     begin(t, 0);
     begin(t, 8);

@@ -40,6 +40,6 @@ pub fn full() -> Table {
         let next = begun(t, i as u64);
         t = next;
     }
-    t.counters.clock = 300;
+    t.counters.clock = 1200;
     t
 }

@@ -6,6 +6,7 @@ use native.Mathlib.Nat.{sub-zero, zero-sub, suc-sub-suc}
 use native.Mathlib.Omega.{arith}
 use lib.ListN.{length, take, drop, replicate, length-replicate}
 use lib.Seq.{length-take-le, take-at, take-all}
+use Rattle.kinds.specs.Kinds.{pinCount, freePins}
 use Rattle.image.specs.Words.{wordsFrom}
 use Rattle.image.specs.Lists.{countOf, idsOf, idsIn}
 use Rattle.image.proofs.Filling.{words-length}
@@ -23,6 +24,11 @@ column-read n s from apart z e =
     let z0 : ℕ = 0 in
     let size = ap length z ∙ length-replicate n z0 in
     rw size at e
+
+pub pins-read :
+    (s : List ℕ) (from : ℕ) {zs xs : List ℕ} → zs ≡ freePins → xs ≡ wordsFrom (length zs) s from 8 → xs ≡ wordsFrom pinCount s from 8
+unfolding freePins
+pins-read s from z e = column-read pinCount s from 8 z e
 
 -- the first k places
 module _ (n : ℕ) (s : List ℕ) {zs : List ℕ} {k : ℕ} (z : zs ≡ replicate n 0) (m : k ≡ min (countOf s) n) where

@@ -6,7 +6,7 @@ use native.Mathlib.Nat.{add-assoc, mul-suc}
 use native.Mathlib.Omega.{arith}
 use lib.ListN.{length, getD, take, drop, length-append, length-drop, take-append-drop}
 use lib.Seq.{drop-drop, drop-at, take-add, take-all}
-use Rattle.kinds.specs.Kinds.{top}
+use Rattle.kinds.specs.Kinds.{top, pinCount}
 use Rattle.model.specs.declared.Counters.{Counters}
 use Rattle.model.specs.declared.Table.{Table}
 use Rattle.image.specs.Words.{wordBytes, wordsBytes, wordAt, wordsFrom, Bytes, Words}
@@ -156,25 +156,44 @@ counters-written s at b h =
     ∙ words-written 3 s at b (omega arith)
     ∙ take-all 24 (drop at s) (omega (arith, length-drop at s))
 
+-- all pins that stand at a place, and what follows them
+pins-there :
+    (s : List ℕ) (at : ℕ) (pins r : List ℕ) → drop at s ≡ wordsBytes pins ++ r → length pins ≡ pinCount → Words pins →
+    (wordsFrom pinCount s at 8 ≡ pins) × (drop (at + 8 * pinCount) s ≡ r)
+pins-there s at pins r e size w =
+    let count : 8 * pinCount ≡ length (wordsBytes pins) = rw (sym size) (sym (words-length-bytes pins)) in
+    let there = words-past (length pins) s at 0 8 ∙ ap (λ (l : List ℕ). wordsFrom (length pins) l 0 8) e ∙ words-read pins r w in
+    let start : at + 0 ≡ at = omega arith in
+    (rw (size, start) at there, sym (drop-drop (8 * pinCount) at s) ∙ ap (drop (8 * pinCount)) e ∙ drop-at (wordsBytes pins) r (8 * pinCount) (sym count))
+
 -- what is read of the image of a table is that table
 pub table-of-image : (n : ℕ) (t : Table) → Expressible n t → tableOf n (imageOf t) ≡ t
 unfolding tableOf imageOf
 table-of-image n t x =
     let xs = t .txids in
     let ys = t .«snapshot_xmins» in
-    let rest = countersBytes (t .counters) in
+    let last = countersBytes (t .counters) in
+    let rest = wordsBytes (t .pins) ++ last in
+    let s = slotsBytes xs ys ++ rest in
     let past = drop-at (slotsBytes xs ys) rest (16 * n) (slots-length n xs ys (x .txids) (x .xmins)) in
+    let (pins, over) = pins-there s (16 * n) (t .pins) last past (x .pins) (x .pin) in
     rw (
       txids-read n xs ys rest (x .txids) (x .xmins) (x .txid),
       xmins-read n xs ys rest (x .txids) (x .xmins) (x .xmin),
-      counters-read (t .counters) (slotsBytes xs ys ++ rest) (16 * n) past (x .clock) (x .sample) (x .line),
+      pins,
+      counters-read (t .counters) s (16 * n + 8 * pinCount) over (x .clock) (x .sample) (x .line),
     )
 
 -- and the image of what was read is the bytes that were
 pub image-of-table : (n : ℕ) (s : List ℕ) → Bytes s → length s ≡ imageSize n → imageOf (tableOf n s) ≡ s
 unfolding tableOf imageOf
 image-of-table n s b h =
-    rw (slots-written n s b (omega arith), counters-written s (16 * n) b h) (take-append-drop (16 * n) s)
+    let pins = words-written pinCount s (16 * n) b (omega arith) in
+    let counters = counters-written s (16 * n + 8 * pinCount) b h in
+    let rest : take (8 * pinCount) (drop (16 * n) s) ++ drop (16 * n + 8 * pinCount) s ≡ drop (16 * n) s =
+        ap (λ (l : List ℕ). take (8 * pinCount) (drop (16 * n) s) ++ l) (sym (drop-drop (8 * pinCount) (16 * n) s))
+        ∙ take-append-drop (8 * pinCount) (drop (16 * n) s) in
+    rw (slots-written n s b (omega arith), pins, counters, rest) (take-append-drop (16 * n) s)
 
 -- the same of a list of ids, whatever its length
 pub ids-of-bytes : (xs : List ℕ) → Words xs → idsOf (wordsBytes xs) ≡ xs

@@ -5,7 +5,7 @@ use mathlib.Core.Bool.{cond}
 use mathlib.Core.List.{List, [], _∷_, _++_}
 use lib.Dec.{eqb}
 use lib.ListN.{length, replicate}
-use Rattle.kinds.specs.Kinds.{top}
+use Rattle.kinds.specs.Kinds.{top, pinCount, freePins}
 use Rattle.kinds.specs.declared.refusal.Refusal.the-variants.{BadImage}
 use Rattle.kinds.specs.declared.refusal.Verdict.{Verdict}
 use Rattle.kinds.specs.declared.refusal.Verdict.the-variants.{Pass, Refuse}
@@ -24,13 +24,16 @@ slotsBytes (x ∷ xs) (y ∷ ys) = wordBytes x ++ (wordBytes y ++ slotsBytes xs 
 abbrev pub countersBytes : Counters → List ℕ
 countersBytes c = wordsBytes (c .clock ∷ c .«sampled_clock» ∷ c .«vacuum_line» ∷ [])
 
--- the slots, then clock, sample and line
+-- the slots, then the pins, then clock, sample and line
 unfoldable pub imageOf : Table → List ℕ
-imageOf t = slotsBytes (t .txids) (t .«snapshot_xmins») ++ countersBytes (t .counters)
+imageOf t = slotsBytes (t .txids) (t .«snapshot_xmins») ++ (wordsBytes (t .pins) ++ countersBytes (t .counters))
 
--- how many bytes the image of a table of n slots has, and where its counters begin
+-- where the pins and the counters begin, and how many bytes the image of a table of n slots has
+abbrev pub pinsFrom : ℕ → ℕ
+pinsFrom n = 16 * n
+
 abbrev pub countersFrom : ℕ → ℕ
-countersFrom n = 16 * n
+countersFrom n = pinsFrom n + 8 * pinCount
 
 abbrev pub imageSize : ℕ → ℕ
 imageSize n = countersFrom n + 24
@@ -40,7 +43,8 @@ abbrev pub countersAt : List ℕ → ℕ → Counters
 countersAt s at = counted (wordAt s at) (wordAt s (at + 8)) (wordAt s (at + 16))
 
 unfoldable pub tableOf : ℕ → List ℕ → Table
-tableOf n s = lent (wordsFrom n s 0 16) (wordsFrom n s 8 16) (countersAt s (countersFrom n))
+tableOf n s =
+    lent (wordsFrom n s 0 16) (wordsFrom n s 8 16) (wordsFrom pinCount s (pinsFrom n) 8) (countersAt s (countersFrom n))
 
 -- 18: the bytes have any other length
 abbrev pub imageTest : ℕ → List ℕ → Verdict
@@ -48,7 +52,7 @@ imageTest n s = cond (eqb (length s) (imageSize n)) Pass (Refuse BadImage)
 
 -- beside 18 stands a table of zeros
 unfoldable pub noImage : ℕ → ImageRead
-noImage n = record { verdict = Refuse BadImage; table = lent (replicate n 0) (replicate n 0) (counted 0 0 0) }
+noImage n = record { verdict = Refuse BadImage; table = lent (replicate n 0) (replicate n 0) freePins (counted 0 0 0) }
 
 abbrev pub whole : ℕ → List ℕ → ImageRead
 whole n s = record { verdict = Pass; table = tableOf n s }
@@ -56,12 +60,14 @@ whole n s = record { verdict = Pass; table = tableOf n s }
 unfoldable pub imageRead : ℕ → List ℕ → ImageRead
 imageRead n s = cond (eqb (length s) (imageSize n)) (whole n s) (noImage n)
 
--- a table that some image says: n slots, and numbers of 64 bits
+-- a table that some image says: n slots, all pins, and numbers of 64 bits
 pub record Expressible (n : ℕ) (t : Table) : Type 0 where
   pub txids : length (t .txids) ≡ n
   pub xmins : length (t .«snapshot_xmins») ≡ n
   pub txid : Words (t .txids)
   pub xmin : Words (t .«snapshot_xmins»)
+  pub pins : length (t .pins) ≡ pinCount
+  pub pin : Words (t .pins)
   pub clock : clockOf t ≤ top
   pub sample : sampleOf t ≤ top
   pub line : lineOf t ≤ top

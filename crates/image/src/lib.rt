@@ -1,6 +1,7 @@
 // Ids and tables as bytes (SPEC 18): each number is 8 bytes, the least first.
 mod words;
 
+use kinds::PINS;
 use kinds::Refusal;
 use kinds::SLOTS;
 use kinds::Verdict;
@@ -12,7 +13,8 @@ ghost use Rattle.image.specs.Lists.{idsIn};
 ghost use Rattle.image.specs.Images.{imageSize, countersFrom, countersAt, noImage, imageRead};
 
 // Where the numbers past the slots stand, and how many bytes an image has.
-const CLOCK: usize = 16 * SLOTS;
+const FIRST_PIN: usize = 16 * SLOTS;
+const CLOCK: usize = FIRST_PIN + 8 * PINS;
 
 const SAMPLE: usize = CLOCK + 8;
 
@@ -39,6 +41,7 @@ fn no_image() -> ImageRead
         table: Table {
             txids: kinds::zeros(),
             snapshot_xmins: kinds::zeros(),
+            pins: kinds::free_pins(),
             counters,
         },
     }
@@ -69,10 +72,13 @@ pub fn read_image(image: &[u8]) -> ImageRead
     words::fill(image, 0, 16, &mut txids);
     let mut snapshot_xmins = kinds::zeros();
     words::fill(image, 8, 16, &mut snapshot_xmins);
+    let mut pins = kinds::free_pins();
+    words::fill(image, FIRST_PIN, 8, &mut pins);
     let counters = counters_in(image);
     let table = Table {
         txids,
         snapshot_xmins,
+        pins,
         counters,
     };
     ImageRead {

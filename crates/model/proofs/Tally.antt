@@ -1,6 +1,6 @@
 -- The tallies over any columns: which bounds hold, who is active, which slot is the lowest empty one, how many are taken.
 use Prim.Native.Nat.{ℕ, zero, suc, _+_, _-_, _≤_, _<_, min, max}
-use mathlib.Core.Path.{_≡_, refl, sym, _∙_}
+use mathlib.Core.Path.{_≡_, refl, sym, _∙_, ap}
 use mathlib.Core.Logic.{_≢_, _⊎_, inl, inr}
 use mathlib.Core.Bool.{Bool, true, false, cond, false≢true}
 use mathlib.Core.List.{List, [], _∷_}
@@ -13,7 +13,7 @@ use lib.Seq.{take-append-seam}
 use borrow.Author.Tests.{eqb-true, eqb-false, eq-eqb, ne-eqb}
 use Rattle.settled.specs.Settled.{listed}
 use Rattle.settled.proofs.Listed.{listed-none, listed-head, listed-tail, listed-cases}
-use Rattle.model.specs.Tally.{consUnless, active, retained, lowestEmpty, minimum, maximum, places}
+use Rattle.model.specs.Tally.{consUnless, active, retained, holderFrom, lowestEmpty, minimum, maximum, places}
 
 -- the smallest is at most the number and each member, and at least what they all are
 pub minimum-start : (a : ℕ) (xs : List ℕ) → minimum a xs ≤ a
@@ -107,6 +107,18 @@ taken-retained (x ∷ xs) (m ∷ ms) zero e h = consUnless-head (eqb x 0) m (ret
 taken-retained (x ∷ xs) (m ∷ ms) (suc i) e h =
     consUnless-tail (eqb x 0) (getD ms i 0) m (retained xs ms) (taken-retained xs ms i (suc-inj e) h)
 
+-- a pin retains what it holds, so that pins are scanned as slots are
+pub retained-self : (xs : List ℕ) → retained xs xs ≡ active xs
+unfolding retained active
+retained-self [] = refl
+retained-self (x ∷ xs) = ap (consUnless (eqb x 0) x) (retained-self xs)
+
+-- where every place is 0, none is active
+pub none-active : (xs : List ℕ) → ((i : ℕ) → getD xs i 0 ≡ 0) → active xs ≡ []
+unfolding active
+none-active [] f = refl
+none-active (x ∷ xs) f = rw (eq-eqb x 0 (f 0)) (none-active xs (λ i. f (suc i)))
+
 -- the lowest empty slot is empty (a place past the end reads 0), and those below it are taken
 pub lowest-empty : (txids : List ℕ) → getD txids (lowestEmpty txids) 0 ≡ 0
 unfolding lowestEmpty
@@ -165,10 +177,24 @@ active-length (x ∷ xs) = go (eqb x 0) (active-length xs)
     go true ih = omega arith
     go false ih = omega arith
 
+-- where all slots are empty: nobody is active, nobody retains, and nobody holds
 pub active-zeros : (n : ℕ) → active (replicate n 0) ≡ []
 unfolding active
 active-zeros zero = refl
 active-zeros (suc n) = active-zeros n
+
+pub retained-zeros : (n : ℕ) (xmins : List ℕ) → retained (replicate n 0) xmins ≡ []
+unfolding retained
+retained-zeros zero xmins = refl
+retained-zeros (suc n) [] = refl
+retained-zeros (suc n) (xmin ∷ xmins) = retained-zeros n xmins
+
+pub holder-zeros :
+    (n slot : ℕ) (xmins : List ℕ) (x otherwise : ℕ) → holderFrom slot (replicate n 0) xmins x otherwise ≡ otherwise
+unfolding holderFrom
+holder-zeros zero slot xmins x otherwise = refl
+holder-zeros (suc n) slot [] x otherwise = refl
+holder-zeros (suc n) slot (xmin ∷ xmins) x otherwise = holder-zeros n (slot + 1) xmins x otherwise
 
 -- the used places of n places are the ids
 pub used-places : (n : ℕ) (ids : List ℕ) → take (length ids) (places n ids) ≡ ids

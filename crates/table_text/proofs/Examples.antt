@@ -2,6 +2,7 @@
 use mathlib.Core.Path.{_≡_, refl}
 use mathlib.Core.List.{[], _∷_, _++_}
 use lib.ListN.{replicate}
+use Rattle.kinds.specs.Kinds.{freePins}
 use Rattle.model.specs.declared.Table.{Table}
 use Rattle.model.specs.Tables.{counted, lent}
 use Rattle.text.specs.Bytes.{bytes, starts}
@@ -11,13 +12,13 @@ use Rattle.table_text.specs.TableText.{header, tableRules, numbersOf, li
 
 -- slot 0 holds 12 and keeps xmin 7, slot 1 is empty; clock 20, sample 15, line 3
 abbrev two : Table
-two = lent (12 ∷ 0 ∷ []) (7 ∷ 0 ∷ []) (counted 20 15 3)
+two = lent (12 ∷ 0 ∷ []) (7 ∷ 0 ∷ []) freePins (counted 20 15 3)
 
 record Read : Type 0 where
   text : tableText two ≡ bytes "table=proc-1\ntxid=12\nxmin=7\ntxid=0\nxmin=0\nclock=20\nsample=15\nline=3\n"
   good : tableOf 2 (bytes "table=proc-1\ntxid=12\nxmin=7\ntxid=0\nxmin=0\nclock=20\nsample=15\nline=3\n") ≡ whole two
   -- beside a broken text stands a table of zeros; nothing at all is line 1
-  empty : tableOf 2 [] ≡ record { table = lent (replicate 2 0) (replicate 2 0) (counted 0 0 0); broken = 1 }
+  empty : tableOf 2 [] ≡ record { table = lent (replicate 2 0) (replicate 2 0) freePins (counted 0 0 0); broken = 1 }
   -- the header of a trace, a later version, no newline
   header-other : tableOf 2 (bytes "trace=proc-1\n") ≡ brokenAt 2 1
   header-later : tableOf 2 (bytes "table=proc-2\n") ≡ brokenAt 2 1

@@ -8,6 +8,7 @@ use lib.Dec.{eqb}
 use lib.ListN.{length, drop, drop-of-length-le, length-append}
 use lib.Seq.{drop-append-seam}
 use borrow.Author.Tests.{eq-eqb, eqb-true}
+use Rattle.kinds.specs.Kinds.{freePins}
 use Rattle.model.specs.declared.Counters.{Counters}
 use Rattle.model.specs.declared.Table.{Table}
 use Rattle.model.specs.Tables.{lent}
@@ -20,7 +21,7 @@ use Rattle.table_text.specs.TableText.{withSlot, tableFrom, brokenAt, wh
 use Rattle.table_text.specs.declared.TableRead.{TableRead}
 
 -- numbers and tables of n slots are one for one
-from-numbers : (n : ℕ) (xs ys : List ℕ) (c : Counters) → length xs ≡ n → length ys ≡ n → tableFrom n (numbersOf xs ys c) ≡ lent xs ys c
+from-numbers : (n : ℕ) (xs ys : List ℕ) (c : Counters) → length xs ≡ n → length ys ≡ n → tableFrom n (numbersOf xs ys c) ≡ lent xs ys freePins c
 unfolding tableFrom numbersOf
 from-numbers zero [] [] c h k = refl
 from-numbers zero [] (y ∷ ys) c h k = absurd (omega arith)
@@ -42,6 +43,11 @@ places-from (suc n) ns =
     let later = places-from n (drop 2 ns) in
     (omega (arith, later .0), omega (arith, later .1))
 
+pins-from : (n : ℕ) (ns : List ℕ) → tableFrom n ns .pins ≡ freePins
+unfolding tableFrom
+pins-from zero ns = refl
+pins-from (suc n) ns = pins-from n (drop 2 ns)
+
 -- the text by the numbers
 text-by : (n : ℕ) (t : Table) (ns : List ℕ) → length (t .txids) ≡ n → numbersOf (t .txids) (t .«snapshot_xmins») (t .counters) ≡ ns
     → tableText t ≡ header ++ joined (lineTexts (tableRules n) ns)
@@ -59,7 +65,8 @@ table-of-text n t x =
     let read = lines-of (tableRules n) ns s firstSlot 2 [] (x .numbers) there in
     let end : firstSlot + length lines ≡ length s = sym (length-append header lines) in
     let same = from-numbers n (t .txids) (t .«snapshot_xmins») (t .counters) (x .txids) (x .xmins) in
-    rw (text-by n t ns (x .txids) refl, starts-of header lines, read, eq-eqb _ _ end) (ap whole same)
+    let with-pins = ap (λ (pins : List ℕ). lent (t .txids) (t .«snapshot_xmins») pins (t .counters)) (sym (x .pins)) in
+    rw (text-by n t ns (x .txids) refl, starts-of header lines, read, eq-eqb _ _ end) (ap whole (same ∙ with-pins))
 
 -- so no two tables that it can express have one text
 pub one-table : (n : ℕ) (t u : Table) → Expressible n t → Expressible n u → tableText t ≡ tableText u → t ≡ u
@@ -82,7 +89,7 @@ module _ (n : ℕ) (s : List ℕ) where
       let under = lines .text .text ∙ ap (λ (l : List ℕ). text ++ l) rest ∙ append-nil text in
       record {
         text = starts-text header s h ∙ ap (λ (l : List ℕ). header ++ l) under ∙ sym (text-by n (tableFrom n ns) ns (places .0) same);
-        expressible = record { txids = places .0; xmins = places .1; numbers = rw same (lines .within) };
+        expressible = record { txids = places .0; xmins = places .1; pins = pins-from n ns; numbers = rw same (lines .within) };
       }
 
   pub text-of-table : tableOf n s .broken ≡ 0 → Accepted n s (tableOf n s .table)

@@ -9,6 +9,7 @@ use lib.Dec.{eqb}
 use lib.ListN.{length, take, set, replicate, length-set, length-replicate}
 use lib.Seq.{append-snoc, take-all, take-suc-set}
 use borrow.Author.Tests.{eq-eqb, ne-eqb}
+use Rattle.kinds.specs.Kinds.{freePins}
 use Rattle.model.specs.Tables.{counted, lent}
 use Rattle.text.specs.declared.Number.the-variants.{Is, Bad}
 use Rattle.text.specs.Bytes.{starts}
@@ -79,7 +80,7 @@ module _ (n : ℕ) (s xs ys : List ℕ) (at line : ℕ) where
         unfolding tableRules linesAt
         more-stands h = rw (p, q, r, ne-eqb e (length s) h)
 
-        pub all-read : e ≡ length s → whole (lent xs ys (counted x y z)) ≡ last
+        pub all-read : e ≡ length s → whole (lent xs ys freePins (counted x y z)) ≡ last
         unfolding tableRules linesAt tableFrom
         all-read h = rw (p, q, r, eq-eqb e (length s) h, append-nil xs, append-nil ys)
 

@@ -14,7 +14,7 @@ use Rattle.table_text.specs.declared.TableRead.{TableRead}
 
 -- slots in front of a table's
 abbrev pub inFront : List ℕ → List ℕ → Table → Table
-inFront xs ys t = lent (xs ++ t .txids) (ys ++ t .«snapshot_xmins») (t .counters)
+inFront xs ys t = lent (xs ++ t .txids) (ys ++ t .«snapshot_xmins») (t .pins) (t .counters)
 
 -- what the lines of the last m slots of n make of slots that were read before them
 abbrev pub restRead : ℕ → List ℕ → List ℕ → List ℕ → ℕ → Lines → TableRead

@@ -1,10 +1,11 @@
--- The text of a table, and what is read of a text (SPEC 16.4).
+-- The text of a table, and what is read of a text (SPEC 16.4). It tells slots and counters: its pins are free.
 use Prim.Native.Nat.{ℕ, zero, suc, _+_, _*_}
 use mathlib.Core.Path.{_≡_}
 use mathlib.Core.Bool.{cond}
 use mathlib.Core.List.{List, [], _∷_, _++_}
 use lib.Dec.{eqb}
 use lib.ListN.{length, replicate, getD, drop}
+use Rattle.kinds.specs.Kinds.{freePins}
 use Rattle.model.specs.declared.Counters.{Counters}
 use Rattle.model.specs.declared.Table.{Table}
 use Rattle.model.specs.Tables.{counted, lent}
@@ -46,23 +47,24 @@ linesUnder xs ys c = joined (lineTexts (tableRules (length xs)) (numbersOf xs ys
 unfoldable pub tableText : Table → List ℕ
 tableText t = header ++ linesUnder (t .txids) (t .«snapshot_xmins») (t .counters)
 
--- a table that some text can express: n slots, and numbers of 64 bits
+-- a table that some text can express: n slots, numbers of 64 bits, and no pin taken
 pub record Expressible (n : ℕ) (t : Table) : Type 0 where
   pub txids : length (t .txids) ≡ n
   pub xmins : length (t .«snapshot_xmins») ≡ n
+  pub pins : t .pins ≡ freePins
   pub numbers : Within (tableRules n) (numbersOf (t .txids) (t .«snapshot_xmins») (t .counters))
 
 -- the table of n slots that has these numbers
 abbrev pub withSlot : ℕ → ℕ → Table → Table
-withSlot x y t = lent (x ∷ t .txids) (y ∷ t .«snapshot_xmins») (t .counters)
+withSlot x y t = lent (x ∷ t .txids) (y ∷ t .«snapshot_xmins») (t .pins) (t .counters)
 
 unfoldable pub tableFrom : ℕ → List ℕ → Table
-tableFrom zero ns = lent [] [] (counted (getD ns 0 0) (getD ns 1 0) (getD ns 2 0))
+tableFrom zero ns = lent [] [] freePins (counted (getD ns 0 0) (getD ns 1 0) (getD ns 2 0))
 tableFrom (suc n) ns = withSlot (getD ns 0 0) (getD ns 1 0) (tableFrom n (drop 2 ns))
 
 -- beside a text that breaks a rule stands a table of zeros
 unfoldable pub brokenAt : ℕ → ℕ → TableRead
-brokenAt n line = record { table = lent (replicate n 0) (replicate n 0) (counted 0 0 0); broken = line }
+brokenAt n line = record { table = lent (replicate n 0) (replicate n 0) freePins (counted 0 0 0); broken = line }
 
 abbrev pub whole : Table → TableRead
 whole t = record { table = t; broken = 0 }

@@ -1,4 +1,4 @@
-// The text of a table: read, measured, and written.
+// The text of a table: read, measured, and written. It tells of no pin: a table that is read has all its pins free.
 mod lines;
 mod measure;
 mod read;

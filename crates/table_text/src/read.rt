@@ -19,10 +19,12 @@ fn no_table(line: usize) -> TableRead
 {
     let txids = kinds::zeros();
     let snapshot_xmins = kinds::zeros();
+    let pins = kinds::free_pins();
     TableRead {
         table: Table {
             txids,
             snapshot_xmins,
+            pins,
             counters: Counters {
                 clock: 0,
                 sampled_clock: 0,
@@ -58,10 +60,12 @@ fn last_lines(s: &[u8], at: usize, txids: [u64; SLOTS], xmins: [u64; SLOTS]) -> 
     if end != s.len() {
         return no_table(AFTER_SLOTS + 3);
     }
+    let pins = kinds::free_pins();
     TableRead {
         table: Table {
             txids,
             snapshot_xmins: xmins,
+            pins,
             counters: Counters {
                 clock,
                 sampled_clock,

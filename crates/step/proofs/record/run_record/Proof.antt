@@ -3,7 +3,7 @@
 use mathlib.Core.Path.{refl, _∙_}
 use borrow.Author.Tests.{lt-leb}
 use Rattle.model.specs.Calls.{shownAccepted}
-use Rattle.model.proofs.Lent.{lent-decides, lent-stamps}
+use Rattle.model.proofs.Lent.{slots-show, lent-decides, lent-stamps}
 use Rattle.step.specs.Named.{callOf}
 use Rattle.step.specs.Step.{ran, ranLeft}
 use Rattle.step.proofs.Prints.{plain-ran, plain-left, listing-ran, listing-left}
@@ -119,8 +119,9 @@ returns-4 c =
     let told = run .before .before in
     let op = told .enum-told3 .given .1 in
     let few = told .before .before .if1 .left in
+    let e = slots-show _ _ _ few refl in
     let o = run .run-snap .ensures in
-    rw op (o .0 ∙ listing-ran _ _ _ _ few _ _ refl refl, o .1 ∙ listing-left _ _ _ _ few _ _ refl refl)
+    rw op (o .0 ∙ listing-ran _ _ _ _ few _ _ e, o .1 ∙ listing-left _ _ _ _ few _ _ e)
 
 same-length-4 : tie.Need-same-length-4
 same-length-4 c = search needs
@@ -132,8 +133,9 @@ returns-5 c =
     let told = run .before .before in
     let op = told .enum-told4 .given .1 in
     let few = told .before .before .if1 .left in
+    let e = slots-show _ _ _ few refl in
     let o = run .run-own .ensures in
-    rw op (o .0 ∙ listing-ran _ _ _ _ few _ _ refl refl, o .1 ∙ listing-left _ _ _ _ few _ _ refl refl)
+    rw op (o .0 ∙ listing-ran _ _ _ _ few _ _ e, o .1 ∙ listing-left _ _ _ _ few _ _ e)
 
 same-length-5 : tie.Need-same-length-5
 same-length-5 c = search needs

@@ -99,16 +99,20 @@ returns-4 c =
     (sym (line-read .before .before .field-at3 .ensures) ∙ line-read .vacuum-line .given .1)
     (c .before .if1 .taken)
 
+free-pins-requires : tie.Need-free-pins-requires
+free-pins-requires c κs = search needs
+
 returns-5 : tie.Need-returns-5
 returns-5 c =
-    let line-read = c .before .before in
+    let line-read = c .before .before .before in
     let sample-read = line-read .before .before .before .before .before in
     let clock-read = sample-read .before .before .before .before .before in
-    all-read _ _ _ _ _ _
+    rw (c .free-pins .ensures)
+    (all-read _ _ _ _ _ _
     (sym (clock-read .before .before .field-at .ensures) ∙ clock-read .clock .given .1)
     (sym (sample-read .before .before .field-at2 .ensures) ∙ sample-read .sampled-clock .given .1)
     (sym (line-read .before .before .field-at3 .ensures) ∙ line-read .vacuum-line .given .1)
-    (c .if1 .left)
+    (c .before .if1 .left))
 
 pub last-lines-spec : {M : Type 1} → statement M
 last-lines-spec =
@@ -137,4 +141,5 @@ last-lines-spec =
     add-no-table-3
     no-table-requires-4
     returns-4
+    free-pins-requires
     returns-5)
