@@ -15,11 +15,15 @@ extern "C" {
 #endif
 
 /* How many slots a table has, and so how many ids a list may have. */
-#define SOCKHURDLE_SLOTS 256
+#define SOCKHURDLE_SLOTS 1024
+
+/* How many pins a table has. */
+#define SOCKHURDLE_PINS 64
 
 /* The image of a table: each number is 8 bytes, the least byte first. Slot after slot its txid, then its snapshot_xmin; then
-   the clock, the sampled clock and the vacuum line. */
-#define SOCKHURDLE_CLOCK_AT (16 * SOCKHURDLE_SLOTS)
+   the pins; then the clock, the sampled clock and the vacuum line. */
+#define SOCKHURDLE_PINS_AT (16 * SOCKHURDLE_SLOTS)
+#define SOCKHURDLE_CLOCK_AT (SOCKHURDLE_PINS_AT + 8 * SOCKHURDLE_PINS)
 #define SOCKHURDLE_SAMPLE_AT (SOCKHURDLE_CLOCK_AT + 8)
 #define SOCKHURDLE_LINE_AT (SOCKHURDLE_SAMPLE_AT + 8)
 #define SOCKHURDLE_IMAGE_LEN (SOCKHURDLE_LINE_AT + 8)

@@ -32,9 +32,10 @@ static const char *word(uint64_t answer)
 
 int main(void)
 {
-    /* A segment that another process wrote: two transactions, 5 and 9, and the counters. */
+    /* A segment that another process wrote: two transactions, 5 and 9, a pinned snapshot, and the counters. */
     put_slot(0, 5, 4);
     put_slot(1, 9, 5);
+    sockhurdle_put(segment + SOCKHURDLE_PINS_AT, 4);
     sockhurdle_put(segment + SOCKHURDLE_CLOCK_AT, 12);
     sockhurdle_put(segment + SOCKHURDLE_SAMPLE_AT, 11);
     sockhurdle_put(segment + SOCKHURDLE_LINE_AT, 4);

@@ -4,7 +4,7 @@
 use sockhurdle::{Refusal, Slot, Snapshot, Table, Txid, check_image};
 
 fn main() -> Result<(), Refusal> {
-    // A segment that another process wrote: two transactions, 5 and 9, and the counters.
+    // A segment that another process wrote: two transactions, 5 and 9, a pinned snapshot, and the counters.
     let mut table = Table::fresh();
     table.slots[0] = Slot {
         txid: 5,
@@ -14,6 +14,7 @@ fn main() -> Result<(), Refusal> {
         txid: 9,
         snapshot_xmin: 5,
     };
+    table.pins[0] = 4;
     (table.clock, table.sampled_clock, table.vacuum_line) = (12, 11, 4);
     let mut segment = table.image();
     println!("the segment passes: {}", check_image(&segment)?);

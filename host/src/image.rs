@@ -1,12 +1,13 @@
 use crate::{Refusal, answer, raw};
 
 /// How many slots a table has. The library has its own number, and another here is found by the tests.
-pub const SLOTS: usize = 256;
+pub const SLOTS: usize = 1024;
+
+/// How many pins a table has; the same.
+pub const PINS: usize = 64;
 
 /// How many bytes the image of a table has.
-pub const IMAGE_LEN: usize = 8 * NUMBERS;
-
-const NUMBERS: usize = 2 * SLOTS + 3;
+pub const IMAGE_LEN: usize = 16 * SLOTS + 8 * PINS + 24;
 
 /// A slot; txid 0 marks it empty.
 #[derive(Clone, Copy, Debug, Default, PartialEq, Eq)]
@@ -19,29 +20,33 @@ pub struct Slot {
 #[derive(Clone, Debug, PartialEq, Eq)]
 pub struct Table {
     pub slots: [Slot; SLOTS],
+    /// The xmins of pinned snapshots; 0 marks a free pin.
+    pub pins: [u64; PINS],
     pub clock: u64,
     pub sampled_clock: u64,
     pub vacuum_line: u64,
 }
 
 impl Table {
-    /// All slots empty, the counters 1.
+    /// All slots empty, all pins free, the counters 1.
     pub fn fresh() -> Self {
         Table {
             slots: [Slot::default(); SLOTS],
+            pins: [0; PINS],
             clock: 1,
             sampled_clock: 1,
             vacuum_line: 1,
         }
     }
 
-    /// Its image: slot after slot the txid and the snapshot_xmin, then clock, sampled clock and line, each as 8 bytes, the least
-    /// byte first.
+    /// Its image: slot after slot the txid and the snapshot_xmin, then the pins, then clock, sampled clock and line, each as 8
+    /// bytes, the least byte first.
     pub fn image(&self) -> Vec<u8> {
         let slots = self.slots.iter();
         let slots = slots.flat_map(|slot| [slot.txid, slot.snapshot_xmin]);
         let counters = [self.clock, self.sampled_clock, self.vacuum_line];
-        slots.chain(counters).flat_map(u64::to_le_bytes).collect()
+        let numbers = slots.chain(self.pins).chain(counters);
+        numbers.flat_map(u64::to_le_bytes).collect()
     }
 
     /// The table of an image that passes the check; none where it does not.
@@ -60,8 +65,10 @@ impl Table {
             txid: next(),
             snapshot_xmin: next(),
         });
+        let pins = std::array::from_fn(|_| next());
         Ok(Some(Table {
             slots,
+            pins,
             clock: next(),
             sampled_clock: next(),
             vacuum_line: next(),

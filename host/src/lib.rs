@@ -40,7 +40,7 @@ mod raw;
 mod refusal;
 mod snapshot;
 
-pub use image::{IMAGE_LEN, SLOTS, Slot, Table, check_image};
+pub use image::{IMAGE_LEN, PINS, SLOTS, Slot, Table, check_image};
 pub use refusal::Refusal;
 pub use snapshot::{Snapshot, Txid};
 

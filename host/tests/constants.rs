@@ -1,6 +1,6 @@
 //! The crate's and the header's constants are the library's.
 
-use sockhurdle::{IMAGE_LEN, Refusal, SLOTS, Snapshot, Table, Txid, check_image};
+use sockhurdle::{IMAGE_LEN, PINS, Refusal, SLOTS, Snapshot, Table, Txid, check_image};
 
 #[test]
 fn an_image_has_that_length() {
@@ -31,6 +31,7 @@ fn the_header_says_the_same() {
         number.unwrap_or_else(|| panic!("no {name}"))
     };
     assert_eq!(defined("SOCKHURDLE_SLOTS"), SLOTS as u64);
+    assert_eq!(defined("SOCKHURDLE_PINS"), PINS as u64);
     let refusals = [
         ("SOCKHURDLE_ZERO_TXID", Refusal::ZeroTxid),
         ("SOCKHURDLE_BAD_SNAPSHOT", Refusal::BadSnapshot),

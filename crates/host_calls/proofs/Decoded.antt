@@ -1,15 +1,14 @@
 -- What the inner tests say of the numbers that have a place is what they say of all of them: they read the first count ids and no
 -- others, and none where the count is above the slot count.
-use Prim.Native.Nat.{ℕ, _%_, _<_, _≤_}
+use Prim.Native.Nat.{ℕ, _<_, _≤_}
 use mathlib.Core.Path.{_≡_, refl, sym, ap, _∙_}
-use mathlib.Core.Logic.{_≢_}
 use mathlib.Core.Bool.{Bool, true, false, cond}
 use mathlib.Core.List.{List}
 use native.Mathlib.Decide.{decLt}
 use native.Mathlib.Omega.{arith}
 use lib.Dec.{eqb}
 use lib.ListN.{length, take}
-use borrow.Author.Tests.{lt-ltb, eq-eqb, ne-eqb}
+use borrow.Author.Tests.{lt-ltb, ne-eqb}
 use Rattle.kinds.specs.declared.Txid.{Txid}
 use Rattle.kinds.specs.declared.refusal.Refusal.{Refusal}
 use Rattle.kinds.specs.declared.refusal.Refusal.the-variants.{BadImage}
@@ -25,7 +24,7 @@ use Rattle.image.specs.declared.ImageRead.{ImageRead}
 use Rattle.image.specs.Lists.{countOf, idsOf, idsIn}
 use Rattle.image.specs.Images.{imageSize, tableOf, noImage, imageRead, whole}
 use Rattle.image.proofs.Columns.{ids-whole}
-use Rattle.host_calls.specs.Answers.{yesOrNo, settledNumber, usableNumber, answerBy, settledAnswer, usableAnswer, checkAnswer}
+use Rattle.host_calls.specs.Answers.{yesOrNo, settledNumber, usableNumber, torn, answerBy, settledAnswer, usableAnswer, checkAnswer}
 
 -- the tests by the first count ids
 settled-taken :
@@ -70,25 +69,25 @@ module _ (n xmax : ℕ) (s : List ℕ) where
 
   -- the answer by the inner test's
   pub settled-is :
-      {ids : List ℕ} (r : Settled) (id : Txid) → length s % 8 ≡ 0 → ids ≡ idsIn n s → SettledFits n xmax ids (countOf s) id r →
+      {ids : List ℕ} (r : Settled) (id : Txid) → torn s ≡ false → ids ≡ idsIn n s → SettledFits n xmax ids (countOf s) id r →
       settledAnswer n xmax s (id .0) ≡ settledNumber (paperSettled r)
   unfolding settledAnswer
-  settled-is r id z i e = rw (eq-eqb (length s % 8) 0 z, e, i) (ap settledNumber (sym (settled-decoded id)))
+  settled-is r id z i e = rw (z, e, i) (ap settledNumber (sym (settled-decoded id)))
 
   pub usable-is :
-      {ids : List ℕ} (r : Usable) (own id : Txid) → length s % 8 ≡ 0 → ids ≡ idsIn n s → UsableFits n xmax ids (countOf s) own id r →
+      {ids : List ℕ} (r : Usable) (own id : Txid) → torn s ≡ false → ids ≡ idsIn n s → UsableFits n xmax ids (countOf s) own id r →
       usableAnswer n xmax s (id .0) (own .0) ≡ usableNumber (paperUsable r)
   unfolding usableAnswer
-  usable-is r own id z i e = rw (eq-eqb (length s % 8) 0 z, e, i) (ap usableNumber (sym (usable-decoded own id)))
+  usable-is r own id z i e = rw (z, e, i) (ap usableNumber (sym (usable-decoded own id)))
 
   -- bytes of another length
-  pub settled-18 : (id : ℕ) → length s % 8 ≢ 0 → settledAnswer n xmax s id ≡ told BadImage .number
+  pub settled-18 : (id : ℕ) → torn s ≡ true → settledAnswer n xmax s id ≡ told BadImage .number
   unfolding settledAnswer
-  settled-18 id z = rw (ne-eqb (length s % 8) 0 z)
+  settled-18 id z = rw z
 
-  pub usable-18 : (id own : ℕ) → length s % 8 ≢ 0 → usableAnswer n xmax s id own ≡ told BadImage .number
+  pub usable-18 : (id own : ℕ) → torn s ≡ true → usableAnswer n xmax s id own ≡ told BadImage .number
   unfolding usableAnswer
-  usable-18 id own z = rw (ne-eqb (length s % 8) 0 z)
+  usable-18 id own z = rw z
 
 pub check-is :
     (n : ℕ) (s : List ℕ) (read : ImageRead) → read ≡ imageRead n s →

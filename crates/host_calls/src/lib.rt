@@ -7,7 +7,7 @@ use settled::Settled;
 use settled::Usable;
 ghost use mathlib.Core.Path.{_≡_};
 ghost use Rattle.kinds.specs.Refusals.{told};
-ghost use Rattle.host_calls.specs.Answers.{yesOrNo, settledAnswer, usableAnswer, checkAnswer};
+ghost use Rattle.host_calls.specs.Answers.{yesOrNo, torn, settledAnswer, usableAnswer, checkAnswer};
 
 fn yes_or_no(yes: bool) -> u64
     ensures { λ r. ⌜ r ≡ yesOrNo yes ⌝ }
@@ -23,13 +23,20 @@ fn number_of(refusal: Refusal) -> u64
     said.number
 }
 
+// The length of a list is a multiple of 8.
+fn is_torn(list: &[u8]) -> bool
+    ensures { λ r. ⌜ r ≡ torn (now (list .entry)) ⌝ }
+{
+    list.len() % 8 != 0
+}
+
 // Whether every reader of the snapshot may use what `id` made; `list` has the ids in flight. Answers 1 for yes, 0 for no,
 // else refusal 18, 10 or 4.
 #[no_mangle]
 pub extern "C" fn sockhurdle_settled(xmax: u64, list: &[u8], id: u64) -> u64
     ensures { λ r. do ⌜ r ≡ settledAnswer (← ⟦kinds::SLOTS⟧ .entry) xmax (now (list .entry)) id ⌝ }
 {
-    if list.len() % 8 != 0 {
+    if is_torn(list) {
         return number_of(Refusal::BadImage);
     }
     let ids = image::read_ids(list);
@@ -46,7 +53,7 @@ pub extern "C" fn sockhurdle_settled(xmax: u64, list: &[u8], id: u64) -> u64
 pub extern "C" fn sockhurdle_usable(xmax: u64, list: &[u8], id: u64, own: u64) -> u64
     ensures { λ r. do ⌜ r ≡ usableAnswer (← ⟦kinds::SLOTS⟧ .entry) xmax (now (list .entry)) id own ⌝ }
 {
-    if list.len() % 8 != 0 {
+    if is_torn(list) {
         return number_of(Refusal::BadImage);
     }
     let ids = image::read_ids(list);

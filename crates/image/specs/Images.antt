@@ -7,7 +7,6 @@ use lib.Dec.{eqb}
 use lib.ListN.{length, replicate}
 use Rattle.kinds.specs.Kinds.{top, pinCount, freePins}
 use Rattle.kinds.specs.declared.refusal.Refusal.the-variants.{BadImage}
-use Rattle.kinds.specs.declared.refusal.Verdict.{Verdict}
 use Rattle.kinds.specs.declared.refusal.Verdict.the-variants.{Pass, Refuse}
 use Rattle.model.specs.declared.Counters.{Counters}
 use Rattle.model.specs.declared.Table.{Table}
@@ -46,11 +45,7 @@ unfoldable pub tableOf : ℕ → List ℕ → Table
 tableOf n s =
     lent (wordsFrom n s 0 16) (wordsFrom n s 8 16) (wordsFrom pinCount s (pinsFrom n) 8) (countersAt s (countersFrom n))
 
--- 18: the bytes have any other length
-abbrev pub imageTest : ℕ → List ℕ → Verdict
-imageTest n s = cond (eqb (length s) (imageSize n)) Pass (Refuse BadImage)
-
--- beside 18 stands a table of zeros
+-- 18, for bytes of any other length; beside it stands a table of zeros
 unfoldable pub noImage : ℕ → ImageRead
 noImage n = record { verdict = Refuse BadImage; table = lent (replicate n 0) (replicate n 0) freePins (counted 0 0 0) }
 

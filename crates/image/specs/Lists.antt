@@ -1,17 +1,8 @@
 -- A list of ids as bytes (SPEC 18.2).
-use Prim.Native.Nat.{ℕ, _-_, _/_, _%_, min}
-use mathlib.Core.Bool.{cond}
+use Prim.Native.Nat.{ℕ, _-_, _/_, min}
 use mathlib.Core.List.{List, _++_}
-use lib.Dec.{eqb}
 use lib.ListN.{length, replicate}
-use Rattle.kinds.specs.declared.refusal.Refusal.the-variants.{BadImage}
-use Rattle.kinds.specs.declared.refusal.Verdict.{Verdict}
-use Rattle.kinds.specs.declared.refusal.Verdict.the-variants.{Pass, Refuse}
 use Rattle.image.specs.Words.{wordsFrom}
-
--- 18: its length is no multiple of 8
-abbrev pub listTest : List ℕ → Verdict
-listTest s = cond (eqb (length s % 8) 0) Pass (Refuse BadImage)
 
 -- all its numbers, as many as its length over 8
 abbrev pub countOf : List ℕ → ℕ

@@ -3,7 +3,7 @@
 use crate::decode::Reading;
 use crate::question::Question;
 use std::collections::BTreeMap;
-use twin::table::SLOTS;
+use twin::table::{PINS, SLOTS};
 use twin::waits::grounds;
 
 /// The conditions of the table check, each broken alone, by the twin's names.
@@ -18,6 +18,8 @@ const CONDITIONS: &[&str] = &[
     "txid from clock",
     "txid below line",
     "txid twice",
+    "pin below line",
+    "pin above clock",
 ];
 
 const OTHERS: &[&str] = &[
@@ -28,6 +30,7 @@ const OTHERS: &[&str] = &[
     "image one byte long",
     "image one slot short",
     "image one slot long",
+    "image without its pins",
     "18 alone",
     "18 before 10",
     "18 before 4",
@@ -90,12 +93,13 @@ impl Cells {
     }
 
     fn image(&mut self, image: &[u8]) {
-        let length = 8 * (2 * SLOTS + 3);
+        let length = 8 * (2 * SLOTS + PINS + 3);
         self.put("empty image", image.is_empty());
         self.put("image one byte short", image.len() + 1 == length);
         self.put("image one byte long", image.len() == length + 1);
         self.put("image one slot short", image.len() + 16 == length);
         self.put("image one slot long", image.len() == length + 16);
+        self.put("image without its pins", image.len() + 8 * PINS == length);
         if let Some(table) = Reading(None).table(image) {
             let broken = grounds::entry(&table);
             self.put("image that passes", broken.is_empty());

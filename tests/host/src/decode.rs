@@ -2,7 +2,7 @@
 //! in on demand, to see that the comparison can fail.
 
 use crate::question::Question;
-use twin::table::{SLOTS, Slot, Table};
+use twin::table::{PINS, SLOTS, Slot, Table};
 use twin::tiles::{self, Seen};
 
 #[derive(Clone, Copy, Debug, PartialEq, Eq)]
@@ -12,6 +12,8 @@ pub enum Fault {
     ClockAndSample,
     SampleAndLine,
     CountersFirst,
+    PinsLeftOut,
+    PinsLast,
     LongerImageRead,
     ShorterImageRead,
     OtherLengthIsNo,
@@ -31,6 +33,8 @@ pub const FAULTS: &[Fault] = &[
     Fault::ClockAndSample,
     Fault::SampleAndLine,
     Fault::CountersFirst,
+    Fault::PinsLeftOut,
+    Fault::PinsLast,
     Fault::LongerImageRead,
     Fault::ShorterImageRead,
     Fault::OtherLengthIsNo,
@@ -44,7 +48,8 @@ pub const FAULTS: &[Fault] = &[
     Fault::OwnForMaker,
 ];
 
-const NUMBERS: usize = 2 * SLOTS + 3;
+/// Of an image: two for each slot, one for each pin, and three.
+const NUMBERS: usize = 2 * SLOTS + PINS + 3;
 
 /// A reading of the bytes, right or with one fault.
 pub struct Reading(pub Option<Fault>);
@@ -93,7 +98,15 @@ impl Reading {
                 snapshot_xmin,
             };
         }
-        let mut counters = [0, 1, 2].map(|place| numbers[2 * SLOTS + place]);
+        let (first_pin, first_counter) = match self.has(Fault::PinsLast) {
+            true => (2 * SLOTS + 3, 2 * SLOTS),
+            false => (2 * SLOTS, 2 * SLOTS + PINS),
+        };
+        let mut pins = [0; PINS];
+        if !self.has(Fault::PinsLeftOut) {
+            pins.copy_from_slice(&numbers[first_pin..first_pin + PINS]);
+        }
+        let mut counters = [0, 1, 2].map(|place| numbers[first_counter + place]);
         if self.has(Fault::ClockAndSample) {
             counters.swap(0, 1);
         }
@@ -101,7 +114,7 @@ impl Reading {
             counters.swap(1, 2);
         }
         let [clock, sample, line] = counters;
-        fits.then(|| Table::of(slots, clock, sample, line))
+        fits.then(|| Table::of(slots, pins, clock, sample, line))
     }
 
     /// The answer: 0 for no, 1 for yes, else a refusal's number.

@@ -58,6 +58,7 @@ pub fn numbers(table: &Table) -> Vec<u64> {
     let mut all: Vec<u64> = slots
         .flat_map(|slot| [slot.txid, slot.snapshot_xmin])
         .collect();
+    all.extend_from_slice(table.pins());
     all.extend([table.clock(), table.sampled_clock(), table.vacuum_line()]);
     all
 }
