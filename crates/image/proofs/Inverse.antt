@@ -161,10 +161,11 @@ pins-there :
     (s : List ℕ) (at : ℕ) (pins r : List ℕ) → drop at s ≡ wordsBytes pins ++ r → length pins ≡ pinCount → Words pins →
     (wordsFrom pinCount s at 8 ≡ pins) × (drop (at + 8 * pinCount) s ≡ r)
 pins-there s at pins r e size w =
-    let count : 8 * pinCount ≡ length (wordsBytes pins) = rw (sym size) (sym (words-length-bytes pins)) in
+    let count : length (wordsBytes pins) ≡ 8 * pinCount = words-length-bytes pins ∙ ap (λ (k : ℕ). 8 * k) size in
     let there = words-past (length pins) s at 0 8 ∙ ap (λ (l : List ℕ). wordsFrom (length pins) l 0 8) e ∙ words-read pins r w in
+    let past = drop-at (wordsBytes pins) r (8 * pinCount) count in
     let start : at + 0 ≡ at = omega arith in
-    (rw (size, start) at there, sym (drop-drop (8 * pinCount) at s) ∙ ap (drop (8 * pinCount)) e ∙ drop-at (wordsBytes pins) r (8 * pinCount) (sym count))
+    (rw (size, start) at there, sym (drop-drop (8 * pinCount) at s) ∙ ap (drop (8 * pinCount)) e ∙ past)
 
 -- what is read of the image of a table is that table
 pub table-of-image : (n : ℕ) (t : Table) → Expressible n t → tableOf n (imageOf t) ≡ t
@@ -191,8 +192,8 @@ image-of-table n s b h =
     let pins = words-written pinCount s (16 * n) b (omega arith) in
     let counters = counters-written s (16 * n + 8 * pinCount) b h in
     let rest : take (8 * pinCount) (drop (16 * n) s) ++ drop (16 * n + 8 * pinCount) s ≡ drop (16 * n) s =
-        ap (λ (l : List ℕ). take (8 * pinCount) (drop (16 * n) s) ++ l) (sym (drop-drop (8 * pinCount) (16 * n) s))
-        ∙ take-append-drop (8 * pinCount) (drop (16 * n) s) in
+    ap (λ (l : List ℕ). take (8 * pinCount) (drop (16 * n) s) ++ l) (sym (drop-drop (8 * pinCount) (16 * n) s))
+    ∙ take-append-drop (8 * pinCount) (drop (16 * n) s) in
     rw (slots-written n s b (omega arith), pins, counters, rest) (take-append-drop (16 * n) s)
 
 -- the same of a list of ids, whatever its length

@@ -14,6 +14,7 @@ ghost use Rattle.image.specs.Images.{imageSize, countersFrom, countersAt
 
 // Where the numbers past the slots stand, and how many bytes an image has.
 const FIRST_PIN: usize = 16 * SLOTS;
+
 const CLOCK: usize = FIRST_PIN + 8 * PINS;
 
 const SAMPLE: usize = CLOCK + 8;

@@ -42,21 +42,24 @@ returns-2 : tie.Need-returns-2
 returns-2 c =
     let asked = c .before .before in
     let whole = sym (asked .before .before .before .before .is-torn .ensures) ∙ asked .before .before .before .if1 .left in
-    let is = settled-is _ _ _ (asked .is-settled-among .result) _ whole (asked .before .before .read-ids .ensures) (asked .is-settled-among .ensures) in
+    let ids = asked .before .before .read-ids .ensures in
+    let is = settled-is _ _ _ (asked .is-settled-among .result) _ whole ids (asked .is-settled-among .ensures) in
     sym (is ∙ ap (λ (q : Settled). settledNumber (paperSettled q)) (c .enum-told .given .1))
 
 returns-3 : tie.Need-returns-3
 returns-3 c =
     let asked = c .before .before in
     let whole = sym (asked .before .before .before .before .is-torn .ensures) ∙ asked .before .before .before .if1 .left in
-    let is = settled-is _ _ _ (asked .is-settled-among .result) _ whole (asked .before .before .read-ids .ensures) (asked .is-settled-among .ensures) in
+    let ids = asked .before .before .read-ids .ensures in
+    let is = settled-is _ _ _ (asked .is-settled-among .result) _ whole ids (asked .is-settled-among .ensures) in
     sym (is ∙ ap (λ (q : Settled). settledNumber (paperSettled q)) (c .enum-told2 .given .1))
 
 returns-4 : tie.Need-returns-4
 returns-4 c =
     let asked = c .before .before .before .before in
     let whole = sym (asked .before .before .before .before .is-torn .ensures) ∙ asked .before .before .before .if1 .left in
-    let is = settled-is _ _ _ (asked .is-settled-among .result) _ whole (asked .before .before .read-ids .ensures) (asked .is-settled-among .ensures) in
+    let ids = asked .before .before .read-ids .ensures in
+    let is = settled-is _ _ _ (asked .is-settled-among .result) _ whole ids (asked .is-settled-among .ensures) in
     let said = ap (λ (q : Settled). settledNumber (paperSettled q)) (c .before .before .said .given .1) in
     sym (is ∙ said ∙ refused-number _ _ ∙ sym (c .number-of2 .ensures))
 

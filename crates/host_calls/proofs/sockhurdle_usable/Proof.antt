@@ -42,21 +42,24 @@ returns-2 : tie.Need-returns-2
 returns-2 c =
     let asked = c .before .before in
     let whole = sym (asked .before .before .before .before .is-torn .ensures) ∙ asked .before .before .before .if1 .left in
-    let is = usable-is _ _ _ (asked .is-usable-among .result) _ _ whole (asked .before .before .read-ids .ensures) (asked .is-usable-among .ensures) in
+    let ids = asked .before .before .read-ids .ensures in
+    let is = usable-is _ _ _ (asked .is-usable-among .result) _ _ whole ids (asked .is-usable-among .ensures) in
     sym (is ∙ ap (λ (q : Usable). usableNumber (paperUsable q)) (c .enum-told .given .1))
 
 returns-3 : tie.Need-returns-3
 returns-3 c =
     let asked = c .before .before in
     let whole = sym (asked .before .before .before .before .is-torn .ensures) ∙ asked .before .before .before .if1 .left in
-    let is = usable-is _ _ _ (asked .is-usable-among .result) _ _ whole (asked .before .before .read-ids .ensures) (asked .is-usable-among .ensures) in
+    let ids = asked .before .before .read-ids .ensures in
+    let is = usable-is _ _ _ (asked .is-usable-among .result) _ _ whole ids (asked .is-usable-among .ensures) in
     sym (is ∙ ap (λ (q : Usable). usableNumber (paperUsable q)) (c .enum-told2 .given .1))
 
 returns-4 : tie.Need-returns-4
 returns-4 c =
     let asked = c .before .before .before .before in
     let whole = sym (asked .before .before .before .before .is-torn .ensures) ∙ asked .before .before .before .if1 .left in
-    let is = usable-is _ _ _ (asked .is-usable-among .result) _ _ whole (asked .before .before .read-ids .ensures) (asked .is-usable-among .ensures) in
+    let ids = asked .before .before .read-ids .ensures in
+    let is = usable-is _ _ _ (asked .is-usable-among .result) _ _ whole ids (asked .is-usable-among .ensures) in
     let said = ap (λ (q : Usable). usableNumber (paperUsable q)) (c .before .before .said .given .1) in
     sym (is ∙ said ∙ refused-number _ _ ∙ sym (c .number-of2 .ensures))
 
