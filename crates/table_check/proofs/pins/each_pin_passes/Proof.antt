@@ -38,7 +38,7 @@ loop-again c =
     let read = c .before .before .before in
     let l = read .before .loop in
     let a = read .before .before .before .args in
-    let good = sym (c .before .pin-passes .ensures) ∙ c .if2 .taken in
+    let good = sym (c .before .pin-passes .ensures) ∙ c .if1 .taken in
     (omega arith, l .inv .1 ∙ pins-good (a .clock) (a .line) (a .pins .now) (l .i) (omega arith) good)
 
 returns : tie.Need-returns Inv-loop μ-loop
@@ -46,7 +46,7 @@ returns c =
     let read = c .before .before .before in
     let l = read .before .loop in
     let a = read .before .before .before .args in
-    let bad = sym (c .before .pin-passes .ensures) ∙ c .if2 .left in
+    let bad = sym (c .before .pin-passes .ensures) ∙ c .if1 .left in
     sym (l .inv .1 ∙ pins-bad (a .clock) (a .line) (a .pins .now) (l .i) (omega arith) bad)
 
 returns-2 : tie.Need-returns-2 Inv-loop μ-loop
