@@ -23,5 +23,6 @@ pub mod table;
 pub mod text;
 pub mod tiles;
 pub mod trace;
+pub mod tuned;
 pub mod waits;
 pub mod writer;
