@@ -13,6 +13,7 @@ pub mod history;
 pub mod linked;
 pub mod program;
 pub mod race;
+pub mod race_table;
 pub mod race_traces;
 pub mod random;
 pub mod replay;

@@ -32,7 +32,9 @@ pub fn line(text: &[u8], header: Header) -> usize {
     let breaks = |(key, largest, readers): (&[u8], u64, &[&[u8]])| {
         let value = next().and_then(|line| line.strip_prefix(key));
         let largest = if readers.contains(&op) { largest } else { 0 };
-        value.and_then(decimal).is_none_or(|number| number > largest)
+        value
+            .and_then(decimal)
+            .is_none_or(|number| number > largest)
     };
     let field = FIELDS.into_iter().position(breaks);
     1 + field.expect("what is no record has a line that breaks a rule")

@@ -42,16 +42,26 @@ impl<'a> Page<'a> {
 
     #[inline(always)]
     pub fn number(&mut self, number: u64) {
-        if number < 10 {
-            self.span(&[b'0' + number as u8]);
-        } else if number < 100 {
-            self.span(&PAIRS[number as usize]);
+        if number < 100 {
+            self.short_number(number);
+        } else if number < 10_000 {
+            self.short_number(number / 100);
+            self.span(&PAIRS[(number % 100) as usize]);
         } else {
             self.long_number(number);
         }
     }
 
-    /// A number from 100 on, by pairs of digits from its last.
+    #[inline(always)]
+    fn short_number(&mut self, number: u64) {
+        if number < 10 {
+            self.span(&[b'0' + number as u8]);
+        } else {
+            self.span(&PAIRS[number as usize]);
+        }
+    }
+
+    /// A number from 10,000 on, by pairs of digits from its last.
     fn long_number(&mut self, number: u64) {
         let end = self.length + digits(number);
         let bytes = &mut self.bytes[self.length..end];

@@ -90,15 +90,27 @@ impl Text<'_> {
     fn call(&mut self, header: Header) -> Option<Call> {
         // two letters tell the ops apart; the span that is read next has all of them
         match self.rest.get(3..5)? {
-            b"be" => self.reserved(b"op=begin\nslot=0\nid=0\nstamp=").map(Call::Begin),
+            b"be" => self
+                .reserved(b"op=begin\nslot=0\nid=0\nstamp=")
+                .map(Call::Begin),
             b"en" => self.end(),
-            b"sn" => self.observed(b"op=snap\nslot=0\nid=0\nstamp=0\nclock=").map(Call::Snap),
+            b"sn" => self
+                .observed(b"op=snap\nslot=0\nid=0\nstamp=0\nclock=")
+                .map(Call::Snap),
             b"ow" => self.own(),
-            b"ol" => self.observed(b"op=oldest\nslot=0\nid=0\nstamp=0\nclock=").map(Call::Oldest),
-            b"va" => self.observed(b"op=vacuum\nslot=0\nid=0\nstamp=0\nclock=").map(Call::Vacuum),
-            b"st" => self.reserved(b"op=stamp\nslot=0\nid=0\nstamp=").map(Call::Stamp),
+            b"ol" => self
+                .observed(b"op=oldest\nslot=0\nid=0\nstamp=0\nclock=")
+                .map(Call::Oldest),
+            b"va" => self
+                .observed(b"op=vacuum\nslot=0\nid=0\nstamp=0\nclock=")
+                .map(Call::Vacuum),
+            b"st" => self
+                .reserved(b"op=stamp\nslot=0\nid=0\nstamp=")
+                .map(Call::Stamp),
             b"fi" => self.finish(),
-            b"pi" if header.has_pins() => self.observed(b"op=pin\nslot=0\nid=0\nstamp=0\nclock=").map(Call::Pin),
+            b"pi" if header.has_pins() => self
+                .observed(b"op=pin\nslot=0\nid=0\nstamp=0\nclock=")
+                .map(Call::Pin),
             b"un" if header.has_pins() => self.unpin(),
             _ => None,
         }

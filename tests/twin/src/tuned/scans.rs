@@ -1,14 +1,11 @@
-//! The scans of SPEC 4.2 over the columns, several places a turn.
+//! The scans of SPEC 4.2 over the columns, a block of places at a time.
 
 use super::columns::Table;
 
-/// So many running results at once, so that a turn need not wait for the one before it.
-const LANES: usize = 4;
+/// How many places are looked at together.
+const BLOCK: usize = 8;
 
-/// The places that are looked at together for an equal one.
-const BLOCK: usize = 32;
-
-/// What a snapshot's head says of the active ids.
+/// What a snapshot says of the active ids before it lists them.
 pub struct Tally {
     pub xmin: u64,
     pub xmax: u64,
@@ -24,41 +21,33 @@ pub struct Oldest {
 const NOBODY: u64 = 65_535;
 const FIRST_PIN: u64 = 2_000;
 
-/// The lowest place of `wanted`.
+/// The lowest place of a number.
 pub fn place_of(column: &[u64], wanted: u64) -> Option<usize> {
-    let block = column.chunks(BLOCK).position(|block| block.contains(&wanted))?;
-    let start = block * BLOCK;
-    let place = column[start..].iter().position(|number| *number == wanted)?;
-    Some(start + place)
+    let held = |block: &[u64]| block.contains(&wanted);
+    let start = column.chunks(4 * BLOCK).position(held)? * 4 * BLOCK;
+    let place = column[start..].iter().position(|number| *number == wanted);
+    place.map(|place| start + place)
 }
 
-/// xmin, xmax and the number of active ids for a sample.
+/// xmin, xmax and the number of the active ids for a sample.
 pub fn tally(txids: &[u64], sample: u64) -> Tally {
-    let mut least = [u64::MAX; LANES];
-    let mut most = [0; LANES];
-    let mut empty = [0; LANES];
-    for block in txids.chunks(LANES) {
-        for (lane, txid) in block.iter().enumerate() {
-            // 0 comes out above every id
-            least[lane] = least[lane].min(txid.wrapping_sub(1));
-            most[lane] = most[lane].max(*txid);
-            empty[lane] += usize::from(*txid == 0);
-        }
-    }
-    let count = txids.len() - empty.iter().sum::<usize>();
-    let largest = most.into_iter().fold(0, u64::max);
-    let past = if count == 0 { 0 } else { largest.saturating_add(1) };
-    Tally {
-        xmin: smallest(least).min(sample),
-        xmax: past.max(sample),
-        count,
-    }
+    let mut tally = Tally {
+        xmin: sample,
+        xmax: sample,
+        count: 0,
+    };
+    each(txids, |txid| {
+        tally.xmin = tally.xmin.min(txid);
+        // no id is 2^64 - 1: a reservation refuses it
+        tally.xmax = tally.xmax.max(txid + 1);
+        tally.count += 1;
+    });
+    tally
 }
 
 /// The oldest xmin for a sample, and its holder.
 pub fn oldest(table: &Table, sample: u64) -> Oldest {
-    let pinned = least_kept(&table.pins);
-    let xmin = least_kept(&table.xmins).min(pinned).min(sample);
+    let xmin = least(&table.pins, least(&table.xmins, sample));
     let slot = place_of(&table.xmins, xmin).map(|slot| slot as u64);
     let pin = || place_of(&table.pins, xmin).map(|pin| FIRST_PIN + pin as u64);
     Oldest {
@@ -67,18 +56,35 @@ pub fn oldest(table: &Table, sample: u64) -> Oldest {
     }
 }
 
-/// The least number that is not 0; where there is none, 2^64 - 1.
-fn least_kept(column: &[u64]) -> u64 {
-    let mut least = [u64::MAX; LANES];
-    for block in column.chunks(LANES) {
-        for (lane, kept) in block.iter().enumerate() {
-            least[lane] = least[lane].min(kept.wrapping_sub(1));
+/// The least of `most`, which is not 0, and the numbers of a column that are not 0.
+fn least(column: &[u64], most: u64) -> u64 {
+    // each less 1, so that 0 is above all; in lanes, so that none waits for the one before it
+    let mut lanes = [most - 1; 4];
+    let (blocks, rest) = column.as_chunks::<BLOCK>();
+    for block in blocks {
+        if block.iter().fold(0, |all, number| all | number) != 0 {
+            for (place, number) in block.iter().enumerate() {
+                lanes[place % 4] = lanes[place % 4].min(number.wrapping_sub(1));
+            }
         }
     }
-    smallest(least)
+    let rest = rest.iter().map(|number| number.wrapping_sub(1));
+    1 + rest.chain(lanes).fold(most - 1, u64::min)
 }
 
-/// The least of numbers that were each taken less 1, so that 0 would be above all.
-fn smallest(lanes: [u64; LANES]) -> u64 {
-    lanes.into_iter().fold(u64::MAX, u64::min).saturating_add(1)
+/// Every number of a column that is not 0, in order. A block of zeros is seen at once.
+#[inline(always)]
+pub fn each(column: &[u64], mut see: impl FnMut(u64)) {
+    let (blocks, rest) = column.as_chunks::<BLOCK>();
+    for block in blocks {
+        if block.iter().fold(0, |all, number| all | number) != 0 {
+            block
+                .iter()
+                .filter(|number| **number != 0)
+                .for_each(|number| see(*number));
+        }
+    }
+    rest.iter()
+        .filter(|number| **number != 0)
+        .for_each(|number| see(*number));
 }
