@@ -6,7 +6,6 @@ use mathlib.Core.List.{List, [], _∷_, _++_}
 use mathlib.Core.Option.{some}
 use native.Mathlib.Omega.{arith}
 use Rattle.kinds.specs.Kinds.{top, number, slot, txid}
-use Rattle.kinds.specs.declared.Stamp.{Stamp}
 use Rattle.kinds.specs.declared.told.Told.{Told}
 use Rattle.kinds.specs.declared.refusal.Refusal.the-variants.{NoFreeSlot, SlotOwnershipMismatch, BadReservation}
 use Rattle.kinds.specs.declared.refusal.Verdict.the-variants.{Refuse}
@@ -25,7 +24,6 @@ use Rattle.model.specs.History.{run, reached, Accepts, Never, lastFrom, 
 use Rattle.model.specs.Observing.{observing}
 use Rattle.model.specs.Reservations.{reservationsFrom, reservations}
 use Rattle.model.specs.Counts.{acceptedFrom, begins, endsAndFinishes, takenSlots}
-use Rattle.model.specs.Rows.{seenFrom, seenIn, said, RowsHold, rows, orders, AllRowsHold}
 use Rattle.model.specs.Promise.{SettledBelow, lineAfter, Covered, of-transaction, Gives}
 use Rattle.model.proofs.Never.{never-nil, never-cons}
 use Rattle.model.proofs.Promise.{covered-settled, own-covered}
@@ -191,21 +189,6 @@ pub observation-jumps :
     Accepts 2 (reached 2 []) (snap top 1) × (clockOf (reached 2 (snap top 1 ∷ [])) ≡ 18446744073709551615)
 unfolding freshTable run refusal changeAccepted changeOf after
 observation-jumps = (refl, refl)
-
--- The twelve rows, and the orders, at four slots, so that a wrong row is refused here
-
-edges-at-four : (any : Stamp) → RowsHold 4 (rows 4 any)
-unfolding consumed active retained holderFrom lowestEmpty minimum maximum snapshotOf freshTable refusal changeAccepted changeOf spent after
-    answerAccepted answer shownAccepted shown seenFrom seenIn said rows
-edges-at-four any = refl
-
-orders-at-four : RowsHold 4 (orders 4)
-unfolding consumed active retained holderFrom lowestEmpty minimum maximum snapshotOf freshTable refusal changeAccepted changeOf spent after
-    answerAccepted answer shownAccepted shown seenFrom seenIn said orders
-orders-at-four = refl
-
-pub rows-at-four : AllRowsHold 4
-rows-at-four = record { edges = edges-at-four; in-order = orders-at-four }
 
 -- What each case of an answer tells, in numbers; a snapshot's xmin and xmax stand in their places
 

@@ -13,7 +13,7 @@ use lib.Seq.{take-append-seam}
 use borrow.Author.Tests.{eqb-true, eqb-false, eq-eqb, ne-eqb}
 use Rattle.settled.specs.Settled.{listed}
 use Rattle.settled.proofs.Listed.{listed-none, listed-head, listed-tail, listed-cases}
-use Rattle.model.specs.Tally.{consUnless, active, retained, lowestEmpty, minimum, maximum, places}
+use Rattle.model.specs.Tally.{consUnless, active, retained, holderFrom, lowestEmpty, minimum, maximum, places}
 
 -- the smallest is at most the number and each member, and at least what they all are
 pub minimum-start : (a : ℕ) (xs : List ℕ) → minimum a xs ≤ a
@@ -165,10 +165,24 @@ active-length (x ∷ xs) = go (eqb x 0) (active-length xs)
     go true ih = omega arith
     go false ih = omega arith
 
+-- where all slots are empty: nobody is active, nobody retains, and nobody holds
 pub active-zeros : (n : ℕ) → active (replicate n 0) ≡ []
 unfolding active
 active-zeros zero = refl
 active-zeros (suc n) = active-zeros n
+
+pub retained-zeros : (n : ℕ) (xmins : List ℕ) → retained (replicate n 0) xmins ≡ []
+unfolding retained
+retained-zeros zero xmins = refl
+retained-zeros (suc n) [] = refl
+retained-zeros (suc n) (xmin ∷ xmins) = retained-zeros n xmins
+
+pub holder-zeros :
+    (n slot : ℕ) (xmins : List ℕ) (x otherwise : ℕ) → holderFrom slot (replicate n 0) xmins x otherwise ≡ otherwise
+unfolding holderFrom
+holder-zeros zero slot xmins x otherwise = refl
+holder-zeros (suc n) slot [] x otherwise = refl
+holder-zeros (suc n) slot (xmin ∷ xmins) x otherwise = holder-zeros n (slot + 1) xmins x otherwise
 
 -- the used places of n places are the ids
 pub used-places : (n : ℕ) (ids : List ℕ) → take (length ids) (places n ids) ≡ ids

@@ -51,7 +51,7 @@ abbrev pub RowsHold : ℕ → List Row → Type 0
 RowsHold n rs = seenIn n rs ≡ said rs
 
 -- ids from k on, one a slot
-abbrev from : ℕ → ℕ → List ℕ
+abbrev pub from : ℕ → ℕ → List ℕ
 from zero k = []
 from (suc n) k = k ∷ from n (k + 1)
 
@@ -109,8 +109,12 @@ rows n any =
     ∷ one (empty n top) (begin any) (seen n (Refused ClockExhausted) top 1)
     -- P8 clock 1, begin 2^64 − 1: 6
     ∷ one (freshTable n) (begin (number 18446744073709551615)) (seen n (Refused BadReservation) 1 1)
-    -- P9 end, the first slot number that no slot has, id 0: 2
-    ∷ one (freshTable n) (end (slot n) (txid 0)) (seen n (Refused (InvalidSlot (slot n))) 1 1)
+    -- P9 end, the first slot number that no slot has, id 0: 2; the last slot passes that check, so 4
+    ∷ record {
+      start = freshTable n;
+      calls = end (slot n) (txid 0) ∷ end (slot (n - 1)) (txid 0) ∷ [];
+      sees = seen n (Refused (InvalidSlot (slot n))) 1 1 ∷ seen n (Refused ZeroTxid) 1 1 ∷ [];
+    }
     -- P10 end, empty slot 0, id 0: 4
     ∷ one (freshTable n) (end (slot 0) (txid 0)) (seen n (Refused ZeroTxid) 1 1)
     -- P11 end twice: the second is 3, observed 0

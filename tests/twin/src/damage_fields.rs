@@ -114,8 +114,9 @@ pub fn spoil_number(text: &mut Vec<u8>, random: &mut Random) {
 /// Makes a number's text something else.
 pub fn spoiler(random: &mut Random) -> impl FnOnce(&[u8]) -> Vec<u8> + use<> {
     let befores: [&[u8]; 8] = [b"+", b"-", b"0", b"00", b" ", b"\t", b"0x", b"="];
-    let afters: [&[u8]; 12] = [
-        b" ", b"\t", b"\r", b".0", b"e1", b"_0", b"\0", b"\xb2", b",000", b"x", b"=", b";",
+    // One named twice comes twice as often.
+    let afters: [&[u8]; 13] = [
+        b" ", b"\t", b"\r", b".0", b"e1", b"_0", b"\0", b"\0", b"\xb2", b",000", b"x", b"=", b";",
     ];
     let before = random.pick(&befores);
     let after = random.pick(&afters);

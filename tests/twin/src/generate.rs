@@ -60,9 +60,15 @@ const PROFILES: &[Profile] = &[
     profile(Start::Some, Stride::Last, &Op::ALL, 12, 60),
     profile(Start::Some, Stride::Short, &Op::ALL, 2, 60),
     profile(Start::Some, Stride::Short, OBSERVING, 30, 120),
+];
+
+/// These take a begin for each slot, most of the length that a text may have, so that they come once in `FULL_ONCE_IN`.
+const FULL: &[Profile] = &[
     profile(Start::Full(2), Stride::Short, REGISTERING, 12, 60),
     profile(Start::FullAndUsedUp(3), Stride::Last, REGISTERING, 3, 30),
 ];
+
+const FULL_ONCE_IN: u64 = 10;
 
 const fn profile(
     start: Start,
@@ -87,7 +93,7 @@ pub fn generate(seed: u64) -> Vec<u8> {
     let version = random.pick(&Version::ALL);
     match random.below(20) {
         0..=9 => {
-            let profile = &PROFILES[random.place(PROFILES.len())];
+            let profile = any_profile(&mut random);
             history(version, profile, random, jumps).text()
         }
         10..=15 => {
@@ -104,11 +110,20 @@ pub fn generate(seed: u64) -> Vec<u8> {
 
 /// A table that calls have led to, of some profile; the version of their trace says nothing about it.
 pub fn table(random: &mut Random) -> Table {
-    let profile = &PROFILES[random.place(PROFILES.len())];
+    let profile = any_profile(random);
     let jumps = random.place(2) == 1;
     let own = Random::new(random.draw());
     let history = history(Version::Proc1, profile, own, jumps);
     history.table().clone()
+}
+
+fn any_profile(random: &mut Random) -> &'static Profile {
+    let profiles = if random.once_in(FULL_ONCE_IN) {
+        FULL
+    } else {
+        PROFILES
+    };
+    &profiles[random.place(profiles.len())]
 }
 
 fn history(version: Version, profile: &Profile, random: Random, jumps: bool) -> History {

@@ -4,24 +4,27 @@ use twin::compare::expected;
 use twin::generate::generate;
 use twin::second::{Fault, output};
 
-fn differs(fault: Fault, seed: u64) -> bool {
-    let text = generate(seed);
-    output(&text, fault).as_bytes() != expected(&text)
+/// The traces of 2,000 seeds, each with what has to be printed.
+fn traces() -> Vec<(Vec<u8>, Vec<u8>)> {
+    let texts = (1..=2_000).map(generate);
+    texts.map(|text| (text.clone(), expected(&text))).collect()
 }
 
 #[test]
 fn both_readings_agree() {
-    for seed in 1..=2_000 {
-        assert!(!differs(Fault::None, seed), "seed {seed}");
+    for (seed, (text, expected)) in (1..).zip(traces()) {
+        let output = output(&text, Fault::None);
+        assert!(output.as_bytes() == expected, "seed {seed}");
     }
 }
 
 #[test]
 fn every_fault_shows() {
-    let faults = Fault::all();
+    let (faults, traces) = (Fault::all(), traces());
     assert!(faults.len() > 100);
     for fault in faults {
-        let shown = (1..=2_000).any(|seed| differs(fault, seed));
+        let mut traces = traces.iter();
+        let shown = traces.any(|(text, expected)| output(text, fault).as_bytes() != expected);
         assert!(shown, "{} shows on no seed", fault.name());
     }
 }

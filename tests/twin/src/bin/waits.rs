@@ -82,23 +82,33 @@ fn reach(waits: &[Wait], counts: &mut Counts) {
     counts.count(missing, "what the seeds reach");
 }
 
-/// The comparison has to see every fault of a wrong checker, and none where there is none.
+/// The comparison has to see every fault of a wrong checker, and none where there is none. A fault in the report is put
+/// to it on the first wait whose report is another.
 fn faults(waits: &[Wait], counts: &mut Counts) {
     let found = |checker: &dyn Fn(&Wait, &mut [u8]) -> usize| {
         let mut waits = waits.iter();
         waits.any(|wait| compare::difference(wait, &checker).is_some())
     };
+    let expected: Vec<Vec<u8>> = waits.iter().map(check::report).collect();
     for fault in WaitFault::all() {
         let wrong = |wait: &Wait, out: &mut [u8]| compare::put(&report(wait, fault), out);
-        let unseen = (!found(&wrong)).then(|| "it shows on no wait".into());
+        let mut both = waits.iter().zip(&expected);
+        let shows = both.find(|(wait, expected)| report(wait, fault) != **expected);
+        let seen = shows.is_some_and(|(wait, _)| compare::difference(wait, &wrong).is_some());
+        let unseen = (!seen).then(|| "it shows on no wait".into());
         counts.count(unseen, &format!("the fault {}", fault.name()));
     }
     for (name, wrong) in compare::ROOM_FAULTS {
         let unseen = (!found(&wrong)).then(|| "it shows on no wait".into());
         counts.count(unseen, &format!("the fault {name}"));
     }
-    let right = |wait: &Wait, out: &mut [u8]| compare::put(&report(wait, WaitFault::None), out);
-    let seen = found(&right).then(|| "it differs from the first".into());
+    let differs = |wait: &Wait| {
+        let right = report(wait, WaitFault::None);
+        let checker = |_: &Wait, out: &mut [u8]| compare::put(&right, out);
+        compare::difference(wait, &checker).is_some()
+    };
+    let seen = waits.iter().any(differs);
+    let seen = seen.then(|| "it differs from the first".into());
     counts.count(seen, "the second reading without a fault");
 }
 

@@ -61,7 +61,8 @@ fn vacated(random: &mut Random) -> Table {
 
 /// A table that passes and that calls need not lead to: any slots, ids in any order, xmins of no snapshot.
 fn written(random: &mut Random) -> Table {
-    let line = random.pick(&[1, 1, 7, 100, 1 << 32, u64::MAX - 1_000]);
+    // From the last of these on there is room for the ids of a full table.
+    let line = random.pick(&[1, 1, 7, 100, 1 << 32, u64::MAX - 4 * SLOTS as u64]);
     let count = match random.below(6) {
         0 => SLOTS,
         1 => 1,

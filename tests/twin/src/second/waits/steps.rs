@@ -132,12 +132,11 @@ impl Steps {
     }
 
     fn no_place(&self, slot: u128) -> bool {
-        let lowest = (0..SLOTS).find(|slot| !self.taken.contains_key(slot));
-        let taken = self.taken.contains_key(&slot);
+        let free = |slot: &u128| !self.taken.contains_key(slot);
         match self.fault {
-            _ if self.fault.is("lowest-slot") => lowest != Some(slot),
+            _ if self.fault.is("lowest-slot") => (0..SLOTS).find(free) != Some(slot),
             _ if self.fault.is("register-into-taken") => false,
-            _ => taken,
+            _ => !free(&slot),
         }
     }
 
