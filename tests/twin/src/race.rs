@@ -55,6 +55,7 @@ pub fn whole_process(program: &str, input: &Path, out: &mut Vec<u8>) -> io::Resu
     let mut child = Command::new(program)
         .stdin(Stdio::from(input))
         .stdout(Stdio::piped())
+        .stderr(Stdio::null())
         .spawn()?;
     let mut stdout = child.stdout.take().expect("stdout is piped");
     stdout.read_to_end(out)?;
