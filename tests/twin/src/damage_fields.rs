@@ -8,7 +8,8 @@ use crate::trace::{Op, Version};
 
 pub fn other_header(text: &mut Vec<u8>, random: &mut Random) {
     // One named twice comes twice as often.
-    let headers: [&[u8]; 16] = [
+    let headers: [&[u8]; 17] = [
+        b"trace=proc-4\n",
         b"trace=proc-4\n",
         b"trace=proc-4\n",
         b"trace=proc-0\n",
@@ -129,8 +130,8 @@ pub fn spoil_number(text: &mut Vec<u8>, random: &mut Random) {
 
 /// Makes a number's text something else.
 pub fn spoiler(random: &mut Random) -> impl FnOnce(&[u8]) -> Vec<u8> + use<> {
-    let befores: [&[u8]; 8] = [b"+", b"-", b"0", b"00", b" ", b"\t", b"0x", b"="];
     // One named twice comes twice as often.
+    let befores: [&[u8]; 9] = [b"+", b"+", b"-", b"0", b"00", b" ", b"\t", b"0x", b"="];
     let afters: [&[u8]; 13] = [
         b" ", b"\t", b"\r", b".0", b"e1", b"_0", b"\0", b"\0", b"\xb2", b",000", b"x", b"=", b";",
     ];
