@@ -2,7 +2,7 @@
 
 use crate::history::{History, Stride, plain};
 use crate::random::Random;
-use crate::table::SLOTS;
+use crate::table::{PINS, SLOTS};
 use crate::text;
 use crate::trace::Version;
 use crate::trace::{Op, Record};
@@ -41,11 +41,18 @@ const KINDS: &[Kind] = &[
     ("unreadable at end", unreadable),
 ];
 
+/// Those that only the header with pins has.
+const PINNED: &[Kind] = &[
+    ("pins", |version| until_full(version, 16, pinned)),
+    ("oldest, vacuum, all pins taken", all_pinned),
+];
+
 pub fn all() -> Vec<RaceTrace> {
     let mut all = Vec::new();
     for version in Version::ALL {
         all.extend(KINDS.iter().map(|kind| under(version, *kind)));
     }
+    all.extend(PINNED.iter().map(|kind| under(Version::Proc3, *kind)));
     all
 }
 
@@ -95,7 +102,7 @@ fn begin_and_end(history: &mut History, place: usize) -> Record {
 }
 
 fn any_op(history: &mut History, _: usize) -> Record {
-    let op = history.random.pick(&Op::ALL);
+    let op = history.op(&Op::ALL);
     let faults = history.faults(20);
     history.record(op, faults)
 }
@@ -130,6 +137,25 @@ fn every_second(version: Version) -> Vec<u8> {
 fn oldest_and_vacuum(history: &mut History, place: usize) -> Record {
     let op = [Op::Oldest, Op::Vacuum][place % 2];
     accepted(history, op)
+}
+
+/// Pins are taken until none is free, and then released and taken in turn; after each eight comes a vacuum.
+fn pinned(history: &mut History, place: usize) -> Record {
+    let (round, turn) = (place / 9, place % 9);
+    let op = match turn {
+        8 => Op::Vacuum,
+        _ if round < PINS / 8 => Op::Pin,
+        _ => [Op::Unpin, Op::Pin][turn % 2],
+    };
+    accepted(history, op)
+}
+
+fn all_pinned(version: Version) -> Vec<u8> {
+    let mut history = History::new(version, Random::new(1), Stride::Short, false);
+    history.fill(SLOTS / 2);
+    history.fill_pins(PINS);
+    extend(&mut history, oldest_and_vacuum);
+    history.text()
 }
 
 /// All is read before the last line turns out to be broken.

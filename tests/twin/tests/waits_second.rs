@@ -8,9 +8,9 @@ use twin::waits::events::Event;
 use twin::waits::generate::generate;
 use twin::waits::read::{text_of_events, text_of_table};
 
-/// A thousand waits, each with what has to be answered; tests/waits has more.
+/// Two thousand waits, each with what has to be answered; tests/waits has more.
 fn waits() -> Vec<(Wait, Vec<u8>)> {
-    let waits = (1..=1_000).map(generate);
+    let waits = (1..=2_000).map(generate);
     waits
         .map(|wait| (wait.clone(), check::report(&wait)))
         .collect()
