@@ -1,6 +1,6 @@
 //! Which line of a record breaks a rule, SPEC 9.3: asked once, of a record that could not be read.
 
-use super::read::Header;
+use super::calls::Header;
 
 /// The keys of a record's lines after the op's, each with its largest number and the ops that read it.
 const FIELDS: [(&[u8], u64, &[&[u8]]); 5] = [

@@ -1,6 +1,6 @@
 //! The table as columns, SPEC 2, and the tests of SPEC 4.
 
-use super::read::{Observed, Registration};
+use super::calls::{Observed, Registration};
 use crate::table::SLOTS;
 
 /// Number of pins.

@@ -8,11 +8,13 @@
 
 mod answers;
 mod broken;
+mod calls;
 mod columns;
 mod page;
 mod read;
 mod run;
 mod scans;
+mod text;
 
 use columns::Table;
 use page::Page;

@@ -1,54 +1,12 @@
 //! Reading a trace, SPEC 9: a good record is a few numbers between spans of bytes that its op fixes.
 
+use super::calls::{Call, Header, Observed, Registration};
+use super::text::Text;
 use super::{LIMIT, broken};
 
 /// The header's length with its newline; the shortest record's.
 const HEADER: usize = 13;
 const SHORTEST: usize = 44;
-
-#[derive(Clone, Copy, PartialEq, Eq)]
-pub enum Header {
-    Proc1,
-    Proc2,
-    Proc3,
-}
-
-impl Header {
-    pub fn prints_holder(self) -> bool {
-        self != Header::Proc1
-    }
-
-    pub fn has_pins(self) -> bool {
-        self == Header::Proc3
-    }
-}
-
-/// A record: its op, and the fields that the op reads.
-#[derive(Clone, Copy)]
-pub enum Call {
-    Begin(u64),
-    End(Registration),
-    Snap(Observed),
-    Own(Registration, Observed),
-    Oldest(Observed),
-    Vacuum(Observed),
-    Stamp(u64),
-    Finish(Registration, u64),
-    Pin(Observed),
-    Unpin(u16),
-}
-
-#[derive(Clone, Copy)]
-pub struct Registration {
-    pub slot: u16,
-    pub id: u64,
-}
-
-#[derive(Clone, Copy)]
-pub struct Observed {
-    pub clock: u64,
-    pub sample: u64,
-}
 
 pub struct Trace {
     pub header: Header,
@@ -78,11 +36,6 @@ pub fn trace(input: &[u8]) -> Result<Trace, usize> {
         }
     }
     Ok(Trace { header, calls })
-}
-
-/// What is left to be read. Nothing of it matters once a read has answered `None`.
-struct Text<'a> {
-    rest: &'a [u8],
 }
 
 impl Text<'_> {
@@ -173,42 +126,5 @@ impl Text<'_> {
     fn slot(&mut self, opening: &[u8]) -> Option<u16> {
         self.span(opening)?;
         u16::try_from(self.number()?).ok()
-    }
-
-    #[inline(always)]
-    fn span(&mut self, span: &[u8]) -> Option<()> {
-        self.rest = self.rest.strip_prefix(span)?;
-        Some(())
-    }
-
-    /// Digits up to what is none. The span after a number begins with a newline, so it sees what else stands there.
-    #[inline(always)]
-    fn number(&mut self) -> Option<u64> {
-        let mut number = self.digit()?;
-        if number == 0 {
-            return Some(0);
-        }
-        // 19 digits fit into 64 bits whatever they are
-        for _ in 1..19 {
-            match self.digit() {
-                Some(digit) => number = number * 10 + digit,
-                None => return Some(number),
-            }
-        }
-        match self.digit() {
-            Some(digit) => number.checked_mul(10)?.checked_add(digit),
-            None => Some(number),
-        }
-    }
-
-    #[inline(always)]
-    fn digit(&mut self) -> Option<u64> {
-        let (&first, rest) = self.rest.split_first()?;
-        let digit = first.wrapping_sub(b'0');
-        if digit > 9 {
-            return None;
-        }
-        self.rest = rest;
-        Some(digit.into())
     }
 }

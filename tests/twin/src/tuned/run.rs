@@ -1,9 +1,9 @@
 //! A record run on the table, SPEC 5, and its answer written.
 
 use super::answers;
+use super::calls::{Call, Observed, Registration};
 use super::columns::{Refused, Table};
 use super::page::Page;
-use super::read::{Call, Observed, Registration};
 use super::scans;
 
 /// What an accepted record still has to write once its lines up to `xmax` stand there.
