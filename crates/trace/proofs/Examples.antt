@@ -11,7 +11,7 @@ use Rattle.grammar.specs.Named.{itemAt}
 use Rattle.grammar.specs.Texts.{readText, countText}
 use Rattle.trace.specs.Version.{headerOf, allowed}
 use Rattle.trace.specs.Trace.{reading}
-use Rattle.trace.specs.declared.Version.the-variants.{Proc1, Proc2}
+use Rattle.trace.specs.declared.Version.the-variants.{Proc1, Proc2, Proc3}
 use Rattle.trace.specs.declared.Reading.the-variants.{Whole, Broken}
 
 record Read : Type 0 where
@@ -24,10 +24,24 @@ record Read : Type 0 where
       ≡ Whole Proc1 2
   -- a header with no record
   header-only : reading (headerOf Proc1) ≡ Whole Proc1 0
-  -- the other header, which allows the same ops
+  -- the second header, which allows the same ops
   header-second : reading (bytes "trace=proc-2\nop=begin\nslot=0\nid=0\nstamp=5\nclock=0\nsample=0\n") ≡ Whole Proc2 1
+  -- the third, which alone allows the ops on pins
+  header-third :
+      reading
+      (bytes "trace=proc-3\n"
+      ++ bytes "op=pin\nslot=0\nid=0\nstamp=0\nclock=9\nsample=3\n"
+      ++ bytes "op=unpin\nslot=63\nid=0\nstamp=0\nclock=0\nsample=0\n"
+      ++ bytes "op=begin\nslot=0\nid=0\nstamp=5\nclock=0\nsample=0\n")
+      ≡ Whole Proc3 3
+  -- under the others they break their own line, whatever follows
+  pin-early : reading (headerOf Proc1 ++ bytes "op=pin\nslot=9\n") ≡ Broken 2
+  unpin-early : reading (headerOf Proc2 ++ bytes "op=unpin\nslot=9\n") ≡ Broken 2
+  -- a pin names no slot: line 3; an unpin no clock: line 6
+  pin-slot : reading (headerOf Proc3 ++ bytes "op=pin\nslot=1\n") ≡ Broken 3
+  unpin-clock : reading (headerOf Proc3 ++ bytes "op=unpin\nslot=1\nid=0\nstamp=0\nclock=1\n") ≡ Broken 6
   -- a header that isn't known
-  header-other : reading (bytes "trace=proc-3\n") ≡ Broken 1
+  header-other : reading (bytes "trace=proc-4\n") ≡ Broken 1
   -- a header without its newline
   header-open : reading (bytes "trace=proc-1") ≡ Broken 1
   -- nothing at all
@@ -51,6 +65,11 @@ read = record {
   whole-case = refl;
   header-only = refl;
   header-second = refl;
+  header-third = refl;
+  pin-early = refl;
+  unpin-early = refl;
+  pin-slot = refl;
+  unpin-clock = refl;
   header-other = refl;
   header-open = refl;
   empty = refl;

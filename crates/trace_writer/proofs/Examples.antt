@@ -12,7 +12,7 @@ use Rattle.grammar.specs.Items.{linesOf}
 use Rattle.grammar.specs.Named.{sixLines}
 use Rattle.grammar.specs.Texts.{firstLine, textLines, wholeText}
 use Rattle.trace.specs.Version.{allowed}
-use Rattle.trace.specs.declared.Version.the-variants.{Proc1, Proc2}
+use Rattle.trace.specs.declared.Version.the-variants.{Proc1, Proc2, Proc3}
 use Rattle.record_rows.specs.Numbers.{tryNumber, opNumbered}
 use Rattle.record_rows.specs.Rows.{mayBe, allowedBy, ofOp, recordRow}
 use Rattle.trace_writer.specs.Writing.{rowUnder, recordsOf, wroteOf, leftOf}
@@ -30,9 +30,13 @@ record Answers : Type 0 where
   begins : leftOf Proc1 ((1 ∷ 0 ∷ 0 ∷ 5 ∷ 0 ∷ 0 ∷ []) ∷ [])
       (bytes "..........................................................." ++ bytes "!")
       ≡ bytes "trace=proc-1\nop=begin\nslot=0\nid=0\nstamp=5\nclock=0\nsample=0\n" ++ bytes "!"
+  -- a pin is a bad row under proc-2, and has its text under proc-3
+  pin-early : wroteOf Proc2 ((9 ∷ 0 ∷ 0 ∷ 0 ∷ 9 ∷ 3 ∷ []) ∷ []) 99 ≡ Refused refusal.BadRecord
+  pins : leftOf Proc3 ((9 ∷ 0 ∷ 0 ∷ 0 ∷ 9 ∷ 3 ∷ []) ∷ []) (bytes ".........................................................")
+      ≡ bytes "trace=proc-3\nop=pin\nslot=0\nid=0\nstamp=0\nclock=9\nsample=3\n"
 
 answers : Answers
 unfolding wroteOf leftOf recordsOf rowUnder recordRow opNumbered tryNumber ofOp allowedBy mayBe allowed
     wholeText textLines firstLine nameLine linesOf sixLines fiveLines fieldRules lineTexts joined lineText numberText decimal
     decimalIn spliced
-answers = record { header-alone = refl; one-short = refl; other-header = refl; zeros = refl; begins = refl }
+answers = record { header-alone = refl; one-short = refl; other-header = refl; zeros = refl; begins = refl; pin-early = refl; pins = refl }

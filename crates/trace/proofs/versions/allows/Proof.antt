@@ -1,4 +1,5 @@
 -- `allows` meets its contract: each header's list is the definition's.
+use mathlib.Core.Path.{_∙_}
 use Rattle.trace.specs.Version.{allowed}
 use borrow.Author.Needs.{needs}
 use Rattle.trace.proofs.versions.allows.Statement.{statement}
@@ -7,16 +8,39 @@ use Rattle.trace.proofs.versions.allows.Tie as tie
 enum-told : tie.Need-enum-told
 enum-told c = search needs
 
+before-pins-requires : tie.Need-before-pins-requires
+before-pins-requires c κs = search needs
+
 enum-told-2 : tie.Need-enum-told-2
 enum-told-2 c = search needs
 
+before-pins-requires-2 : tie.Need-before-pins-requires-2
+before-pins-requires-2 c κs = search needs
+
+enum-told-3 : tie.Need-enum-told-3
+enum-told-3 c = search needs
+
 returns : tie.Need-returns
 unfolding allowed
-returns c = rw (c .enum-told .given .1)
+returns c = rw (c .before .enum-told .given .1) (c .before-pins .ensures)
 
 returns-2 : tie.Need-returns-2
 unfolding allowed
-returns-2 c = rw (c .enum-told2 .given .1)
+returns-2 c = rw (c .before .enum-told2 .given .1) (c .before-pins2 .ensures)
+
+returns-3 : tie.Need-returns-3
+unfolding allowed
+returns-3 c = rw (c .enum-told3 .given .1)
 
 pub allows-spec : {M : Type 1} → statement M
-allows-spec = tie.close (tie.spec enum-told enum-told-2 returns returns-2)
+allows-spec =
+    tie.close
+    (tie.spec
+    enum-told
+    before-pins-requires
+    enum-told-2
+    before-pins-requires-2
+    enum-told-3
+    returns
+    returns-2
+    returns-3)
