@@ -101,7 +101,13 @@ fn a_table_is_read_back() {
     assert!(text.starts_with("table=proc-1\ntxid=5\nxmin=5\ntxid=9\nxmin=9\ntxid=0\n"));
     assert!(text.ends_with("txid=0\nxmin=0\nclock=20\nsample=4\nline=4\n"));
     assert_eq!(text.matches('\n').count(), 2 * SLOTS + 4);
-    assert_eq!(table(text.as_bytes()), Ok(reached));
+    assert_eq!(table(text.as_bytes()), Ok(reached.clone()));
+    // No pin is told of: the text is the same, and is read as a table whose pins are free.
+    let mut pinned = reached.clone();
+    pinned.put_pin(0, 5);
+    pinned.put_pin(63, 20);
+    assert_eq!(text_of_table(&pinned), text);
+    assert_ne!(pinned, reached);
 }
 
 #[test]

@@ -26,11 +26,13 @@ const ANY_TEXT: [Damage; 14] = [
 ];
 
 /// Damage to what a wait says; one named twice comes twice as often.
-const WAIT: [Damage; 16] = [
+const WAIT: [Damage; 18] = [
     lines::truncate_at_line,
     lines::truncate_at_line,
     lines::truncate_before_newline,
     lines::truncate_before_newline,
+    wait_header,
+    wait_header,
     wait_header,
     wait_key,
     unknown_kind,

@@ -1,7 +1,7 @@
 //! The texts of a wait and of a table: read, or the first line that breaks a rule; and written.
 
 use super::events::{Event, Kind};
-use crate::table::{SLOTS, Slot, Table};
+use crate::table::{PINS, SLOTS, Slot, Table};
 use crate::trace::{BadTrace, LIMIT, Lines};
 use std::fmt::Write;
 
@@ -44,7 +44,8 @@ fn event(lines: &mut Lines) -> Result<Event, BadTrace> {
     })
 }
 
-/// The table that a text tells: every slot in order, then clock, sample and line, and nothing more.
+/// The table that a text tells: every slot in order, then clock, sample and line, and nothing more. It tells of no pin:
+/// all of them are free.
 pub fn table(text: &[u8]) -> Result<Table, BadTrace> {
     let mut lines = Lines::of(text);
     header(&mut lines, b"table=proc-1")?;
@@ -56,7 +57,7 @@ pub fn table(text: &[u8]) -> Result<Table, BadTrace> {
     }
     let (clock, sample, line) = (number(b"clock=")?, number(b"sample=")?, number(b"line=")?);
     if lines.is_empty() {
-        return Ok(Table::of(slots, clock, sample, line));
+        return Ok(Table::of(slots, [0; PINS], clock, sample, line));
     }
     let after = lines.broken().line + 1;
     Err(BadTrace { line: after })
@@ -80,6 +81,7 @@ pub fn text_of_events(events: &[Event]) -> Vec<u8> {
     text.into_bytes()
 }
 
+/// The same whatever the pins are.
 pub fn text_of_table(table: &Table) -> String {
     let mut text = String::from(TABLE_HEADER);
     for slot in table.slots() {

@@ -1,8 +1,9 @@
-//! Entry tables: reached by calls, written so that they pass the check, and damaged in one of its conditions.
+//! Entry tables: reached by calls, written so that they pass the check, and damaged in one of its conditions. The text of
+//! a table tells of no pin, so that none is taken here.
 
 use crate::generate;
 use crate::random::Random;
-use crate::table::{SLOTS, Slot, Table};
+use crate::table::{PINS, SLOTS, Slot, Table};
 
 /// A table that passes the check.
 pub fn good(random: &mut Random) -> Table {
@@ -35,7 +36,7 @@ impl Draft {
     }
 
     fn table(&self) -> Table {
-        Table::of(self.slots, self.clock, self.sample, self.line)
+        Table::of(self.slots, [0; PINS], self.clock, self.sample, self.line)
     }
 
     /// Places of the slots that are taken, or of those that are not.

@@ -6,7 +6,7 @@ use crate::table::SLOTS;
 
 /// The wait's, with the events in their order.
 const WAIT: Grammar = Grammar {
-    headers: &["wait=proc-1"],
+    headers: &[("wait=proc-1", 5)],
     keys: ["event=", "slot=", "id=", "xmin=", "clock=", "sample="],
     items: &[
         ("register", [true, true, false, false, false]),
@@ -20,7 +20,7 @@ const WAIT: Grammar = Grammar {
 
 /// The same with a trace's header.
 const TRACE_HEADED: Grammar = Grammar {
-    headers: &["trace=proc-1"],
+    headers: &[("trace=proc-1", 5)],
     ..WAIT
 };
 
