@@ -215,7 +215,7 @@ returns-10 : tie.Need-returns-10
 unfolding callOf shownAccepted
 returns-10 c =
     let run = c .before .before in
-    let told = run .before .before .before in
+    let told = run .before .before in
     let op = told .enum-told9 .given .1 in
     let few = told .before .before .if1 .left in
     let e = lent-pins _ _ _ _ few in
