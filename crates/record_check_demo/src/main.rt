@@ -30,21 +30,30 @@ fn check(run: [Slot; ROOM], clock: u64, sample: u64, line: u64) -> bool {
     check_first(run, SLOTS, beside(clock, sample, line))
 }
 
-// The check of the first records of a run, with the numbers that `good` passes with.
-fn first(run: [Slot; ROOM], count: usize) -> bool {
-    check_first(run, count, beside(12, 2, 4))
+// What `good` passes with.
+fn usual() -> Rest {
+    beside(12, 2, 4)
 }
 
 // The check of a good run where pin k holds x.
 fn with_pin(k: usize, x: u64) -> bool {
-    check_first(good(), SLOTS, pinned(beside(12, 2, 4), k, x))
+    check_first(good(), SLOTS, pinned(usual(), k, x))
 }
 
 fn lengths() {
-    tell(b"no record", first(empty(), 0));
-    tell(b"one record too few", first(good(), SLOTS - 1));
-    tell(b"as many records as slots", first(good(), SLOTS));
-    tell(b"one record too many", first(good(), SLOTS + 1));
+    tell(b"no record", check_first(empty(), 0, usual()));
+    tell(
+        b"one record too few",
+        check_first(good(), SLOTS - 1, usual()),
+    );
+    tell(
+        b"as many records as slots",
+        check_first(good(), SLOTS, usual()),
+    );
+    tell(
+        b"one record too many",
+        check_first(good(), SLOTS + 1, usual()),
+    );
     tell(
         b"damage past the end",
         check(put(good(), SLOTS, 9, 0), 12, 2, 4),
