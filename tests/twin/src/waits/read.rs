@@ -44,8 +44,7 @@ fn event(lines: &mut Lines) -> Result<Event, BadTrace> {
     })
 }
 
-/// The table that a text tells: every slot in order, then clock, sample and line, and nothing more. It tells of no pin:
-/// all of them are free.
+/// The table that a text tells: every slot in order, then every pin, then clock, sample and line, and nothing more.
 pub fn table(text: &[u8]) -> Result<Table, BadTrace> {
     let mut lines = Lines::of(text);
     header(&mut lines, b"table=proc-1")?;
@@ -55,9 +54,13 @@ pub fn table(text: &[u8]) -> Result<Table, BadTrace> {
         slot.txid = number(b"txid=")?;
         slot.snapshot_xmin = number(b"xmin=")?;
     }
+    let mut pins = [0; PINS];
+    for pin in &mut pins {
+        *pin = number(b"pin=")?;
+    }
     let (clock, sample, line) = (number(b"clock=")?, number(b"sample=")?, number(b"line=")?);
     if lines.is_empty() {
-        return Ok(Table::of(slots, [0; PINS], clock, sample, line));
+        return Ok(Table::of(slots, pins, clock, sample, line));
     }
     let after = lines.broken().line + 1;
     Err(BadTrace { line: after })
@@ -81,7 +84,6 @@ pub fn text_of_events(events: &[Event]) -> Vec<u8> {
     text.into_bytes()
 }
 
-/// The same whatever the pins are.
 pub fn text_of_table(table: &Table) -> String {
     let mut text = String::from(TABLE_HEADER);
     for slot in table.slots() {
@@ -90,6 +92,9 @@ pub fn text_of_table(table: &Table) -> String {
             snapshot_xmin,
         } = slot;
         writeln!(text, "txid={txid}\nxmin={snapshot_xmin}").expect("a String takes every byte");
+    }
+    for pin in table.pins() {
+        writeln!(text, "pin={pin}").expect("a String takes every byte");
     }
     let (clock, sample) = (table.clock(), table.sampled_clock());
     let line = table.vacuum_line();
