@@ -46,7 +46,7 @@ returns-2 c =
     let low = free .before in
     let told = low .before in
     let passed = sym (told .before .before .observation-test .ensures) ∙ told .enum-told .given .1 in
-    lowest-pinned _ _ _ _ passed (low .lowest-empty .ensures) (free .if1 .taken) (c .observed .ensures) (used .greater .ensures)
+    lowest-pinned _ _ _ _ passed (low .lowest-empty .ensures) (free .if1 .taken) (search (c .observed .ensures)) (used .greater .ensures)
     (taken .take-snapshot .ensures)
 
 refused-snapshot-requires-2 : tie.Need-refused-snapshot-requires-2

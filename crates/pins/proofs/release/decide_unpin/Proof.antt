@@ -17,11 +17,15 @@ enum-told c = search needs
 
 returns : tie.Need-returns
 unfolding refusal
-returns c = refused-decides _ _ _ refl (sym (c .before .before .before .release-test .ensures) ∙ c .before .verdict .given .1)
+returns c =
+    let told = sym (c .before .before .before .release-test .ensures) ∙ c .before .verdict .given .1 in
+    refused-decides _ _ _ refl (search told)
 
 returns-2 : tie.Need-returns-2
 unfolding refusal changeAccepted answerAccepted
-returns-2 c = accepted-decides _ _ _ (sym (c .before .before .release-test .ensures) ∙ c .enum-told .given .1)
+returns-2 c =
+    let told = sym (c .before .before .release-test .ensures) ∙ c .enum-told .given .1 in
+    accepted-decides _ _ _ (search told)
 
 pub decide-unpin-spec : {M : Type 1} → statement M
 decide-unpin-spec = tie.close (tie.spec release-test-requires enum-known-verdict enum-told returns returns-2)
