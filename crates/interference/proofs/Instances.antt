@@ -25,9 +25,9 @@ use Rattle.upstream.specs.States.{stateOf}
 use Rattle.upstream.specs.Relations.{HistoryOf}
 use Rattle.upstream.proofs.Fresh.{from-fresh}
 use Rattle.events.specs.Wait.{header}
-use Rattle.wait.specs.declared.Owner.{Owner}
-use Rattle.wait.specs.declared.Owner.the-variants.{Nobody, Holds}
-use Rattle.wait.specs.Steps.{registerRule, endRule, ruleOf, eventTest, changeBy, eventChange}
+use Rattle.wait_rules.specs.declared.Owner.{Owner}
+use Rattle.wait_rules.specs.declared.Owner.the-variants.{Nobody, Holds}
+use Rattle.wait_rules.specs.Steps.{registerRule, endRule, ruleOf, eventTest, changeBy, eventChange}
 use Rattle.wait.specs.Waits.{holderTest, stepsFrom, ended, verdictOn, waitOf}
 use Rattle.wait.proofs.Told.{Tells, begin-told, full-told, end-told, own-told, stamp-told, finish-told, snap-told, oldest-told}
 use Rattle.wait.proofs.Told.{registers, ends, retains, reservesNumber, observesClock}
