@@ -72,7 +72,7 @@ fn digits(n: u64) -> usize
     ensures { λ r. ⌜ r ≡ length (decimal n) ⌝ }
     ensures { λ r. ⌜ r ≤ 20 ⌝ }
 {
-    text::digits_in(n)
+    text_writer::digits_in(n)
 }
 
 // Six keys with their `=` and five newlines are 35 bytes; the name brings its own newline.

@@ -12,7 +12,7 @@ fn digits(n: u64) -> usize
     ensures { λ r. ⌜ r ≡ length (decimal n) ⌝ }
     ensures { λ r. ⌜ r ≤ 20 ⌝ }
 {
-    text::digits_in(n)
+    text_writer::digits_in(n)
 }
 
 // Two keys with their `=` and two newlines are 12 bytes.

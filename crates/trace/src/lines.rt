@@ -12,7 +12,7 @@ ghost use Rattle.trace.specs.Record.{recordAfter, recordAt, recordUnder}
 fn record_after(s: &[u8], at: usize, op: Op) -> RecordAt
     ensures { λ r. ⌜ r ≡ recordAfter (now (s .entry)) op at ⌝ }
 {
-    let fields = text::fields_at(s, at, b"stamp=", crate::ops::reads_of(op));
+    let fields = five_lines::fields_at(s, at, b"stamp=", crate::ops::reads_of(op));
     match fields {
         Fields::Are(v, e) => RecordAt::Is(
             Record {

@@ -1,11 +1,11 @@
 // The five lines of numbers under the line that names an item: slot, id, a fourth, clock and sample.
-use crate::Fields;
-use crate::Number;
-use crate::Reads;
-use crate::Values;
+use text::Fields;
+use text::Number;
+use text::Reads;
+use text::Values;
 ghost use mathlib.Core.Path.{_≡_};
 ghost use Rattle.text.specs.Line.{fieldAt};
 ghost use Rattle.text.specs.FiveLines.{limit, fieldsAt};
 
 const MOST_SLOT: u64 = 65535;
 
@@ -23,7 +23,7 @@ fn limit_of(reads: bool, most: u64) -> u64
 fn field_if(s: &[u8], at: usize, key: &[u8], reads: bool, most: u64) -> Number
     ensures { λ r. ⌜ r ≡ fieldAt (now (s .entry)) at (now (key .entry)) (limit reads most) ⌝ }
 {
-    crate::read::field_at(s, at, key, limit_of(reads, most))
+    text::field_at(s, at, key, limit_of(reads, most))
 }
 
 // The numbers of the five lines at `at`: lines 2 to 6 of an item, of which line 4 has the key `fourth`.

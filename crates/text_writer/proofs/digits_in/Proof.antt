@@ -5,10 +5,10 @@ use native.Mathlib.Omega.{arith}
 use native.Mathlib.Nat.{pow-suc}
 use native.Mathlib.Numerals.{add-one}
 use lib.ListN.{length}
 use Rattle.text.specs.Decimal.{decimal}
 use Rattle.text.proofs.Decimal.{length-some, length-below, length-from, length-word}
-use Rattle.text.proofs.write.digits_in.Statement.{statement}
-use Rattle.text.proofs.write.digits_in.Tie as tie
+use Rattle.text_writer.proofs.digits_in.Statement.{statement}
+use Rattle.text_writer.proofs.digits_in.Tie as tie
 
 abbrev Inv-loop : tie.InvT-loop
 Inv-loop n tenth power₀ digits₀ power digits = (1 ≤ power) × (1 ≤ digits) × (digits ≤ length (decimal n)) × (10 ^ digits ≡ power * 10)

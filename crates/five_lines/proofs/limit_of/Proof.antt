@@ -1,7 +1,7 @@
 -- `limit_of` meets its contract: both arms of the test.
 use Rattle.text.specs.FiveLines.{limit}
-use Rattle.text.proofs.five_lines.limit_of.Statement.{statement}
-use Rattle.text.proofs.five_lines.limit_of.Tie as tie
+use Rattle.five_lines.proofs.limit_of.Statement.{statement}
+use Rattle.five_lines.proofs.limit_of.Tie as tie
 
 returns : tie.Need-returns
 unfolding limit

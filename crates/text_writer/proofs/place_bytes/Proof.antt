@@ -5,10 +5,10 @@ use native.Mathlib.Omega.{arith}
 use lib.ListN.{length, take, length-set}
 use lib.Seq.{take-all}
 use denote.Ref.{now}
 use Rattle.text.specs.Write.{spliced}
 use Rattle.text.proofs.Splice.{splice-none, splice-take}
-use Rattle.text.proofs.write.place_bytes.Statement.{statement}
-use Rattle.text.proofs.write.place_bytes.Tie as tie
+use Rattle.text_writer.proofs.place_bytes.Statement.{statement}
+use Rattle.text_writer.proofs.place_bytes.Tie as tie
 
 abbrev Inv-loop : tie.InvT-loop
 Inv-loop buf₀ at t i₀ buf i = (i ≤ length t) × (buf ≡ spliced buf₀ at (take i t)) × (length buf ≡ length buf₀)

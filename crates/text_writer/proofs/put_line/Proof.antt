@@ -4,10 +4,10 @@ use native.Mathlib.Omega.{arith}
 use borrow.Author.Needs.{needs}
 use lib.ListN.{length-set}
 use denote.Ref.{now}
 use Rattle.text.proofs.Decimal.{length-word}
 use Rattle.text.proofs.Splice.{line-short, line-put}
-use Rattle.text.proofs.write.put_line.Statement.{statement}
-use Rattle.text.proofs.write.put_line.Tie as tie
+use Rattle.text_writer.proofs.put_line.Statement.{statement}
+use Rattle.text_writer.proofs.put_line.Tie as tie
 
 digits-in-requires : tie.Need-digits-in-requires
 digits-in-requires c κs = search needs

@@ -1,7 +1,7 @@
 -- `field_if` meets its contract: the limit that it passes on is the definition's.
 use borrow.Author.Needs.{needs}
-use Rattle.text.proofs.five_lines.field_if.Statement.{statement}
-use Rattle.text.proofs.five_lines.field_if.Tie as tie
+use Rattle.five_lines.proofs.field_if.Statement.{statement}
+use Rattle.five_lines.proofs.field_if.Tie as tie
 
 limit-of-requires : tie.Need-limit-of-requires
 limit-of-requires c κs = search needs

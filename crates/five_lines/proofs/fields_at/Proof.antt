@@ -2,10 +2,10 @@
 -- What the five lines are together, once each is known, stands in FiveLines.antt.
 use native.Mathlib.Omega.{arith}
 use mathlib.Core.Path.{sym, _∙_}
 use Rattle.text.proofs.FiveLines.{slot-fits, broken-slot, broken-id, broken-fourth, broken-clock, broken-sample, all-five}
 use borrow.Author.Needs.{needs}
-use Rattle.text.proofs.five_lines.fields_at.Statement.{statement}
-use Rattle.text.proofs.five_lines.fields_at.Tie as tie
+use Rattle.five_lines.proofs.fields_at.Statement.{statement}
+use Rattle.five_lines.proofs.fields_at.Tie as tie
 
 slice-aggregate-field-if : tie.Need-slice-aggregate-field-if
 slice-aggregate-field-if c = search needs

@@ -1,11 +1,11 @@
 // Writing at a place of a lent buffer: a line of a key and a number.
-use crate::Put;
+use text::Put;
 ghost use Prim.Native.Nat.{_≤_, _+_};
 ghost use mathlib.Core.Path.{_≡_};
 ghost use lib.ListN.{length};
 ghost use Rattle.text.specs.Decimal.{decimal};
 ghost use Rattle.text.specs.Line.{lineText};
 ghost use Rattle.text.specs.Write.{spliced, putAt, written};
 
 // How many digits n has: 1, and one more for each power of ten that a tenth of n reaches.
 pub fn digits_in(n: u64) -> usize
