@@ -46,7 +46,7 @@ pub fn put_records(buf: &mut [u8], filled: usize, count: usize) -> Replayed
 pub fn replay_into(s: &[u8], out: &mut [u8]) -> Replayed
     ensures { λ r. do ⌜ IntoFits (← ⟦kinds::SLOTS⟧ .entry) (now (s .entry)) (now (out .entry)) (now (out .exit)) r ⌝ }
 {
-    let reading = trace::read_trace(s);
+    let reading = trace_lines::read_trace(s);
     match reading {
         Reading::Broken(line) => put_broken(out, line),
         Reading::Whole(version, count) => {

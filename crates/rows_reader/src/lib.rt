@@ -24,7 +24,7 @@ fn fill_rows(s: &[u8], rows: &mut [[u64; 6]])
     let mut at = trace::first_record();
     let mut i: usize = 0;
     while at != s.len() {
-        let found = trace::record_at(s, at);
+        let found = trace_lines::record_at(s, at);
         match found {
             RecordAt::Is(r, e) => {
                 let row = record_rows::row_of(r);
@@ -44,7 +44,7 @@ pub fn read_rows(s: &[u8], rows: &mut [[u64; 6]]) -> RowsRead
     ensures { λ r. ⌜ r ≡ readOf (now (s .entry)) (length (now (rows .entry))) ⌝ }
     ensures { λ _. ⌜ now (rows .exit) ≡ rowsLeft (now (s .entry)) (now (rows .entry)) ⌝ }
 {
-    let reading = trace::read_trace(s);
+    let reading = trace_lines::read_trace(s);
     match reading {
         Reading::Broken(line) => RowsRead::Refused(Refusal::BadTrace(line as u64)),
         Reading::Whole(version, n) => {

@@ -5,8 +5,8 @@ use borrow.Author.Needs.{needs}
 use denote.Ref.{now}
 use Rattle.text.proofs.Bytes.{starts-room}
 use Rattle.grammar.specs.Names.{ifNamed}
-use Rattle.trace.proofs.ops.try_name.Statement.{statement}
-use Rattle.trace.proofs.ops.try_name.Tie as tie
+use Rattle.trace_lines.proofs.ops.try_name.Statement.{statement}
+use Rattle.trace_lines.proofs.ops.try_name.Tie as tie
 
 bytes-at-requires : tie.Need-bytes-at-requires
 bytes-at-requires c κs = search needs

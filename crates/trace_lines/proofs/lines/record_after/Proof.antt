@@ -1,8 +1,8 @@
 -- `record_after` meets its contract: the five numbers, or the line that breaks a rule.
 use mathlib.Core.Path.{sym, _∙_}
 use borrow.Author.Needs.{needs}
-use Rattle.trace.proofs.lines.record_after.Statement.{statement}
-use Rattle.trace.proofs.lines.record_after.Tie as tie
+use Rattle.trace_lines.proofs.lines.record_after.Statement.{statement}
+use Rattle.trace_lines.proofs.lines.record_after.Tie as tie
 
 slice-aggregate-fields-at : tie.Need-slice-aggregate-fields-at
 slice-aggregate-fields-at c = search needs

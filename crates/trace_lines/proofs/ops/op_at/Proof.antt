@@ -6,9 +6,9 @@ use denote.Ref.{now}
 use Rattle.text.specs.Keys.{opKey}
 use Rattle.text.proofs.Bytes.{starts-room}
 use Rattle.grammar.specs.Names.{nameAt}
 use Rattle.trace.specs.Op.{opAt}
-use Rattle.trace.proofs.ops.op_at.Statement.{statement}
-use Rattle.trace.proofs.ops.op_at.Tie as tie
+use Rattle.trace_lines.proofs.ops.op_at.Statement.{statement}
+use Rattle.trace_lines.proofs.ops.op_at.Tie as tie
 
 slice-aggregate-bytes-at : tie.Need-slice-aggregate-bytes-at
 slice-aggregate-bytes-at c = search needs

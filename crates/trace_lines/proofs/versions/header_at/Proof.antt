@@ -7,14 +7,14 @@ use lib.ListN.{drop}
 use Rattle.text.specs.Bytes.{starts}
 use Rattle.grammar.specs.Names.{nameLine}
 use Rattle.grammar.proofs.Laws.{head-is, no-head}
 use Rattle.trace.specs.Version.{headerOf, headerAt}
 use Rattle.trace.specs.Trace.{traceGrammar}
 use Rattle.trace.specs.declared.Version.{Version}
 use Rattle.trace.specs.declared.Version.the-variants.{Proc1, Proc2, Proc3}
 use Rattle.trace.proofs.Shape.{trace-grammar}
 use borrow.Author.Needs.{needs}
-use Rattle.trace.proofs.versions.header_at.Statement.{statement}
-use Rattle.trace.proofs.versions.header_at.Tie as tie
+use Rattle.trace_lines.proofs.versions.header_at.Statement.{statement}
+use Rattle.trace_lines.proofs.versions.header_at.Tie as tie
 
 none : (s : List ℕ) → starts (headerOf Proc1) (drop 0 s) ≡ false → starts (headerOf Proc2) (drop 0 s) ≡ false
     → starts (headerOf Proc3) (drop 0 s) ≡ false → (v : Version) → starts (headerOf v) (drop 0 s) ≡ false

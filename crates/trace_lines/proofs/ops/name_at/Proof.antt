@@ -1,10 +1,10 @@
 -- `name_at` meets its contract: the calls, last first, are the definition's list of names.
 use borrow.Author.Needs.{needs}
 use Rattle.grammar.proofs.Said.{first-tried}
 use Rattle.trace.specs.Op.{opName, ops}
 use Rattle.trace.specs.declared.ops.OpAt.the-variants.{Is, Unknown}
-use Rattle.trace.proofs.ops.name_at.Statement.{statement}
-use Rattle.trace.proofs.ops.name_at.Tie as tie
+use Rattle.trace_lines.proofs.ops.name_at.Statement.{statement}
+use Rattle.trace_lines.proofs.ops.name_at.Tie as tie
 
 slice-aggregate-try-name : tie.Need-slice-aggregate-try-name
 slice-aggregate-try-name c = search needs

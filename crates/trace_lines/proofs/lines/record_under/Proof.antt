@@ -1,11 +1,11 @@
 -- `record_under` meets its contract: an op that is unknown, one that the header allows, and one that it doesn't.
 use mathlib.Core.Path.{sym, _∙_}
 use Rattle.grammar.proofs.Named.{item-named, item-refused, item-unknown}
 use Rattle.trace.specs.Record.{recordShape, recordUnder}
 use Rattle.trace.proofs.Answers.{op-is}
 use borrow.Author.Needs.{needs}
-use Rattle.trace.proofs.lines.record_under.Statement.{statement}
-use Rattle.trace.proofs.lines.record_under.Tie as tie
+use Rattle.trace_lines.proofs.lines.record_under.Statement.{statement}
+use Rattle.trace_lines.proofs.lines.record_under.Tie as tie
 
 op-at-requires : tie.Need-op-at-requires
 op-at-requires c κs = search needs

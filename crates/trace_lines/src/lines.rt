@@ -1,18 +1,18 @@
 // A record of six lines.
-use crate::Op;
-use crate::Record;
-use crate::RecordAt;
-use crate::Version;
-use crate::ops::OpAt;
 use text::Fields;
+use trace::Op;
+use trace::OpAt;
+use trace::Record;
+use trace::RecordAt;
+use trace::Version;
 ghost use mathlib.Core.Path.{_≡_};
 ghost use Rattle.trace.specs.Record.{recordAfter, recordAt, recordUnder};
 
 // The record of an op whose line ends just before `at`, or the first of its lines that breaks a rule.
 fn record_after(s: &[u8], at: usize, op: Op) -> RecordAt
     ensures { λ r. ⌜ r ≡ recordAfter (now (s .entry)) op at ⌝ }
 {
-    let fields = five_lines::fields_at(s, at, b"stamp=", crate::ops::reads_of(op));
+    let fields = five_lines::fields_at(s, at, b"stamp=", trace::reads_of(op));
     match fields {
         Fields::Are(v, e) => RecordAt::Is(
             Record {
@@ -46,7 +46,7 @@ pub fn record_under(version: Version, s: &[u8], at: usize) -> RecordAt
     let OpAt::Is(op, a) = crate::ops::op_at(s, at) else {
         return RecordAt::Broken(1);
     };
-    if crate::versions::allows(version, op) {
+    if trace::allows(version, op) {
         return record_after(s, a, op);
     }
     RecordAt::Broken(1)

@@ -8,11 +8,11 @@ use lib.ListN.{length}
 use Rattle.grammar.specs.Texts.{countText, readText}
 use Rattle.grammar.proofs.Laws.{under-facts}
 use Rattle.grammar.proofs.Count.{Stands, stands-start, stands-next, stands-small, stands-broken, stands-end}
 use Rattle.trace.specs.Trace.{traceGrammar, reading}
 use Rattle.trace.proofs.Shape.{trace-grammar}
 use Rattle.trace.proofs.Answers.{header-is, under-is}
-use Rattle.trace.proofs.whole.read_trace.Statement.{statement}
-use Rattle.trace.proofs.whole.read_trace.Tie as tie
+use Rattle.trace_lines.proofs.whole.read_trace.Statement.{statement}
+use Rattle.trace_lines.proofs.whole.read_trace.Tie as tie
 
 abbrev Inv-loop : tie.InvT-loop
 Inv-loop s version first at₀ n₀ at n = Stands traceGrammar trace-grammar s version at n

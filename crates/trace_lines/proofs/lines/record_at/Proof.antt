@@ -2,11 +2,11 @@
 use mathlib.Core.Path.{refl, sym, _∙_}
 use Rattle.grammar.proofs.Named.{item-named, item-unknown}
 use Rattle.grammar.specs.Grammar.{everyKind}
 use Rattle.trace.specs.Record.{recordShape, recordAt}
 use Rattle.trace.proofs.Answers.{op-is}
 use borrow.Author.Needs.{needs}
-use Rattle.trace.proofs.lines.record_at.Statement.{statement}
-use Rattle.trace.proofs.lines.record_at.Tie as tie
+use Rattle.trace_lines.proofs.lines.record_at.Statement.{statement}
+use Rattle.trace_lines.proofs.lines.record_at.Tie as tie
 
 op-at-requires : tie.Need-op-at-requires
 op-at-requires c κs = search needs
