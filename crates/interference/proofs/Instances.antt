@@ -5,7 +5,7 @@ use mathlib.Core.Path.{_≡_, refl}
 use mathlib.Core.List.{List, [], _∷_, _++_}
 use Rattle.kinds.specs.Kinds.{freePins, number, slot, txid}
 use Rattle.kinds.specs.declared.refusal.Verdict.the-variants.{Pass}
-use Rattle.settled.specs.Settled.{listed}
+use Rattle.listed.specs.Listed.{listed}
 use Rattle.model.specs.declared.Table.{Table}
 use Rattle.model.specs.Tally.{active, minimum, lowestEmpty}
 use Rattle.model.specs.Tables.{counted, lent, freshTable}

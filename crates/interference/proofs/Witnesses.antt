@@ -6,7 +6,7 @@ use mathlib.Core.Logic.{_≢_}
 use mathlib.Core.Bool.{false}
 use mathlib.Core.List.{List, [], _∷_}
 use Rattle.kinds.specs.Kinds.{freePins}
-use Rattle.settled.specs.Settled.{listed}
+use Rattle.listed.specs.Listed.{listed}
 use Rattle.model.specs.declared.Table.{Table}
 use Rattle.model.specs.Tally.{active, minimum, retained}
 use Rattle.model.specs.Tables.{counted, lent}

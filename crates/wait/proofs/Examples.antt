@@ -7,7 +7,7 @@ use Rattle.kinds.specs.Kinds.{freePins, slot, txid}
 use Rattle.kinds.specs.declared.refusal.Refusal.the-variants.{InvalidSlot, SlotOwnershipMismatch, ZeroTxid, BadTrace, BadEntry, BadStep}
 use Rattle.kinds.specs.declared.refusal.Verdict.{Verdict}
 use Rattle.kinds.specs.declared.refusal.Verdict.the-variants.{Pass, Refuse}
-use Rattle.settled.specs.Settled.{listed}
+use Rattle.listed.specs.Listed.{listed}
 use Rattle.model.specs.declared.Table.{Table}
 use Rattle.model.specs.Tally.{active, minimum}
 use Rattle.model.specs.Tables.{counted, lent}

@@ -4,7 +4,7 @@ use mathlib.Core.Path.{_≡_, refl}
 use mathlib.Core.List.{List, [], _∷_, _++_}
 use Rattle.kinds.specs.Kinds.{slot, txid, freePins}
 use Rattle.kinds.specs.Refusals.{told}
-use Rattle.settled.specs.Settled.{listed}
+use Rattle.listed.specs.Listed.{listed}
 use Rattle.model.specs.Tally.{active, minimum}
 use Rattle.model.specs.Check.{slotsPass, differ, pinsPass, passes}
 use Rattle.text.specs.Decimal.{decimalIn, decimal, numberText, numberTail, numberFrom, numberAt}

@@ -1,9 +1,9 @@
 -- The tree of eight comparisons is `listed` of the eight places: `listed-near` in Listed.antt.
-use Rattle.settled.proofs.Listed.{listed-near}
+use Rattle.listed.proofs.Listed.{listed-near}
 use native.Mathlib.Omega.{arith}
 use borrow.Author.Needs.{needs}
-use Rattle.settled.proofs.is_near.Statement.{statement}
-use Rattle.settled.proofs.is_near.Tie as tie
+use Rattle.listed.proofs.is_near.Statement.{statement}
+use Rattle.listed.proofs.is_near.Tie as tie
 
 mul-a : tie.Need-mul-a
 mul-a c = search needs

@@ -1,7 +1,7 @@
 -- The two cases of its definition.
 use borrow.Author.Tests.{eq-eqb, ne-eqb}
-use Rattle.settled.proofs.usable.asked_below.Statement.{statement}
-use Rattle.settled.proofs.usable.asked_below.Tie as tie
+use Rattle.usable.proofs.asked_below.Statement.{statement}
+use Rattle.usable.proofs.asked_below.Tie as tie
 
 returns : tie.Need-returns
 returns c = rw (eq-eqb _ _ (c .if1 .taken))

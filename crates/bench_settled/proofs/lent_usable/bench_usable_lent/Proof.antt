@@ -1,8 +1,8 @@
 -- Rounds are counted; nothing else is promised.
 use Prim.Native.Nat.{_≤_, _-_}
 use borrow.Author.Needs.{needs}
-use Rattle.bench_settled.proofs.usable.bench_usable_lent.Statement.{statement}
-use Rattle.bench_settled.proofs.usable.bench_usable_lent.Tie as tie
+use Rattle.bench_settled.proofs.lent_usable.bench_usable_lent.Statement.{statement}
+use Rattle.bench_settled.proofs.lent_usable.bench_usable_lent.Tie as tie
 
 abbrev Inv-loop : tie.InvT-loop
 Inv-loop ids count xmax own asked rounds sum₀ at₀ i₀ sum at i = i ≤ rounds

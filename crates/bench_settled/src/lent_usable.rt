@@ -1,7 +1,7 @@
 // The usable test, asked in the same way.
 use kinds::Txid;
-use settled::Usable;
 use std::num::wrapping_add_u64;
+use usable::Usable;
 
 // What a round adds to the checksum.
 fn marked_usable(sum: u64, round: u64, answer: Usable) -> u64 {
@@ -31,7 +31,7 @@ pub extern "C" fn bench_usable_lent(
             at = 0;
             continue;
         }
-        let answer = settled::is_usable_among(ids, count, xmax, Txid(own), Txid(asked[at]));
+        let answer = usable::is_usable_among(ids, count, xmax, Txid(own), Txid(asked[at]));
         at += 1;
         sum = marked_usable(sum, i, answer);
     }

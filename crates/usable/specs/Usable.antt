@@ -10,9 +10,9 @@ use Rattle.kinds.specs.declared.refusal.Verdict.the-variants.{Pass, Refuse}
 use Rattle.kinds.specs.declared.told.Told.{Told}
 use Rattle.kinds.specs.Refusals.{told, accepted}
 use Rattle.kinds.specs.Verdicts.{then, zeroTest}
-use Rattle.settled.specs.declared.usable.Usable.{Usable}
-use Rattle.settled.specs.declared.usable.Usable.the-variants.{Yes, No, Refused}
+use Rattle.usable.specs.declared.Usable.{Usable}
+use Rattle.usable.specs.declared.Usable.the-variants.{Yes, No, Refused}
 use Rattle.settled.specs.Settled.{settledIn, countTest}
 
 -- settled, or the reader's own id
 abbrev pub usableIn : ℕ → List ℕ → ℕ → ℕ → ℕ → Bool

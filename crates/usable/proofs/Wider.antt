@@ -16,11 +16,12 @@ use Rattle.kinds.specs.Kinds.{txid}
 use Rattle.kinds.specs.Refusals.{told, bare, accepted}
 use Rattle.kinds.specs.Verdicts.{then, zeroTest}
 use Rattle.kinds.proofs.Unique.{told-unique, told-positive}
 use Rattle.settled.specs.declared.Settled.the-variants.{Yes as Is, No as Not, Refused as Unanswered}
-use Rattle.settled.specs.declared.usable.Usable.{Usable}
-use Rattle.settled.specs.declared.usable.Usable.the-variants.{Yes, No, Refused}
-use Rattle.settled.specs.Settled.{listed, settledIn, SettledAnswer, paperSettled, countTest, settledBy, settledTest}
-use Rattle.settled.specs.Usable.{UsableAnswer, paperUsable, usableBy, usableTest, UsableFits}
+use Rattle.usable.specs.declared.Usable.{Usable}
+use Rattle.usable.specs.declared.Usable.the-variants.{Yes, No, Refused}
+use Rattle.listed.specs.Listed.{listed}
+use Rattle.settled.specs.Settled.{settledIn, SettledAnswer, paperSettled, countTest, settledBy, settledTest}
+use Rattle.usable.specs.Usable.{UsableAnswer, paperUsable, usableBy, usableTest, UsableFits}
 
 abbrev number-of : UsableAnswer → ℕ
 number-of a = a .tells .number

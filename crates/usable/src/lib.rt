@@ -1,14 +1,13 @@
 // The usable test: which versions a reader may use. Settled is what all readers of a snapshot agree on; a transaction
 // may besides use what it made itself, although its own id is in flight.
-use crate::Settled;
-use crate::Snapshot;
-use crate::is_settled_among;
 use kinds::Refusal;
 use kinds::Txid;
+use settled::Settled;
+use settled::Snapshot;
 ghost use mathlib.Core.Path.{_≡_};
 ghost use mathlib.Core.Bool.{cond};
 ghost use lib.Dec.{eqb};
-ghost use Rattle.settled.specs.Usable.{UsableFits};
+ghost use Rattle.usable.specs.Usable.{UsableFits};
 
 pub enum Usable {
     Yes,
@@ -31,7 +30,7 @@ pub fn is_usable_among(ids: &[u64], count: usize, xmax: u64, own: Txid, id: Txid
     ensures { λ r. do ⌜ UsableFits (← ⟦kinds::SLOTS⟧ .entry) xmax (now (ids .entry)) count own id r ⌝ }
 {
     let below = asked_below(xmax, own, id);
-    let said = is_settled_among(ids, count, below, id);
+    let said = settled::is_settled_among(ids, count, below, id);
     match said {
         Settled::Yes => Usable::Yes,
         Settled::No => {

@@ -1,10 +1,10 @@
 -- The settled test's refusals come first; then the own id decides where settled said no. Below which xmax it was asked plays no part
 -- for an own id (`usable-within`). All of this is in the crate's proofs/Wider.antt.
 use mathlib.Core.Path.{_∙_}
-use Rattle.settled.proofs.Wider.{usable-within, usable-settled, usable-own, usable-neither, usable-refused}
+use Rattle.usable.proofs.Wider.{usable-within, usable-settled, usable-own, usable-neither, usable-refused}
 use borrow.Author.Needs.{needs}
-use Rattle.settled.proofs.usable.is_usable_among.Statement.{statement}
-use Rattle.settled.proofs.usable.is_usable_among.Tie as tie
+use Rattle.usable.proofs.is_usable_among.Statement.{statement}
+use Rattle.usable.proofs.is_usable_among.Tie as tie
 
 asked-below-requires : tie.Need-asked-below-requires
 asked-below-requires c κs = search needs
