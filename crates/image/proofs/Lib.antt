@@ -1,0 +1,4 @@
+pub mod Eight
+pub mod Filling
+pub mod Columns
+pub mod Inverse
