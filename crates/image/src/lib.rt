@@ -1,4 +1,5 @@
 // Ids and tables as bytes (SPEC 18): each number is 8 bytes, the least first.
+mod search;
 mod words;
 
 use kinds::PINS;
@@ -7,6 +8,7 @@ use kinds::SLOTS;
 use kinds::Verdict;
 use model::Counters;
 use model::Table;
+pub use search::lists;
 ghost use mathlib.Core.Path.{_≡_};
 ghost use lib.ListN.{length};
 ghost use Rattle.image.specs.Lists.{idsIn};
