@@ -11,7 +11,6 @@ use model::Table;
 pub use search::lists;
 ghost use mathlib.Core.Path.{_≡_};
 ghost use lib.ListN.{length};
-ghost use Rattle.image.specs.Lists.{idsIn};
 ghost use Rattle.image.specs.Images.{imageSize, countersFrom, countersAt, noImage, imageRead};
 
 // Where the numbers past the slots stand, and how many bytes an image has.
@@ -88,14 +87,4 @@ pub fn read_image(image: &[u8]) -> ImageRead
         verdict: Verdict::Pass,
         table,
     }
-}
-
-// The numbers of a list, as many as a snapshot has places; the other places are 0. Bytes past the last whole number play no part.
-pub fn read_ids(list: &[u8]) -> [u64; SLOTS]
-    ensures { λ r. do ⌜ r ≡ idsIn (← ⟦kinds::SLOTS⟧ .entry) (now (list .entry)) ⌝ }
-{
-    let mut ids = kinds::zeros();
-    let count = kinds::lesser(list.len() as u64 / 8, SLOTS as u64) as usize;
-    words::fill(list, 0, 8, &mut ids[..count]);
-    ids
 }
