@@ -1,11 +1,11 @@
 //! A host that finds a table in its shared segment, and a reader that asks which versions it may use.
 //! Run it: `cargo run --release --offline --example segment` in this folder, after host/build.
 
-use sockhurdle::{Refusal, Slot, Snapshot, Table, Txid, check_image};
+use sockhurdle::{Image, Refusal, Slot, SnapshotRef, Txid, check_image};
 
 fn main() -> Result<(), Refusal> {
     // A segment that another process wrote: two transactions, 5 and 9, a pinned snapshot, and the counters.
-    let mut table = Table::fresh();
+    let mut table = Image::fresh();
     table.slots[0] = Slot {
         txid: 5,
         snapshot_xmin: 4,
@@ -16,7 +16,7 @@ fn main() -> Result<(), Refusal> {
     };
     table.pins[0] = 4;
     (table.clock, table.sampled_clock, table.vacuum_line) = (12, 11, 4);
-    let mut segment = table.image();
+    let mut segment = table.bytes();
     println!("the segment passes: {}", check_image(&segment)?);
 
     // Slot 1's txid is written over with slot 0's, as a torn write may.
@@ -29,7 +29,7 @@ fn main() -> Result<(), Refusal> {
 
     // A reader's snapshot: everything below 12 is settled but 5 and 9, which were in flight.
     let in_flight = [5, 9];
-    let seen = Snapshot::of_ids(12, &in_flight);
+    let seen = SnapshotRef::of_ids(12, &in_flight);
     for maker in [4, 5, 9, 11, 12] {
         let (settled, usable) = (
             seen.settled(Txid(maker))?,

@@ -16,9 +16,9 @@ pub struct Slot {
     pub snapshot_xmin: u64,
 }
 
-/// A table, as numbers. Nothing keeps it from being one that the check refuses.
+/// What an image says: a table as plain numbers. Nothing keeps it from being one that the check refuses.
 #[derive(Clone, Debug, PartialEq, Eq)]
-pub struct Table {
+pub struct Image {
     pub slots: [Slot; SLOTS],
     /// The xmins of pinned snapshots; 0 marks a free pin.
     pub pins: [u64; PINS],
@@ -27,10 +27,10 @@ pub struct Table {
     pub vacuum_line: u64,
 }
 
-impl Table {
-    /// All slots empty, all pins free, the counters 1.
+impl Image {
+    /// The fresh table: all slots empty, all pins free, the counters 1.
     pub fn fresh() -> Self {
-        Table {
+        Image {
             slots: [Slot::default(); SLOTS],
             pins: [0; PINS],
             clock: 1,
@@ -39,9 +39,9 @@ impl Table {
         }
     }
 
-    /// Its image: slot after slot the txid and the snapshot_xmin, then the pins, then clock, sampled clock and line, each as 8
+    /// Its bytes: slot after slot the txid and the snapshot_xmin, then the pins, then clock, sampled clock and line, each as 8
     /// bytes, the least byte first.
-    pub fn image(&self) -> Vec<u8> {
+    pub fn bytes(&self) -> Vec<u8> {
         let slots = self.slots.iter();
         let slots = slots.flat_map(|slot| [slot.txid, slot.snapshot_xmin]);
         let counters = [self.clock, self.sampled_clock, self.vacuum_line];
@@ -49,12 +49,12 @@ impl Table {
         numbers.flat_map(u64::to_le_bytes).collect()
     }
 
-    /// The table of an image that passes the check; none where it does not.
+    /// What the bytes of an image say, if its table passes the check; none where it does not.
     ///
     /// # Errors
     ///
     /// 18 where the bytes have another length.
-    pub fn of_image(image: &[u8]) -> Result<Option<Self>, Refusal> {
+    pub fn of_bytes(image: &[u8]) -> Result<Option<Self>, Refusal> {
         if !check_image(image)? {
             return Ok(None);
         }
@@ -66,7 +66,7 @@ impl Table {
             snapshot_xmin: next(),
         });
         let pins = std::array::from_fn(|_| next());
-        Ok(Some(Table {
+        Ok(Some(Image {
             slots,
             pins,
             clock: next(),

@@ -4,26 +4,26 @@ use crate::{Refusal, answer, raw};
 #[derive(Clone, Copy, Debug, PartialEq, Eq, PartialOrd, Ord, Hash)]
 pub struct Txid(pub u64);
 
-/// What a reader was shown: xmax, and the ids in flight, 8 bytes each, the least byte first.
+/// What a reader was shown, as it lies in the host's memory: xmax, and the ids in flight, 8 bytes each, the least byte first.
 #[derive(Clone, Copy, Debug, PartialEq, Eq)]
-pub struct Snapshot<'a> {
+pub struct SnapshotRef<'a> {
     xmax: u64,
     in_flight: &'a [u8],
 }
 
-impl<'a> Snapshot<'a> {
+impl<'a> SnapshotRef<'a> {
     /// A snapshot whose ids lie as bytes, anywhere and of any length. Whether they make a list is seen when it is asked.
     ///
     /// ```
-    /// use sockhurdle::{Refusal, Snapshot, Txid};
+    /// use sockhurdle::{Refusal, SnapshotRef, Txid};
     ///
-    /// let seen = Snapshot::of_bytes(12, &[5, 0, 0, 0, 0, 0, 0, 0]);
+    /// let seen = SnapshotRef::of_bytes(12, &[5, 0, 0, 0, 0, 0, 0, 0]);
     /// assert_eq!(seen.settled(Txid(5)), Ok(false));
-    /// let torn = Snapshot::of_bytes(12, &[5, 0, 0]);
+    /// let torn = SnapshotRef::of_bytes(12, &[5, 0, 0]);
     /// assert_eq!(torn.settled(Txid(5)), Err(Refusal::BadImage));
     /// ```
     pub fn of_bytes(xmax: u64, in_flight: &'a [u8]) -> Self {
-        Snapshot { xmax, in_flight }
+        SnapshotRef { xmax, in_flight }
     }
 
     /// A snapshot whose ids lie as numbers. Nothing is copied.
@@ -32,7 +32,7 @@ impl<'a> Snapshot<'a> {
         let length = size_of_val(in_flight);
         // Any number is 8 bytes, in this order; bytes need no alignment, and they live as long as the numbers.
         let in_flight = unsafe { std::slice::from_raw_parts(in_flight.as_ptr().cast(), length) };
-        Snapshot { xmax, in_flight }
+        SnapshotRef { xmax, in_flight }
     }
 
     /// Whether every reader of this snapshot may use what `id` made: it is below xmax and not in flight.
@@ -52,7 +52,7 @@ impl<'a> Snapshot<'a> {
     ///
     /// # Errors
     ///
-    /// As [`settled`](Snapshot::settled).
+    /// As [`settled`](SnapshotRef::settled).
     #[inline]
     pub fn usable(&self, id: Txid, own: Option<Txid>) -> Result<bool, Refusal> {
         let (list, own) = (self.in_flight, own.map_or(0, |own| own.0));

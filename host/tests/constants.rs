@@ -1,6 +1,6 @@
 //! The crate's and the header's constants are the library's.
 
-use sockhurdle::{IMAGE_LEN, PINS, Refusal, SLOTS, Snapshot, Table, Txid, check_image};
+use sockhurdle::{IMAGE_LEN, Image, PINS, Refusal, SLOTS, SnapshotRef, Txid, check_image};
 
 #[test]
 fn an_image_has_that_length() {
@@ -8,14 +8,17 @@ fn an_image_has_that_length() {
         let is_image = check_image(&vec![0; length]) != Err(Refusal::BadImage);
         assert_eq!(is_image, length == IMAGE_LEN, "{length}");
     }
-    assert_eq!(Table::fresh().image().len(), IMAGE_LEN);
+    assert_eq!(Image::fresh().bytes().len(), IMAGE_LEN);
 }
 
 #[test]
 fn a_list_has_at_most_that_many_ids() {
     let ids = vec![9; SLOTS + 1];
-    assert_eq!(Snapshot::of_ids(20, &ids[1..]).settled(Txid(9)), Ok(false));
-    let refused = Snapshot::of_ids(20, &ids).settled(Txid(9));
+    assert_eq!(
+        SnapshotRef::of_ids(20, &ids[1..]).settled(Txid(9)),
+        Ok(false)
+    );
+    let refused = SnapshotRef::of_ids(20, &ids).settled(Txid(9));
     assert_eq!(refused, Err(Refusal::BadSnapshot));
 }
 
@@ -26,7 +29,11 @@ fn the_header_says_the_same() {
         let mut lines = header.lines().map(|line| line.split_whitespace());
         let number = lines.find_map(|mut words| {
             let found = words.next() == Some("#define") && words.next() == Some(name);
-            if found { words.next()?.parse().ok() } else { None }
+            if found {
+                words.next()?.parse().ok()
+            } else {
+                None
+            }
         });
         number.unwrap_or_else(|| panic!("no {name}"))
     };

@@ -3,7 +3,7 @@
 use crate::decode::Reading;
 use crate::question::Question;
 use std::collections::BTreeMap;
-use twin::table::{PINS, SLOTS};
+use twin::table::{PINS, SLOTS, Table};
 use twin::waits::grounds;
 
 /// The conditions of the table check, each broken alone, by the twin's names.
@@ -56,6 +56,26 @@ const OTHERS: &[&str] = &[
     "another's, and not settled",
 ];
 
+/// The conditions that a table breaks: the twin's of slots and counters, and those of its pins.
+fn broken(table: &Table) -> Vec<&'static str> {
+    let (line, clock) = (table.vacuum_line(), table.clock());
+    let mut names = grounds::entry(table);
+    let taken = table.pins().iter().copied().filter(|xmin| *xmin != 0);
+    let pins: Vec<u64> = taken.collect();
+    names.retain(|name| !name.starts_with("pin "));
+    names.extend(
+        pins.iter()
+            .any(|xmin| *xmin < line)
+            .then_some("pin below line"),
+    );
+    names.extend(
+        pins.iter()
+            .any(|xmin| *xmin > clock)
+            .then_some("pin above clock"),
+    );
+    names
+}
+
 pub struct Cells(BTreeMap<&'static str, usize>);
 
 impl Cells {
@@ -101,7 +121,7 @@ impl Cells {
         self.put("image one slot long", image.len() == length + 16);
         self.put("image without its pins", image.len() + 8 * PINS == length);
         if let Some(table) = Reading(None).table(image) {
-            let broken = grounds::entry(&table);
+            let broken = broken(&table);
             self.put("image that passes", broken.is_empty());
             self.put("several conditions", broken.len() > 1);
             if let [condition] = broken[..] {

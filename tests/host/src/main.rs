@@ -64,7 +64,10 @@ fn main() {
             let expected = Reading(None).answer(&question);
             let said = [0, 1 + seed as usize % 7].map(|place| question.asked(place));
             counts.count(said == [expected; 2], || {
-                format!("seed {seed}: {said:?}, not {expected}: {}", shown(&question))
+                format!(
+                    "seed {seed}: {said:?}, not {expected}: {}",
+                    shown(&question)
+                )
             });
             cells.add(&question);
             unseen.retain(|fault| Reading(Some(*fault)).answer(&question) == said[0]);
@@ -72,10 +75,20 @@ fn main() {
     }
     println!("{count} images, {} questions of lists", 2 * count);
     let empty = cells.empty();
-    println!("{} of {} cells reached", cells.len() - empty.len(), cells.len());
+    println!(
+        "{} of {} cells reached",
+        cells.len() - empty.len(),
+        cells.len()
+    );
     counts.count(empty.is_empty(), || format!("no question for {empty:?}"));
-    println!("{} of {} wrong decoders seen", FAULTS.len() - unseen.len(), FAULTS.len());
-    counts.count(unseen.is_empty(), || format!("wrong decoders not seen: {unseen:?}"));
+    println!(
+        "{} of {} wrong decoders seen",
+        FAULTS.len() - unseen.len(),
+        FAULTS.len()
+    );
+    counts.count(unseen.is_empty(), || {
+        format!("wrong decoders not seen: {unseen:?}")
+    });
     println!("{} passed, {} failed", counts.passed, counts.failed);
     exit(i32::from(counts.failed > 0));
 }

@@ -1,9 +1,9 @@
 //! Questions from a seed: images that are good, damaged in one condition of the table check, short, long and random; lists of
 //! every length, whole and torn.
 
-use sockhurdle::{Refusal, Snapshot, Txid, check_image};
+use sockhurdle::{Refusal, SnapshotRef, Txid, check_image};
 use twin::random::Random;
-use twin::table::{SLOTS, Table};
+use twin::table::{PINS, SLOTS, Table};
 use twin::waits::tables;
 
 #[derive(Clone, Debug)]
@@ -38,11 +38,11 @@ impl Question {
         let answer = match self {
             Question::Check(_) => check_image(bytes),
             Question::Settled { xmax, id, .. } => {
-                Snapshot::of_bytes(*xmax, bytes).settled(Txid(*id))
+                SnapshotRef::of_bytes(*xmax, bytes).settled(Txid(*id))
             }
             Question::Usable { xmax, id, own, .. } => {
                 let own = (*own != 0).then_some(Txid(*own));
-                Snapshot::of_bytes(*xmax, bytes).usable(Txid(*id), own)
+                SnapshotRef::of_bytes(*xmax, bytes).usable(Txid(*id), own)
             }
         };
         match answer {
@@ -102,13 +102,37 @@ pub fn of(seed: u64) -> [Question; 3] {
     ]
 }
 
+/// The numbers of a table that passes, with some pins taken where it has none: from the line to the clock.
+fn pinned(table: &Table, random: &mut Random) -> Vec<u64> {
+    let mut all = numbers(table);
+    let (line, clock) = (table.vacuum_line(), table.clock());
+    if table.pins().iter().all(|xmin| *xmin == 0) && random.once_in(2) {
+        for _ in 0..random.pick(&[1, 2, PINS]) {
+            all[2 * SLOTS + random.place(PINS)] = random.pick(&[line, clock, line.midpoint(clock)]);
+        }
+    }
+    all
+}
+
+/// One pin below the line, or above the clock, where there is room for that; often the last.
+fn pin_damaged(mut all: Vec<u64>, table: &Table, random: &mut Random) -> Vec<u64> {
+    let (line, clock) = (table.vacuum_line(), table.clock());
+    let any = random.place(PINS);
+    let pin = random.pick(&[0, PINS - 1, any]);
+    let low = random.pick(&[1, line.saturating_sub(1)]);
+    let high = random.pick(&[clock.saturating_add(1), u64::MAX]);
+    all[2 * SLOTS + pin] = random.pick(&[low, high]);
+    all
+}
+
 fn image(random: &mut Random) -> Vec<u8> {
     let table = tables::good(random);
-    let mut image = bytes(&numbers(&table));
+    let mut image = bytes(&pinned(&table, random));
     let length = image.len();
-    match random.below(16) {
+    match random.below(18) {
         0..=3 => {}
         4..=9 => image = bytes(&numbers(&tables::damaged(&table, random))),
+        16 | 17 => image = bytes(&pin_damaged(numbers(&table), &table, random)),
         10 => {
             let place = random.place(length);
             image[place] ^= 1 << random.below(8);
@@ -121,7 +145,9 @@ fn image(random: &mut Random) -> Vec<u8> {
             let more = random.pick(&[1, 7, 8, 15, 16, 24, 512, length]);
             image.resize(length + more, random.pick(&[0, 1, 255]));
         }
-        13 => image.iter_mut().for_each(|byte| *byte = random.draw() as u8),
+        13 => image
+            .iter_mut()
+            .for_each(|byte| *byte = random.draw() as u8),
         14 => image.fill(random.pick(&[0, 1, 255])),
         _ => {
             // all bytes are there, and one place off
@@ -146,9 +172,20 @@ fn list(random: &mut Random) -> (u64, Vec<u8>, u64) {
         5 => random.pick(&[2 * SLOTS, 4_000, 65_536]) / if random.once_in(8) { 1 } else { 2 },
         _ => random.place(20),
     };
-    let base = random.pick(&[0, 1, 100, 250, 65_530, 1 << 32, (1 << 40) - 5, u64::MAX - 40]);
+    let base = random.pick(&[
+        0,
+        1,
+        100,
+        250,
+        65_530,
+        1 << 32,
+        (1 << 40) - 5,
+        u64::MAX - 40,
+    ]);
+    // few values, so that ids recur; or many, so that the last of a full list stands nowhere else
+    let spread = random.pick(&[64, 64, 1 << 20]);
     let ids: Vec<u64> = (0..count)
-        .map(|_| base.saturating_add(random.below(64)))
+        .map(|_| base.saturating_add(random.below(spread)))
         .collect();
     let listed = ids.get(random.place(count.max(1))).copied().unwrap_or(3);
     let last = ids.last().copied().unwrap_or(5);

@@ -1,7 +1,7 @@
 //! Times the library for hosts against plain Rust on the same bytes; run it by bench/host. Both sides answer every question alike
 //! before a clock starts.
 
-use sockhurdle::{Slot, Snapshot, Table, Txid, check_image};
+use sockhurdle::{Image, Slot, SnapshotRef, Txid, check_image};
 use std::collections::HashSet;
 use std::hint::black_box;
 use std::time::Instant;
@@ -81,11 +81,14 @@ fn lists() {
             asked.extend([("found first", *first), ("found last", *last)]);
         }
         for (kind, id) in asked {
-            let seen = Snapshot::of_bytes(xmax, &list);
+            let seen = SnapshotRef::of_bytes(xmax, &list);
             let ours = || black_box(seen).settled(Txid(black_box(id))) == Ok(true);
             let plain = || contains(black_box(xmax), black_box(&list), black_box(id)) == Ok(true);
             let (ours, plain) = race(10_000, ours, plain);
-            println!("| {name} | {kind} | {ours:.0} | {plain:.0} | {:.2} |", ours / plain);
+            println!(
+                "| {name} | {kind} | {ours:.0} | {plain:.0} | {:.2} |",
+                ours / plain
+            );
         }
     }
 }
@@ -93,7 +96,7 @@ fn lists() {
 fn images() {
     println!("| image | ours, µs | plain Rust, µs | ratio |");
     println!("|---|---|---|---|");
-    let mut half = Table::fresh();
+    let mut half = Image::fresh();
     half.clock = 10_000;
     let mut full = half.clone();
     for (place, slot) in full.slots.iter_mut().enumerate() {
@@ -107,13 +110,13 @@ fn images() {
     let mut twice = full.clone();
     twice.slots[SLOTS - 1] = twice.slots[0];
     let cases = [
-        ("empty, passes", Table::fresh()),
+        ("empty, passes", Image::fresh()),
         ("half full, passes", half),
         ("full, passes", full),
         ("full, the last txid is the first's", twice),
     ];
     for (name, table) in cases {
-        let image = table.image();
+        let image = table.bytes();
         let ours = || check_image(black_box(&image)) == Ok(true);
         let plain = || check(black_box(&image)) == Ok(true);
         let (ours, plain) = race(100, ours, plain);
