@@ -5,6 +5,7 @@ use kinds::SLOTS;
 use kinds::Verdict;
 ghost use mathlib.Core.Path.{_≡_};
 ghost use Rattle.kinds.specs.Refusals.{told};
+ghost use Rattle.image.specs.Lists.{countOf};
 ghost use Rattle.host_calls.specs.Answers.{yesOrNo, torn, settledAnswer, usableAnswer, checkAnswer};
 
 fn yes_or_no(yes: bool) -> u64
@@ -28,6 +29,13 @@ fn is_torn(list: &[u8]) -> bool
     list.len() % 8 != 0
 }
 
+// How many ids a list has, however long it is.
+fn count_of(list: &[u8]) -> usize
+    ensures { λ r. ⌜ r ≡ countOf (now (list .entry)) ⌝ }
+{
+    list.len() / 8
+}
+
 // The settled test on a list as it lies: no id is copied. Its refusals come in the order 18, 10, 4.
 fn settled_number(xmax: u64, list: &[u8], id: u64) -> u64
     ensures { λ r. do ⌜ r ≡ settledAnswer (← ⟦kinds::SLOTS⟧ .entry) xmax (now (list .entry)) id ⌝ }
@@ -35,7 +43,7 @@ fn settled_number(xmax: u64, list: &[u8], id: u64) -> u64
     if is_torn(list) {
         return number_of(Refusal::BadImage);
     }
-    if SLOTS < list.len() / 8 {
+    if SLOTS < count_of(list) {
         return number_of(Refusal::BadSnapshot);
     }
     if id == 0 {
