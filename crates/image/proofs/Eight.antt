@@ -7,19 +7,19 @@ use native.Mathlib.Omega.{arith}
 use lib.ListN.{length, getD, take, drop, length-drop}
 use lib.Seq.{drop-cons, take-at, length-take-le, getD-drop}
 use Rattle.kinds.specs.Kinds.{top}
-use Rattle.image.specs.Words.{numberOf, lowBytes, wordBytes, wordAt, Bytes}
+use Rattle.image.specs.Words.{byteBase, numberOf, lowBytes, wordBytes, wordAt, Bytes}
 
 pub bytes-length : (k x : ℕ) → length (lowBytes k x) ≡ k
 unfolding lowBytes
 bytes-length zero x = refl
-bytes-length (suc k) x = ap suc (bytes-length k (x / 256))
+bytes-length (suc k) x = ap suc (bytes-length k (x / byteBase))
 
-pub number-of-bytes : (k x : ℕ) → x < 256 ^ k → numberOf (lowBytes k x) ≡ x
+pub number-of-bytes : (k x : ℕ) → x < byteBase ^ k → numberOf (lowBytes k x) ≡ x
 unfolding numberOf lowBytes
 number-of-bytes zero x h = omega arith
 number-of-bytes (suc k) x h =
-    let below : x < 256 ^ k * 256 = rw (sym (pow-suc 256 k)) h in
-    let higher = number-of-bytes k (x / 256) (omega arith) in
+    let below : x < byteBase ^ k * byteBase = rw (sym (pow-suc byteBase k)) h in
+    let higher = number-of-bytes k (x / byteBase) (omega arith) in
     rw higher (omega arith)
 
 pub bytes-of-number : (bs : List ℕ) → Bytes bs → lowBytes (length bs) (numberOf bs) ≡ bs
@@ -27,9 +27,9 @@ unfolding numberOf lowBytes
 bytes-of-number [] h = refl
 bytes-of-number (b ∷ bs) h =
     let n = numberOf bs in
-    let byte : b < 256 = h 0 in
-    let least : (b + 256 * n) % 256 ≡ b = omega arith in
-    let others : (b + 256 * n) / 256 ≡ n = omega arith in
+    let byte : b < byteBase = h 0 in
+    let least : (b + byteBase * n) % byteBase ≡ b = omega arith in
+    let others : (b + byteBase * n) / byteBase ≡ n = omega arith in
     rw (least, others, bytes-of-number bs (λ i. h (suc i)))
 
 -- a number in front of other bytes is read as itself
@@ -58,7 +58,7 @@ bytes-there s at b h =
 -- reading the 8 bytes one after the other
 abbrev gathered : ℕ → List ℕ → ℕ → ℕ → ℕ
 gathered zero s at i = 0
-gathered (suc k) s at i = getD s (at + i) 0 + 256 * gathered k s at (suc i)
+gathered (suc k) s at i = getD s (at + i) 0 + byteBase * gathered k s at (suc i)
 
 gathers : (k : ℕ) (s : List ℕ) (at i : ℕ) → at + i + k ≤ length s → numberOf (take k (drop (at + i) s)) ≡ gathered k s at i
 unfolding numberOf
@@ -72,11 +72,11 @@ pub eight-bytes :
     (s : List ℕ) (at : ℕ) → at + 8 ≤ length s →
     wordAt s at
     ≡ getD s at 0
-    + 256 * (getD s (at + 1) 0
-    + 256 * (getD s (at + 2) 0
-    + 256 * (getD s (at + 3) 0
-    + 256 * (getD s (at + 4) 0
-    + 256 * (getD s (at + 5) 0 + 256 * (getD s (at + 6) 0 + 256 * getD s (at + 7) 0))))))
+    + byteBase * (getD s (at + 1) 0
+    + byteBase * (getD s (at + 2) 0
+    + byteBase * (getD s (at + 3) 0
+    + byteBase * (getD s (at + 4) 0
+    + byteBase * (getD s (at + 5) 0 + byteBase * (getD s (at + 6) 0 + byteBase * getD s (at + 7) 0))))))
 unfolding wordAt
 eight-bytes s at h =
     let e = rw (add-zero at) at (gathers 8 s at 0 (omega arith)) in

@@ -4,15 +4,19 @@ use mathlib.Core.List.{List, [], _∷_, _++_}
 use lib.ListN.{getD, take, drop}
 use Rattle.kinds.specs.Kinds.{top}
 
+-- how many values a byte has: two digits of sixteen
+abbrev pub byteBase : ℕ
+byteBase = 16 * 16
+
 -- the number that bytes say
 unfoldable pub numberOf : List ℕ → ℕ
 numberOf [] = 0
-numberOf (b ∷ bs) = b + 256 * numberOf bs
+numberOf (b ∷ bs) = b + byteBase * numberOf bs
 
 -- the k lowest bytes of a number
 unfoldable pub lowBytes : ℕ → ℕ → List ℕ
 lowBytes zero x = []
-lowBytes (suc k) x = x % 256 ∷ lowBytes k (x / 256)
+lowBytes (suc k) x = x % byteBase ∷ lowBytes k (x / byteBase)
 
 abbrev pub wordBytes : ℕ → List ℕ
 wordBytes x = lowBytes 8 x
@@ -32,7 +36,7 @@ wordsFrom (suc k) s from apart = wordAt s from ∷ wordsFrom k s (from + apart) 
 
 -- each of these is a byte; each of these is a number of 64 bits
 abbrev pub Bytes : List ℕ → Type 0
-Bytes s = (i : ℕ) → getD s i 0 < 256
+Bytes s = (i : ℕ) → getD s i 0 < byteBase
 
 abbrev pub Words : List ℕ → Type 0
 Words xs = (i : ℕ) → getD xs i 0 ≤ top

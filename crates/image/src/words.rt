@@ -2,18 +2,21 @@
 ghost use mathlib.Core.Path.{_≡_};
 ghost use Prim.Native.Nat.{ℕ, _+_, _*_, _≤_, _<_};
 ghost use lib.ListN.{length, getD};
-ghost use Rattle.image.specs.Words.{wordAt, wordsFrom};
+ghost use Rattle.image.specs.Words.{byteBase, wordAt, wordsFrom};
+
+// How many values a byte has: two digits of sixteen.
+const BASE: u64 = 16 * 16;
 
 // A byte as a wider number.
 fn byte_at(s: &[u8], i: usize) -> u64
     requires { ⌜ i < length (now s) ⌝ }
-    ensures { λ r. ⌜ (r ≡ getD (now (s .entry)) i 0) × (r < 256) ⌝ }
+    ensures { λ r. ⌜ (r ≡ getD (now (s .entry)) i 0) × (r < byteBase) ⌝ }
 {
     wide(s[i])
 }
 
 fn wide(byte: u8) -> u64
-    ensures { λ r. ⌜ (r ≡ byte) × (r < 256) ⌝ }
+    ensures { λ r. ⌜ (r ≡ byte) × (r < byteBase) ⌝ }
 {
     byte as u64
 }
@@ -31,7 +34,7 @@ pub fn word_at(s: &[u8], at: usize) -> u64
     let f = byte_at(s, at + 5);
     let g = byte_at(s, at + 6);
     let h = byte_at(s, at + 7);
-    a + 256 * (b + 256 * (c + 256 * (d + 256 * (e + 256 * (f + 256 * (g + 256 * h))))))
+    a + BASE * (b + BASE * (c + BASE * (d + BASE * (e + BASE * (f + BASE * (g + BASE * h))))))
 }
 
 // Fills a run with numbers: the first at `from`, each `apart` bytes after the one before it.
