@@ -61,7 +61,7 @@ module _ (n : ℕ) (t : Table) where
             at < n →
             inSlot (plainly (acceptedWith at (number .0)) (lineOf t)) at (number .0) (number .0) k ≡ didBy n t (begin number)
         unfolding refusal changeAccepted changeOf answerAccepted answer shownAccepted shown noSnapshot numbersOf tellsOf xminTold
-          holderTold didBy
+            holderTold didBy
         begin-free h = rw (moved, low, passed, lt-leb n (lowestEmpty (t .txids)) (rw low at h))
 
         -- 1: the number is spent all the same

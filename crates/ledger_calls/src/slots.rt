@@ -28,11 +28,11 @@ pub fn begun(txids: &[u64], was: Counters, given: u64) -> Did
         return refused(told, was);
     }
     let free = ledger_scans::lowest_free(txids);
-    let counters = past(was, given);
+    let spent = past(was, given);
     if free < SLOTS {
         let entered = accepted(free as u64, given);
         let numbers = plain(entered, was.vacuum_line);
-        return in_slot(numbers, free, given, given, counters);
+        return in_slot(numbers, free, given, given, spent);
     }
     let full = Told {
         number: 1,
@@ -42,7 +42,7 @@ pub fn begun(txids: &[u64], was: Counters, given: u64) -> Did
         at: 0,
     };
     let numbers = plain(full, was.vacuum_line);
-    stays(numbers, counters)
+    stays(numbers, spent)
 }
 
 // The slot becomes (0, 0).

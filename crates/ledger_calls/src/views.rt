@@ -108,13 +108,7 @@ pub fn vacuumed<'a>(
 }
 
 // A pinned snapshot is taken with the larger of sample and line, and the lowest free pin holds its xmin.
-pub fn pinned<'a>(
-    txids: &'a [u64],
-    pins: &'a [u64],
-    was: Counters,
-    clock: u64,
-    sample: u64,
-) -> Did
+pub fn pinned<'a>(txids: &'a [u64], pins: &'a [u64], was: Counters, clock: u64, sample: u64) -> Did
     ensures { λ r. do
       n ← ⟦kinds::SLOTS⟧ .entry
       ⌜ ((xmins : List ℕ) → r ≡ didBy n (lent (now (txids .entry)) xmins (now (pins .entry)) was) (pin clock sample)) ⌝ }

@@ -103,7 +103,7 @@ module _ (txids xmins pins : List ℕ) (sample : ℕ) where
       λ k. record {
         xmin = oldest-found k;
         holder =
-        (holder-found ∙ ap (λ (x : ℕ). holderOf txids xmins x (pinHolderOf pins x)) oldest-found) k;
+            (holder-found ∙ ap (λ (x : ℕ). holderOf txids xmins x (pinHolderOf pins x)) oldest-found) k;
       }
 
 -- the walk: before its first place nothing is found, and a place is one step

@@ -25,6 +25,6 @@ heldOf txids xmins pins sample =
     record {
       xmin = oldestAmong txids xmins pins sample;
       holder =
-      holderOf txids xmins (oldestAmong txids xmins pins sample)
-      (pinHolderOf pins (oldestAmong txids xmins pins sample));
+          holderOf txids xmins (oldestAmong txids xmins pins sample)
+          (pinHolderOf pins (oldestAmong txids xmins pins sample));
     }

@@ -24,7 +24,7 @@ told-requires-3 c κs = search needs
 
 returns-3 : tie.Need-returns-3
 unfolding told
-returns-3 c = 
+returns-3 c =
     let b = c .before .before in
     rw (le-ltb _ _ (b .before .if1 .left), ne-eqb _ _ (b .if2 .left), lt-ltb _ _ (c .before .if3 .taken)) (c .told3 .ensures)
 
@@ -33,7 +33,7 @@ told-requires-4 c κs = search needs
 
 returns-4 : tie.Need-returns-4
 unfolding told
-returns-4 c = 
+returns-4 c =
     let b = c .before .before in
     rw (le-ltb _ _ (b .before .if1 .left), ne-eqb _ _ (b .if2 .left), le-ltb _ _ (c .before .if3 .left)) (c .told4 .ensures)
 

@@ -28,7 +28,7 @@ told-requires-3 c κs = search needs
 
 returns-3 : tie.Need-returns-3
 unfolding told
-returns-3 c = 
+returns-3 c =
     let read = c .before .before in
     let b = read .before in
     let held = sym (read .number-at .ensures) ∙ c .before .if3 .taken in
@@ -39,7 +39,7 @@ told-requires-4 c κs = search needs
 
 returns-4 : tie.Need-returns-4
 unfolding told
-returns-4 c = 
+returns-4 c =
     let read = c .before .before in
     let b = read .before in
     let other = ne-eqb _ _ (λ z. c .before .if3 .left (read .number-at .ensures ∙ z)) in

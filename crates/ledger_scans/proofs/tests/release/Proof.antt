@@ -21,7 +21,7 @@ told-requires-2 c κs = search needs
 
 returns-2 : tie.Need-returns-2
 unfolding told
-returns-2 c = 
+returns-2 c =
     let read = c .before .before in
     rw (lt-leb _ _ (read .before .if1 .left), eq-eqb _ _ (sym (read .number-at .ensures) ∙ c .before .if2 .taken)) (c .told2 .ensures)
 
@@ -30,7 +30,7 @@ told-requires-3 c κs = search needs
 
 returns-3 : tie.Need-returns-3
 unfolding told
-returns-3 c = 
+returns-3 c =
     let read = c .before .before in
     rw (lt-leb _ _ (read .before .if1 .left), ne-eqb _ _ (λ z. c .before .if2 .left (read .number-at .ensures ∙ z)))
     (c .told3 .ensures)

@@ -27,7 +27,7 @@ told-requires-3 c κs = search needs
 
 returns-3 : tie.Need-returns-3
 unfolding told
-returns-3 c = 
+returns-3 c =
     let b = c .before .before in
     rw (lt-leb _ _ (b .before .if1 .left), ne-eqb _ _ (b .if2 .left), lt-ltb _ _ (c .before .if3 .taken)) (c .told3 .ensures)
 
@@ -36,7 +36,7 @@ told-requires-4 c κs = search needs
 
 returns-4 : tie.Need-returns-4
 unfolding told
-returns-4 c = 
+returns-4 c =
     let d = c .before .before in
     let b = d .before in
     rw (lt-leb _ _ (b .before .if1 .left), ne-eqb _ _ (b .if2 .left), le-ltb _ _ (d .if3 .left), le-leb _ _ (c .before .if4 .taken))
@@ -47,7 +47,7 @@ told-requires-5 c κs = search needs
 
 returns-5 : tie.Need-returns-5
 unfolding told
-returns-5 c = 
+returns-5 c =
     let e = c .before .before in
     let d = e .before in
     let b = d .before in
@@ -67,7 +67,7 @@ told-requires-6 c κs = search needs
 
 returns-6 : tie.Need-returns-6
 unfolding told
-returns-6 c = 
+returns-6 c =
     let e = c .before .before in
     let d = e .before in
     let b = d .before in
