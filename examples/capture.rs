@@ -8,13 +8,15 @@ use std::hint::black_box;
 use std::time::Instant;
 
 /// The ops in the order of docs/TRACE.md, numbered from 1, as `trace_writer` has them.
-const OPS: [&str; 8] = [
-    "begin", "end", "snap", "own", "oldest", "vacuum", "stamp", "finish",
+const OPS: [&str; 10] = [
+    "begin", "end", "snap", "own", "oldest", "vacuum", "stamp", "finish", "pin", "unpin",
 ];
 const BEGIN: u64 = 1;
 const OWN: u64 = 4;
 const VACUUM: u64 = 6;
 const FINISH: u64 = 8;
+const PIN: u64 = 9;
+const UNPIN: u64 = 10;
 
 /// No trace has more records.
 const MOST: usize = 1_489;
@@ -41,7 +43,7 @@ impl Capture {
 
     /// Outside the lock. Six lines a call, as long as they have room in a trace.
     fn text(&self) -> String {
-        let mut text = String::from("trace=proc-2\n");
+        let mut text = String::from("trace=proc-3\n");
         for &[op, slot, id, stamp, clock, sample] in &self.calls {
             let whole = text.len();
             let op = OPS[op as usize - 1];
@@ -63,13 +65,17 @@ fn main() {
     if std::env::args().nth(1).as_deref() == Some("--time") {
         return time(&mut capture);
     }
-    // A page is registered and takes its snapshot, a re-encode comes and goes, and the vacuum asks twice.
+    // A page is registered and takes its snapshot, a window page pins one, a re-encode comes and goes; then the pages go,
+    // and the vacuum asks each time.
     capture.keep([BEGIN, 0, 0, 1, 0, 0]);
     capture.keep([OWN, 0, 1, 0, 2, 2]);
+    capture.keep([PIN, 0, 0, 0, 2, 2]);
     capture.keep([BEGIN, 0, 0, 2, 0, 0]);
     capture.keep([FINISH, 1, 2, 3, 0, 0]);
     capture.keep([VACUUM, 0, 0, 0, 4, 4]);
     capture.keep([FINISH, 0, 1, 4, 0, 0]);
+    capture.keep([VACUUM, 0, 0, 0, 5, 5]);
+    capture.keep([UNPIN, 0, 0, 0, 0, 0]);
     capture.keep([VACUUM, 0, 0, 0, 5, 5]);
     print!("{}", capture.text());
 }

@@ -1,20 +1,21 @@
 //! Why a line breaks a rule of its text. Which line it is the library says; nothing here decides whether it breaks.
 
 /// A text of items of six lines: the word and the versions of line 1, what an item is called, its first key, its kinds with
-/// the fields that each reads, and its fourth key.
+/// the fields that each reads, those of them that one version alone has, and its fourth key.
 struct Items {
     text: &'static str,
     versions: &'static [&'static str],
     item: &'static str,
     key: &'static str,
     kinds: &'static [(&'static str, &'static [&'static str])],
+    only: &'static [(&'static str, &'static str)],
     fourth: &'static str,
     rules: &'static str,
 }
 
 const TRACE: Items = Items {
     text: "trace",
-    versions: &["proc-1", "proc-2"],
+    versions: &["proc-1", "proc-2", "proc-3"],
     item: "record",
     key: "op",
     kinds: &[
@@ -26,7 +27,10 @@ const TRACE: Items = Items {
         ("vacuum", &["clock", "sample"]),
         ("stamp", &["stamp"]),
         ("finish", &["slot", "id", "stamp"]),
+        ("pin", &["clock", "sample"]),
+        ("unpin", &["slot"]),
     ],
+    only: &[("pin", "proc-3"), ("unpin", "proc-3")],
     fourth: "stamp",
     rules: "docs/TRACE.md",
 };
@@ -43,6 +47,7 @@ const WAIT: Items = Items {
         ("reserve", &["id"]),
         ("observe", &["clock", "sample"]),
     ],
+    only: &[],
     fourth: "xmin",
     rules: "SPEC 16.1",
 };
@@ -185,14 +190,15 @@ impl Items {
         let expected = format!("`{key}=` of {} {}", self.item, (line - 2) / 6 + 1);
         Line::of(text, line).why(text, &expected, |found| {
             if place == 0 {
-                self.name(found)
+                self.name(found, Line::of(text, 1).found)
             } else {
                 self.field(found, key, Line::of(text, line - place).found)
             }
         })
     }
 
-    fn name(&self, found: &[u8]) -> String {
+    /// The name of an item under the first line `header`.
+    fn name(&self, found: &[u8], header: &[u8]) -> String {
         let Some(name) = value(found, self.key) else {
             return other_key(found, self.key);
         };
@@ -206,7 +212,16 @@ impl Items {
         {
             return space(name);
         }
-        let names: Vec<&str> = self.kinds.iter().map(|(name, _)| *name).collect();
+        let version = |kind: &[u8]| {
+            let mut only = self.only.iter();
+            only.find(|(name, _)| name.as_bytes() == kind)
+                .map(|(_, version)| format!("{}={version}", self.text))
+        };
+        if let Some(header) = version(name) {
+            return format!("this {} stands under `{header}` alone", self.key);
+        }
+        let mut names: Vec<&str> = self.kinds.iter().map(|(name, _)| *name).collect();
+        names.retain(|name| version(name.as_bytes()).is_none_or(|it| it.as_bytes() == header));
         format!(
             "no {} has this name; they are {}",
             self.key,
@@ -243,7 +258,10 @@ fn first_line(text: &[u8], word: &str, versions: &[&str]) -> String {
         .map(|version| format!("{word}={version}"))
         .collect();
     let near = |found: &[u8], right: &[u8]| found.starts_with(right) || found.trim_ascii() == right;
-    let expected = format!("`{}`", headers.join("` or `"));
+    let expected = match headers.as_slice() {
+        [first @ .., last] if !first.is_empty() => format!("`{}` or `{last}`", first.join("`, `")),
+        _ => format!("`{}`", headers.join("")),
+    };
     Line::of(text, 1).why(text, &expected, |found| {
         let mut rights = headers.iter().map(String::as_bytes);
         if found.starts_with(b"\xef\xbb\xbf") {

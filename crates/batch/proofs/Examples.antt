@@ -5,7 +5,7 @@ use mathlib.Core.Path.{_≡_, refl}
 use mathlib.Core.Bool.{true, false}
 use mathlib.Core.List.{List, [], _∷_, _++_}
 use mathlib.Core.Option.{some}
-use Rattle.kinds.specs.Kinds.{number, slot, txid}
+use Rattle.kinds.specs.Kinds.{freePins, number, slot, txid}
 use Rattle.settled.specs.declared.Snapshot.{Snapshot}
 use Rattle.settled.specs.Settled.{listed, settledIn}
 use Rattle.settled.specs.Usable.{usableIn}
@@ -31,12 +31,12 @@ abbrev pageSnapshot : Snapshot
 pageSnapshot = record { xmin = 2; xmax = 4; ids = 2 ∷ 3 ∷ []; count = 2 }
 
 pub page-taken : (lastOwn 2 (slot 1) (txid 3) untilPage ≡ some pageSnapshot) × (lineAfter 2 untilPage ≡ 2)
-unfolding freshTable run active retained holderFrom lowestEmpty minimum maximum refusal changeAccepted changeOf after snapshotOf
+unfolding freePins freshTable run active retained holderFrom lowestEmpty minimum maximum refusal changeAccepted changeOf after snapshotOf
     shownAccepted shown lastFrom
 page-taken = (refl, refl)
 
 page-registered : Registered (reached 2 untilPage) (slot 1) (txid 3)
-unfolding freshTable run active retained holderFrom lowestEmpty minimum maximum refusal changeAccepted changeOf after
+unfolding freePins freshTable run active retained holderFrom lowestEmpty minimum maximum refusal changeAccepted changeOf after
 page-registered = record { not-zero = λ e. omega arith; holds = refl }
 
 pub page-covered : Covered 2 untilPage pageSnapshot
@@ -69,7 +69,7 @@ abbrev laterSnapshot : Snapshot
 laterSnapshot = record { xmin = 3; xmax = 4; ids = 3 ∷ 0 ∷ []; count = 1 }
 
 pub given-up-taken : (lastOwn 2 (slot 0) (txid 3) untilGivenUp ≡ some laterSnapshot) × (lineAfter 2 untilGivenUp ≡ 3)
-unfolding freshTable run active retained holderFrom lowestEmpty minimum maximum refusal changeAccepted changeOf after snapshotOf
+unfolding freePins freshTable run active retained holderFrom lowestEmpty minimum maximum refusal changeAccepted changeOf after snapshotOf
     shownAccepted shown lastFrom
 given-up-taken = (refl, refl)
 

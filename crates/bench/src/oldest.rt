@@ -19,7 +19,14 @@ pub fn lent(layout: u64, rounds: u64) -> u64 {
     while i < rounds {
         i += 1;
         let clock = kinds::saturating_next(t.counters.clock);
-        let decided = table::decide_oldest(&t.txids, &t.snapshot_xmins, t.counters, clock, clock);
+        let decided = table::decide_oldest(
+            &t.txids,
+            &t.snapshot_xmins,
+            &t.pins,
+            t.counters,
+            clock,
+            clock,
+        );
         let answer = decided.answer;
         let change = decided.change;
         let now = change.counters;

@@ -5,5 +5,6 @@ mod store;
 pub use counters::observed;
 pub use counters::reserved;
 pub use store::apply;
+pub use store::store_pin;
 pub use store::store_txid;
 pub use store::store_xmin;

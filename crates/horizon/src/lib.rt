@@ -1,4 +1,5 @@
 // The two calls that look for the oldest retained xmin: one answers it, one raises the vacuum line to it. Both name who holds it.
+mod found;
 mod oldest;
 mod vacuum_line;
 
@@ -6,6 +7,3 @@ pub use oldest::decide_oldest;
 pub use oldest::oldest_snapshot_xmin;
 pub use vacuum_line::decide_vacuum;
 pub use vacuum_line::vacuum;
-
-// The holder where no taken slot retains what was found.
-const NOBODY: u64 = 65535;

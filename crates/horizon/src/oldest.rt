@@ -1,5 +1,7 @@
-// The oldest retained xmin: the smallest of sample and the snapshot_xmin of taken slots, after the observation; and who holds it.
-use crate::NOBODY;
+// The oldest retained xmin: the smallest of sample, the snapshot_xmin of taken slots and the taken pins, after the observation;
+// and who holds it.
+use crate::found::holder_of;
+use crate::found::oldest_of;
 use kinds::Verdict;
 use model::Answer;
 use model::Change;
@@ -16,13 +18,14 @@ ghost use Rattle.model.specs.Calls.{oldest, decision, outcome};
 pub fn decide_oldest<'a>(
     txids: &'a [u64],
     xmins: &'a [u64],
+    pins: &'a [u64],
     was: Counters,
     clock: u64,
     sample: u64,
 ) -> Decision
     ensures { λ r. do
       n ← ⟦kinds::SLOTS⟧ .entry
-      ⌜ r ≡ decision n (lent (now (txids .entry)) (now (xmins .entry)) was) (oldest clock sample) ⌝ }
+      ⌜ r ≡ decision n (lent (now (txids .entry)) (now (xmins .entry)) (now (pins .entry)) was) (oldest clock sample) ⌝ }
 {
     let verdict = verdicts::observation_test(was.clock, clock, sample);
     match verdict {
@@ -34,8 +37,8 @@ pub fn decide_oldest<'a>(
             answer: Answer::Refused(r),
         },
         Verdict::Pass => {
-            let xmin = scans::oldest_retained(txids, xmins, sample);
-            let holder = scans::lowest_holder(txids, xmins, xmin, NOBODY);
+            let xmin = oldest_of(txids, xmins, pins, sample);
+            let holder = holder_of(txids, xmins, pins, xmin);
             let counters = changes::observed(was, clock, sample);
             Decision {
                 change: Change {
@@ -53,7 +56,14 @@ pub fn oldest_snapshot_xmin(table: Table, clock: u64, sample: u64) -> Outcome
     ensures { λ r. do ⌜ r ≡ outcome (← ⟦kinds::SLOTS⟧ .entry) table (oldest clock sample) ⌝ }
 {
     let was = table.counters;
-    let decided = decide_oldest(&table.txids, &table.snapshot_xmins, was, clock, sample);
+    let decided = decide_oldest(
+        &table.txids,
+        &table.snapshot_xmins,
+        &table.pins,
+        was,
+        clock,
+        sample,
+    );
     let change = decided.change;
     let answer = decided.answer;
     let next = changes::apply(table, change);

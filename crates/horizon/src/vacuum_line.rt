@@ -1,5 +1,6 @@
 // Vacuum: what oldest finds, and whom it names; then the line is the larger of the former line and what was found.
-use crate::NOBODY;
+use crate::found::holder_of;
+use crate::found::oldest_of;
 use kinds::Verdict;
 use model::Answer;
 use model::Change;
@@ -16,13 +17,14 @@ ghost use Rattle.model.specs.Calls.{vacuum, decision, outcome};
 pub fn decide_vacuum<'a>(
     txids: &'a [u64],
     xmins: &'a [u64],
+    pins: &'a [u64],
     was: Counters,
     clock: u64,
     sample: u64,
 ) -> Decision
     ensures { λ r. do
       n ← ⟦kinds::SLOTS⟧ .entry
-      ⌜ r ≡ decision n (lent (now (txids .entry)) (now (xmins .entry)) was) (vacuum clock sample) ⌝ }
+      ⌜ r ≡ decision n (lent (now (txids .entry)) (now (xmins .entry)) (now (pins .entry)) was) (vacuum clock sample) ⌝ }
 {
     let verdict = verdicts::observation_test(was.clock, clock, sample);
     match verdict {
@@ -34,9 +36,9 @@ pub fn decide_vacuum<'a>(
             answer: Answer::Refused(r),
         },
         Verdict::Pass => {
-            let xmin = scans::oldest_retained(txids, xmins, sample);
+            let xmin = oldest_of(txids, xmins, pins, sample);
             let line = kinds::greater(was.vacuum_line, xmin);
-            let holder = scans::lowest_holder(txids, xmins, xmin, NOBODY);
+            let holder = holder_of(txids, xmins, pins, xmin);
             Decision {
                 change: Change {
                     slot: SlotChange::Stays,
@@ -57,7 +59,14 @@ pub fn vacuum(table: Table, clock: u64, sample: u64) -> Outcome
     ensures { λ r. do ⌜ r ≡ outcome (← ⟦kinds::SLOTS⟧ .entry) table (vacuum clock sample) ⌝ }
 {
     let was = table.counters;
-    let decided = decide_vacuum(&table.txids, &table.snapshot_xmins, was, clock, sample);
+    let decided = decide_vacuum(
+        &table.txids,
+        &table.snapshot_xmins,
+        &table.pins,
+        was,
+        clock,
+        sample,
+    );
     let change = decided.change;
     let answer = decided.answer;
     let next = changes::apply(table, change);

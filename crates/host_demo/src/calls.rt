@@ -18,6 +18,7 @@ pub fn value(called: Outcome) -> u64 {
         Answer::Done => 0,
         Answer::Stamped(_) => 0,
         Answer::Refused(_) => 0,
+        Answer::Pinned(_) => 0,
     }
 }
 

@@ -3,7 +3,7 @@
 use Prim.Native.Nat.{ℕ}
 use mathlib.Core.Path.{_≡_, refl}
 use mathlib.Core.List.{List, [], _∷_, _++_}
-use Rattle.kinds.specs.Kinds.{number, slot, txid}
+use Rattle.kinds.specs.Kinds.{freePins, number, slot, txid}
 use Rattle.kinds.specs.declared.refusal.Verdict.the-variants.{Pass}
 use Rattle.settled.specs.Settled.{listed}
 use Rattle.model.specs.declared.Table.{Table}
@@ -12,7 +12,7 @@ use Rattle.model.specs.Tables.{counted, lent, freshTable}
 use Rattle.model.specs.Calls.{Call, begin, end, snap, own, oldest, vacuum, stamp, finish, refusal, changeAccepted, changeOf, after}
 use Rattle.model.specs.History.{run, reached}
 use Rattle.model.specs.Reservations.{reservationsFrom}
-use Rattle.model.specs.Check.{slotsPass, differ, passes}
+use Rattle.model.specs.Check.{slotsPass, differ, pinsPass, passes}
 use Rattle.text.specs.Decimal.{numberTail, numberFrom, numberAt}
 use Rattle.text.specs.Bytes.{bytes, starts}
 use Rattle.text.specs.Line.{fieldAt, linesAt}
@@ -37,15 +37,15 @@ abbrev twoBegins : List Call
 twoBegins = begin (number 4) ∷ begin (number 7) ∷ []
 
 abbrev entry : Table
-entry = lent (4 ∷ 7 ∷ 0 ∷ []) (4 ∷ 7 ∷ 0 ∷ []) (counted 8 1 1)
+entry = lent (4 ∷ 7 ∷ 0 ∷ []) (4 ∷ 7 ∷ 0 ∷ []) freePins (counted 8 1 1)
 
 pub entry-reached : reached 3 twoBegins ≡ entry
-unfolding run refusal changeAccepted changeOf after freshTable lowestEmpty
+unfolding run refusal changeAccepted changeOf after freePins freshTable lowestEmpty
 entry-reached = refl
 
 -- the history that fits it
 pub entry-history : HistoryOf (stateOf entry (4 ∷ 7 ∷ []))
-unfolding run refusal changeAccepted changeOf after freshTable lowestEmpty reservationsFrom
+unfolding run refusal changeAccepted changeOf after freePins freshTable lowestEmpty reservationsFrom
 entry-history = from-fresh 3 twoBegins .history
 
 -- the transaction 7 ended, 9 entered slot 2
@@ -60,24 +60,24 @@ first = Holds (slot 0) (txid 4)
 
 -- an owner's wait, and nobody's, are accepted, with the table at their end ..
 pub owner-accepted :
-    waitOf 3 entry first text ≡ record { table = lent (4 ∷ 0 ∷ 9 ∷ []) (4 ∷ 0 ∷ 9 ∷ []) (counted 10 1 1); verdict = Pass }
+    waitOf 3 entry first text ≡ record { table = lent (4 ∷ 0 ∷ 9 ∷ []) (4 ∷ 0 ∷ 9 ∷ []) freePins (counted 10 1 1); verdict = Pass }
 unfolding
-    waitOf verdictOn stepsFrom ended eventTest ruleOf registerRule endRule eventChange changeBy passes slotsPass differ
+    waitOf verdictOn stepsFrom ended eventTest ruleOf registerRule endRule eventChange changeBy passes slotsPass differ freePins pinsPass
     listed readText nameAt firstNamed nameLine foundFrom foundIn itemAt fieldsAt fieldRules limit
     linesAt fieldAt numberAt numberFrom numberTail starts
 owner-accepted = refl
 
 pub nobody-accepted :
-    waitOf 3 entry Nobody text ≡ record { table = lent (4 ∷ 0 ∷ 9 ∷ []) (4 ∷ 0 ∷ 9 ∷ []) (counted 10 1 1); verdict = Pass }
+    waitOf 3 entry Nobody text ≡ record { table = lent (4 ∷ 0 ∷ 9 ∷ []) (4 ∷ 0 ∷ 9 ∷ []) freePins (counted 10 1 1); verdict = Pass }
 unfolding
-    waitOf verdictOn stepsFrom ended eventTest ruleOf registerRule endRule eventChange changeBy passes slotsPass differ
+    waitOf verdictOn stepsFrom ended eventTest ruleOf registerRule endRule eventChange changeBy passes slotsPass differ freePins pinsPass
     listed readText nameAt firstNamed nameLine foundFrom foundIn itemAt fieldsAt fieldRules limit
     linesAt fieldAt numberAt numberFrom numberTail starts
 nobody-accepted = refl
 
 -- .. and so are the calls after it: a begin with 12, an end, a transaction snapshot
 abbrev over : Table
-over = lent (4 ∷ 0 ∷ 9 ∷ []) (4 ∷ 0 ∷ 9 ∷ []) (counted 10 1 1)
+over = lent (4 ∷ 0 ∷ 9 ∷ []) (4 ∷ 0 ∷ 9 ∷ []) freePins (counted 10 1 1)
 
 record After : Type 0 where
   begins : refusal 3 over (begin (number 12)) ≡ Pass
@@ -90,7 +90,7 @@ after-it = record { begins = refl; is-ended = refl; is-shown = refl }
 
 -- each call of another is told by its events, while 4 waits; on the full table, where slot 2 holds 9, a begin is a reserve
 abbrev full : Table
-full = lent (4 ∷ 7 ∷ 9 ∷ []) (4 ∷ 7 ∷ 9 ∷ []) (counted 10 1 1)
+full = lent (4 ∷ 7 ∷ 9 ∷ []) (4 ∷ 7 ∷ 9 ∷ []) freePins (counted 10 1 1)
 
 record EachTold : Type 0 where
   begun : Tells 3 first entry (begin (number 9)) (registers 2 9 ∷ [])

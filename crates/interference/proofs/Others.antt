@@ -1,5 +1,5 @@
--- What our calls do during a wait is upstream's trace too; and a vacuum that raises the line is told by no events at all, but
--- an observe tells all of it but the line.
+-- What our calls do during a wait is upstream's trace too; and a vacuum that raises the line is told by no events at all, nor is
+-- a pinned snapshot or a release, but an observe tells all of a vacuum but the line, and of a pinned snapshot all but the pin.
 use Prim.Native.Nat.{ℕ}
 use mathlib.Core.Path.{_≡_, sym, ap, _∙_}
 use mathlib.Core.Logic.{_≢_}
@@ -10,7 +10,7 @@ use Rattle.model.specs.Calls.{Call, vacuum, raisedLine, changeAccepted, changeO
 use Rattle.model.specs.Facts.{Good}
 use Rattle.model.specs.History.{Accepts}
 use Rattle.upstream.specs.States.{stateOf}
-use Rattle.upstream.proofs.Yes.{atLine}
+use Rattle.upstream.proofs.Yes.{beside}
 use Rattle.events.specs.declared.Event.{Event}
 use Rattle.wait.specs.declared.Owner.{Owner}
 use Rattle.wait.specs.Steps.{changeBy, eventChange}
@@ -35,6 +35,6 @@ vacuum-untold n t clock sample es a d e =
 
 -- .. but an observe leaves it, with the former line
 pub vacuum-observed : (n : ℕ) (t : Table) (clock sample : ℕ) → Accepts n t (vacuum clock sample)
-    → ended t (observesClock clock sample ∷ []) ≡ atLine (lineOf t) (after n t (vacuum clock sample))
+    → ended t (observesClock clock sample ∷ []) ≡ beside (t .pins) (lineOf t) (after n t (vacuum clock sample))
 unfolding ended eventChange changeBy after changeOf changeAccepted
 vacuum-observed n t clock sample a = rw a

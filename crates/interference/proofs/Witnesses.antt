@@ -5,12 +5,13 @@ use mathlib.Core.Path.{_≡_, refl}
 use mathlib.Core.Logic.{_≢_}
 use mathlib.Core.Bool.{false}
 use mathlib.Core.List.{List, [], _∷_}
+use Rattle.kinds.specs.Kinds.{freePins}
 use Rattle.settled.specs.Settled.{listed}
 use Rattle.model.specs.declared.Table.{Table}
 use Rattle.model.specs.Tally.{active, minimum, retained}
 use Rattle.model.specs.Tables.{counted, lent}
 use Rattle.model.specs.Calls.{vacuum, refusal, after}
-use Rattle.model.specs.Check.{slotsPass, differ, passes, tablePasses}
+use Rattle.model.specs.Check.{slotsPass, differ, pinsPass, passes, tablePasses}
 use Rattle.upstream.specs.States.{State, stateOf}
 use Rattle.upstream.specs.Relations.{TableOf}
 use Rattle.upstream.proofs.Yes.{from-yes}
@@ -24,7 +25,7 @@ use Rattle.interference.specs.Interference.{Register, End, Horizon, Obse
 use Rattle.interference.proofs.Others.{vacuum-untold}
 
 abbrev entry : Table
-entry = lent (1 ∷ 2 ∷ []) (1 ∷ 1 ∷ []) (counted 3 3 1)
+entry = lent (1 ∷ 2 ∷ []) (1 ∷ 1 ∷ []) freePins (counted 3 3 1)
 
 -- slot 1 may retain 2, its own id, by upstream's rule; by ours no more than 1, the least active id
 pub own-id-allowed : WaitStep (stateOf entry []) (stateOf (eventAfter entry (retains 1 2)) []) (Horizon 1 2)
@@ -46,7 +47,7 @@ unfolding eventTest ruleOf horizonRule active minimum
 own-id-refused = refl
 
 -- upstream's horizon may move clock and sample, here from 3 and 3 to 9 and 7; ours moves neither, on any table
-pub horizon-and-clock : WaitStep (stateOf entry []) (stateOf (lent (1 ∷ 2 ∷ []) (1 ∷ 1 ∷ []) (counted 9 7 1)) []) (Horizon 1 1)
+pub horizon-and-clock : WaitStep (stateOf entry []) (stateOf (lent (1 ∷ 2 ∷ []) (1 ∷ 1 ∷ []) freePins (counted 9 7 1)) []) (Horizon 1 1)
 horizon-and-clock =
     record {
       inside = omega arith;
@@ -65,7 +66,7 @@ horizon-alone t i xmin = refl
 
 -- upstream's observe says neither clock nor sample: two ends of one step
 abbrev observedAt : ℕ → State
-observedAt clock = stateOf (lent (1 ∷ 2 ∷ []) (1 ∷ 1 ∷ []) (counted clock 3 1)) []
+observedAt clock = stateOf (lent (1 ∷ 2 ∷ []) (1 ∷ 1 ∷ []) freePins (counted clock 3 1)) []
 
 pub observe-stays : WaitStep (stateOf entry []) (observedAt 3) Observe
 observe-stays =
@@ -77,7 +78,7 @@ observe-moves =
 
 -- number 0 on a table of clock 0, which passes no check: upstream registers it, ours doesn't
 abbrev unset : Table
-unset = lent (0 ∷ []) (0 ∷ []) (counted 0 0 0)
+unset = lent (0 ∷ []) (0 ∷ []) freePins (counted 0 0 0)
 
 pub zero-allowed : WaitStep (stateOf unset []) (stateOf (eventAfter unset (registers 0 0)) (0 ∷ [])) (Register 0 0)
 unfolding eventChange changeBy
@@ -103,20 +104,20 @@ outside-disallowed b s = let h = s .inside in omega arith
 
 -- slot 0 holds 1 and the line is 2: upstream has no line and its part on slots and clocks holds; the entry table is refused by 21
 abbrev pastLine : Table
-pastLine = lent (1 ∷ []) (1 ∷ []) (counted 3 3 2)
+pastLine = lent (1 ∷ []) (1 ∷ []) freePins (counted 3 3 2)
 
 pub past-line-formed : TableOf 1 (stateOf pastLine [])
-unfolding passes slotsPass differ listed
-past-line-formed = from-yes 1 (lent (1 ∷ []) (1 ∷ []) (counted 3 3 1)) refl .table
+unfolding passes slotsPass differ freePins pinsPass listed
+past-line-formed = from-yes 1 (lent (1 ∷ []) (1 ∷ []) freePins (counted 3 3 1)) refl .table
 
 pub past-line-refused : tablePasses 1 pastLine ≡ false
-unfolding passes slotsPass differ listed
+unfolding passes slotsPass differ freePins pinsPass listed
 past-line-refused = refl
 
 -- a vacuum that raises the line from 1 to 2: no events leave its table
 abbrev behind : Table
-behind = lent (2 ∷ []) (2 ∷ []) (counted 3 3 1)
+behind = lent (2 ∷ []) (2 ∷ []) freePins (counted 3 3 1)
 
 pub raised-untold : (es : List Event) → ended behind es ≢ after 1 behind (vacuum 3 3)
-unfolding refusal retained minimum
+unfolding refusal retained freePins active minimum
 raised-untold es = vacuum-untold 1 behind 3 3 es refl (λ e. omega arith)

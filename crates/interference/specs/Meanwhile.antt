@@ -4,7 +4,7 @@ use mathlib.Core.Path.{_≡_}
 use mathlib.Core.Bool.{true}
 use mathlib.Core.List.{List, [], _∷_}
 use Rattle.model.specs.declared.Table.{Table}
-use Rattle.model.specs.Calls.{Call, begin, end, snap, own, oldest, vacuum, stamp, finish, after}
+use Rattle.model.specs.Calls.{Call, begin, end, snap, own, oldest, vacuum, stamp, finish, pin, unpin, after}
 use Rattle.model.specs.History.{Accepts}
 use Rattle.wait.specs.declared.Owner.{Owner}
 use Rattle.wait.specs.Steps.{notOwned}
@@ -19,6 +19,8 @@ Elsewhere owner (oldest clock sample) = Unit
 Elsewhere owner (vacuum clock sample) = Unit
 Elsewhere owner (stamp number) = Unit
 Elsewhere owner (finish slot id number) = notOwned owner (slot .0) ≡ true
+Elsewhere owner (pin clock sample) = Unit
+Elsewhere owner (unpin k) = Unit
 
 -- the calls, made on t one after the other, are elsewhere where they are accepted
 pub data Meanwhile (n : ℕ) (owner : Owner) : Table → List Call → Type 0 where

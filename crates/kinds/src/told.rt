@@ -3,7 +3,7 @@ use crate::Refusal;
 ghost use mathlib.Core.Path.{_≡_};
 ghost use Rattle.kinds.specs.Refusals.{bare, told};
 
-// Its number, and the slot, the id, the txid seen in the slot and the line of text or the step that it carries; 0 where it carries none.
+// Its number, and the slot or the pin, the id, the txid seen in the slot and the line of text or the step that it carries; 0 where it carries none.
 pub struct Told {
     pub number: u64,
     pub slot: u64,
@@ -34,6 +34,9 @@ pub fn tell(r: Refusal) -> Told
         Refusal::BadLength => bare_number(11),
         Refusal::NoRoom => bare_number(12),
         Refusal::WildJump => bare_number(13),
+        Refusal::NoFreePin => bare_number(14),
+        Refusal::InvalidPin(pin) => numbers(15, pin.0 as u64, 0, 0, 0),
+        Refusal::FreePin(pin) => numbers(16, pin.0 as u64, 0, 0, 0),
         Refusal::EndedBefore => bare_number(17),
         Refusal::BadRecord => bare_number(20),
         Refusal::BadEntry => bare_number(21),

@@ -3,7 +3,7 @@ use Prim.Native.Nat.{ℕ}
 use mathlib.Core.Path.{_≡_, refl}
 use mathlib.Core.Bool.{true, false}
 use mathlib.Core.List.{List, [], _∷_, _++_}
-use Rattle.kinds.specs.Kinds.{number, slot, txid}
+use Rattle.kinds.specs.Kinds.{freePins, number, slot, txid}
 use Rattle.kinds.specs.Refusals.{consumed}
 use Rattle.kinds.specs.declared.refusal.Refusal.the-variants.{NoFreeSlot, InvalidSlot, SlotOwnershipMismatch}
 use Rattle.settled.specs.declared.Snapshot.{Snapshot}
@@ -31,7 +31,7 @@ pub page-taken :
     (taken 2 both (snap 5 5) ≡ page) × (clockAfter 2 (both ++ snap 5 5 ∷ []) ≡ 5)
     × (taken 2 both (own (slot 0) (txid 1) 5 5) ≡ page) × (clockAfter 2 (both ++ own (slot 0) (txid 1) 5 5 ∷ []) ≡ 5)
     × (clockAfter 2 both ≡ 3)
-unfolding freshTable run active lowestEmpty minimum maximum refusal changeAccepted changeOf after snapshotOf shownAccepted shown
+unfolding freePins freshTable run active lowestEmpty minimum maximum refusal changeAccepted changeOf after snapshotOf shownAccepted shown
 page-taken = (refl, refl, refl, refl, refl)
 
 -- Afterwards a begin on the full table is refused, a stamp and a finish are accepted, and a begin: each brings its number
@@ -48,7 +48,7 @@ pub numbers-brought :
     × Brings 2 later (finish (slot 0) (txid 1) (number 5)) 5
     × (answer 2 (reached 2 (later ++ end (slot 0) (txid 1) ∷ [])) (begin (number 5)) ≡ Begun (slot 0) (txid 5))
     × Brings 2 (later ++ end (slot 0) (txid 1) ∷ []) (begin (number 5)) 5
-unfolding freshTable run active lowestEmpty minimum maximum consumed refusal changeAccepted changeOf spent after answerAccepted answer listed
+unfolding freePins freshTable run active lowestEmpty minimum maximum consumed refusal changeAccepted changeOf spent after answerAccepted answer listed
 numbers-brought = (refl, refl, refl, refl, refl, refl, refl, refl)
 
 -- The reader's own id is usable although it came later; numbers from before are settled once they are no longer in flight
@@ -61,7 +61,7 @@ pub earlier-settled :
     Brings 2 [] (stamp (number 1)) 1
     × (taken 2 (stamp (number 1) ∷ []) (snap 2 2) ≡ record { xmin = 2; xmax = 2; ids = 0 ∷ 0 ∷ []; count = 0 })
     × (settledIn 2 (0 ∷ 0 ∷ []) 0 1 ≡ true)
-unfolding freshTable run active lowestEmpty minimum maximum refusal changeAccepted changeOf after answerAccepted answer snapshotOf
+unfolding freePins freshTable run active lowestEmpty minimum maximum refusal changeAccepted changeOf after answerAccepted answer snapshotOf
     shownAccepted shown listed
 earlier-settled = (refl, refl, refl)
 
@@ -74,5 +74,5 @@ pub ends-differ :
     × (endAnswer 2 (reached 2 both) (slot 0) (txid 9) ≡ Refused (SlotOwnershipMismatch (slot 0) (txid 9) (txid 1)))
     × (endAnswer 2 (ended 2 (reached 2 both) (slot 0) (txid 1)) (slot 0) (txid 9)
     ≡ Refused (SlotOwnershipMismatch (slot 0) (txid 9) (txid 0)))
-unfolding freshTable run active lowestEmpty refusal changeAccepted changeOf after answerAccepted answer
+unfolding freePins freshTable run active lowestEmpty refusal changeAccepted changeOf after answerAccepted answer
 ends-differ = (refl, refl, refl, refl, refl)

@@ -21,7 +21,8 @@ use Rattle.settled.proofs.Listed.{listed-none, listed-cases}
 use Rattle.model.specs.declared.Table.{Table}
 use Rattle.model.specs.Tables.{freshTable, txidAt, clockOf}
 use Rattle.model.specs.Tally.{active, maximum, snapshotOf}
-use Rattle.model.specs.Calls.{Call, begin, end, snap, own, oldest, vacuum, stamp, finish, refusal, changeAccepted, after}
+use Rattle.model.specs.Calls.{Call, begin, end, snap, own, oldest, vacuum, stamp, finish, pin, unpin, pinSample, refusal}
+use Rattle.model.specs.Calls.{changeAccepted, after}
 use Rattle.model.specs.Calls.{answerAccepted, answerBy, answer, shownAccepted, shownBy, shown}
 use Rattle.model.specs.Accepted.{Acceptable}
 use Rattle.model.specs.Facts.{Good}
@@ -73,6 +74,9 @@ xmax-accepted n t (oldest clock sample) g a = omega arith
 xmax-accepted n t (vacuum clock sample) g a = omega arith
 xmax-accepted n t (stamp number) g a = omega arith
 xmax-accepted n t (finish slot id number) g a = omega arith
+xmax-accepted n t (pin clock sample) g (o, f) =
+    xmax-within n t clock (pinSample t sample) g (o .onward) (omega (arith, o .within, o .onward, g .line-to-clock))
+xmax-accepted n t (unpin k) g a = omega arith
 
 xmax-after : (n : ℕ) (t : Table) (c : Call) → Good n t → shown n t c .xmax ≤ clockOf (after n t c)
 unfolding noSnapshot shown
@@ -97,6 +101,8 @@ accepted-brings t (oldest clock sample) = refl
 accepted-brings t (vacuum clock sample) = refl
 accepted-brings t (stamp number) = refl
 accepted-brings t (finish slot id number) = refl
+accepted-brings t (pin clock sample) = refl
+accepted-brings t (unpin k) = refl
 
 pub brings-reserved : (n : ℕ) (t : Table) (c : Call) → brings (answer n t c) ≡ reservesBy (refusal n t c) c
 unfolding answer

@@ -9,12 +9,12 @@ use Rattle.settled.specs.declared.Snapshot.{Snapshot}
 use Rattle.settled.specs.Settled.{listed, settledIn}
 use Rattle.settled.specs.Usable.{usableIn}
 use Rattle.model.specs.declared.answer.Answer.{Answer}
-use Rattle.model.specs.declared.answer.Answer.the-variants.{Begun, Done, Oldest, Line, Stamped, Refused}
+use Rattle.model.specs.declared.answer.Answer.the-variants.{Begun, Done, Pinned, Oldest, Line, Stamped, Refused}
 use Rattle.model.specs.Tables.{clockOf}
 use Rattle.model.specs.Calls.{Call, answer, shown}
 use Rattle.model.specs.History.{reached}
 
--- the snapshot that a call takes at the end of a history, plain or a transaction's; zeros beside a refusal, and where none is taken
+-- the snapshot that a call takes at the end of a history, plain, pinned or a transaction's; zeros beside a refusal, and where none is taken
 abbrev pub taken : ℕ → List Call → Call → Snapshot
 taken n before c = shown n (reached n before) c
 
@@ -26,6 +26,7 @@ clockAfter n cs = clockOf (reached n cs)
 abbrev pub brings : Answer → List ℕ
 brings (Begun slot id) = id .0 ∷ []
 brings Done = []
+brings (Pinned k) = []
 brings (Oldest xmin holder) = []
 brings (Line line holder) = []
 brings (Stamped number) = number .0 ∷ []

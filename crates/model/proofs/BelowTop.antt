@@ -11,7 +11,7 @@ use Rattle.model.specs.History.{run, reached}
 use Rattle.model.proofs.Places.{Stored, new-here, as-before, stored, zeros-hold}
 use Rattle.model.proofs.Accepted.{accepted-acceptable}
 use Rattle.model.proofs.Calls.{afterAccepted, after-cases}
-use Rattle.model.proofs.Does.{Does, stands, enters, leaves, retakes, does}
+use Rattle.model.proofs.Does.{Does, stands, enters, leaves, retakes, takes-pin, frees-pin, does}
 
 abbrev pub BelowTop : Table → Type 0
 BelowTop t = (i : ℕ) → txidAt t i < top
@@ -28,6 +28,8 @@ below-accepted n t c b (stands d e) = rw e b
 below-accepted n t c b (enters number p e r k f) = rw e (below-set t _ (number .0) (r .below-top) b)
 below-accepted n t c b (leaves slot id d e o) = rw e (below-set t (slot .0) 0 (omega arith) b)
 below-accepted n t c b (retakes slot id clock sample p e h o) = rw e b
+below-accepted n t c b (takes-pin clock sample p e k o f) = rw e b
+below-accepted n t c b (frees-pin k p e h) = rw e b
 
 pub below-after : (n : ℕ) (t : Table) (c : Call) → BelowTop t → BelowTop (after n t c)
 below-after n t c b =

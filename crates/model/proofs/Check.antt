@@ -3,19 +3,21 @@ use Prim.Native.Nat.{ℕ, zero, suc}
 use mathlib.Core.Path.{_≡_, refl, sym, _∙_, ap}
 use mathlib.Core.Logic.{_≢_, _↔_}
 use mathlib.Core.List.{List, [], _∷_}
-use mathlib.Core.Bool.{Bool, true, false, _||_, not, true≢false, false≢true, and-eq-true-iff}
+use mathlib.Core.Bool.{Bool, true, false, _||_, not, true≢false, false≢true, and-eq-true-iff, or-true}
 use native.Mathlib.Nat.{suc-ne-zero, suc-inj}
 use native.Mathlib.Omega.{arith}
 use lib.Dec.{ltb, leb, eqb}
 use lib.ListN.{length, getD}
 use borrow.Author.Tests.{ltb-true, leb-true, eqb-true, eqb-false, lt-ltb, le-leb, eq-eqb, ne-eqb, not-true}
+use Rattle.kinds.specs.Kinds.{pinCount}
 use Rattle.settled.specs.Settled.{listed}
 use Rattle.settled.proofs.Listed.{place-listed, listed-place}
 use Rattle.model.specs.declared.Table.{Table}
 use Rattle.model.specs.Tables.{freshTable, clockOf, sampleOf, lineOf}
 use Rattle.model.specs.Calls.{Call, after}
-use Rattle.model.specs.Check.{slotPasses, slotsPass, differ, numbersPass, passes, tablePasses}
-use Rattle.model.specs.Facts.{SlotGood, empty, taken, Good}
+use Rattle.model.specs.Check.{slotPasses, slotsPass, differ, pinPasses, pinsPass, pinColumnPasses, numbersPass, passes}
+use Rattle.model.specs.Check.{tablePasses}
+use Rattle.model.specs.Facts.{SlotGood, empty, taken, PinGood, pin-free, pin-held, Good}
 use Rattle.model.specs.History.{reached}
 use Rattle.model.proofs.Places.{inside-of-ne}
 use Rattle.model.proofs.Moves.{equally-long, good-fresh}
@@ -109,12 +111,47 @@ differ-from (x ∷ xs) d =
         let (i, b, q) = listed-place x xs p in
         absurd (suc-ne-zero i (d (suc i) 0 (λ z. eqb-false x 0 e (sym q ∙ z)) q))
 
+-- one pin
+pin-to : (clock line xmin : ℕ) → pinPasses clock line xmin ≡ true → PinGood clock line xmin
+pin-to clock line xmin e = go (eqb xmin 0) refl
+  where
+    go : (b : Bool) → eqb xmin 0 ≡ b → PinGood clock line xmin
+    go true q = pin-free (eqb-true xmin 0 q)
+    go false q =
+        let (a, b) = and-eq-true-iff (leb line xmin) (leb xmin clock) .0 (rw q at e) in
+        pin-held (leb-true line xmin a) (leb-true xmin clock b)
+
+pin-from : (clock line xmin : ℕ) → PinGood clock line xmin → pinPasses clock line xmin ≡ true
+pin-from clock line xmin (pin-free a) = rw (eq-eqb xmin 0 a)
+pin-from clock line xmin (pin-held a b) = rw (le-leb line xmin a, le-leb xmin clock b) (or-true (eqb xmin 0))
+
+-- the column of pins, place by place
+abbrev EachPin : ℕ → ℕ → List ℕ → Type 0
+EachPin clock line pins = (k : ℕ) → PinGood clock line (getD pins k 0)
+
+pins-to : (clock line : ℕ) (pins : List ℕ) → pinsPass clock line pins ≡ true → EachPin clock line pins
+unfolding pinsPass
+pins-to clock line [] e zero = pin-free refl
+pins-to clock line [] e (suc k) = pin-free refl
+pins-to clock line (x ∷ xs) e zero = pin-to clock line x (and-eq-true-iff (pinPasses clock line x) (pinsPass clock line xs) .0 e .0)
+pins-to clock line (x ∷ xs) e (suc k) =
+    pins-to clock line xs (and-eq-true-iff (pinPasses clock line x) (pinsPass clock line xs) .0 e .1) k
+
+pins-from : (clock line : ℕ) (pins : List ℕ) → EachPin clock line pins → pinsPass clock line pins ≡ true
+unfolding pinsPass
+pins-from clock line [] f = refl
+pins-from clock line (x ∷ xs) f =
+    and-eq-true-iff (pinPasses clock line x) (pinsPass clock line xs) .1
+    (pin-from clock line x (f 0), pins-from clock line xs (λ k. f (suc k)))
+
 -- the whole check
 pub passes-good : (n : ℕ) (t : Table) → tablePasses n t ≡ true → Good n t
 unfolding passes
 passes-good n t e =
     let (a, b) = and-eq-true-iff (numbersPass n (length (t .txids)) (clockOf t) (sampleOf t) (lineOf t)) _ .0 e in
-    let (s, d) = and-eq-true-iff (slotsPass (clockOf t) (lineOf t) (t .txids) (t .«snapshot_xmins»)) (differ (t .txids)) .0 b in
+    let (s, b₁) = and-eq-true-iff (slotsPass (clockOf t) (lineOf t) (t .txids) (t .«snapshot_xmins»)) _ .0 b in
+    let (d, b₂) = and-eq-true-iff (differ (t .txids)) (pinColumnPasses (clockOf t) (lineOf t) (t .pins)) .0 b₁ in
+    let (p₁, p₂) = and-eq-true-iff (eqb (length (t .pins)) pinCount) (pinsPass (clockOf t) (lineOf t) (t .pins)) .0 b₂ in
     let (a₁, r₁) = and-eq-true-iff (eqb (length (t .txids)) n) _ .0 a in
     let (a₂, r₂) = and-eq-true-iff (leb 1 (sampleOf t)) _ .0 r₁ in
     let (a₃, r₃) = and-eq-true-iff (leb (sampleOf t) (clockOf t)) _ .0 r₂ in
@@ -123,11 +160,13 @@ passes-good n t e =
     record {
       txid-column = eqb-true _ _ a₁;
       xmin-column = sym l ∙ eqb-true _ _ a₁;
+      pin-column = eqb-true _ _ p₁;
       sample-from-1 = leb-true _ _ a₂;
       sample-to-clock = leb-true _ _ a₃;
       line-from-1 = leb-true _ _ a₄;
       line-to-clock = leb-true _ _ a₅;
       each = f;
+      each-pin = pins-to (clockOf t) (lineOf t) (t .pins) p₂;
       differ = differ-to (t .txids) d;
     }
 
@@ -142,6 +181,8 @@ good-passes n t g =
       le-leb (lineOf t) (clockOf t) (g .line-to-clock),
       slots-from (clockOf t) (lineOf t) (t .txids) (t .«snapshot_xmins») (equally-long n t g) (g .each),
       differ-from (t .txids) (g .differ),
+      eq-eqb (length (t .pins)) pinCount (g .pin-column),
+      pins-from (clockOf t) (lineOf t) (t .pins) (g .each-pin),
     )
 
 pub passes-exactly : (n : ℕ) (t : Table) → (tablePasses n t ≡ true) ↔ Good n t

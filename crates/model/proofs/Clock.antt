@@ -11,7 +11,8 @@ use Rattle.kinds.specs.Refusals.{consumed}
 use Rattle.model.specs.declared.Table.{Table}
 use Rattle.model.specs.Tables.{freshTable, clockOf}
 use Rattle.model.specs.Tests.{farthest}
-use Rattle.model.specs.Calls.{Call, begin, end, snap, own, oldest, vacuum, stamp, finish, changeAccepted, spent, after}
+use Rattle.model.specs.Calls.{Call, begin, end, snap, own, oldest, vacuum, stamp, finish, pin, unpin, changeAccepted}
+use Rattle.model.specs.Calls.{spent, after}
 use Rattle.model.specs.Accepted.{Acceptable}
 use Rattle.model.specs.History.{run, reached, Accepts, Never}
 use Rattle.model.specs.Observing.{observing}
@@ -32,6 +33,8 @@ clock-accepted n t (oldest clock sample) o a = absurd (true≢false o)
 clock-accepted n t (vacuum clock sample) o a = absurd (true≢false o)
 clock-accepted n t (stamp number) o r = omega (arith, r .near)
 clock-accepted n t (finish slot id number) o (a, r) = omega (arith, r .near)
+clock-accepted n t (pin clock sample) o a = absurd (true≢false o)
+clock-accepted n t (unpin k) o a = omega arith
 
 -- refusal 1 too goes one past a number that may be reserved
 pub clock-after :

@@ -22,7 +22,7 @@ use Rattle.model.proofs.Tests.{free-lowest}
 use Rattle.model.proofs.Accepted.{accepted-acceptable}
 use Rattle.model.proofs.Transactions.{registered-taken}
 use Rattle.model.proofs.Calls.{afterAccepted, by-verdict}
-use Rattle.model.proofs.Does.{Does, stands, enters, leaves, retakes, does}
+use Rattle.model.proofs.Does.{Does, stands, enters, leaves, retakes, takes-pin, frees-pin, does}
 use Rattle.model.proofs.Moves.{good-fresh}
 use Rattle.model.proofs.Facts.{good-after}
 
@@ -54,6 +54,8 @@ count-accepted n t c g (stands d e) = rw (e, d)
 count-accepted n t c g (enters number p e r k f) = rw (e, p) (omega (arith, entered-counts n t (number .0) g r f))
 count-accepted n t c g (leaves slot id d e o) = rw (e, d) (omega (arith, emptied-counts n t slot id g o))
 count-accepted n t c g (retakes slot id clock sample p e h o) = rw (e, p)
+count-accepted n t c g (takes-pin clock sample p e k o f) = rw (e, p)
+count-accepted n t c g (frees-pin k p e h) = rw (e, p)
 
 count-after :
     (n : ℕ) (t : Table) (c : Call) → Good n t →

@@ -1,4 +1,4 @@
--- What an accepted call does: to the slots, by its deed, in four cases; and to the counters. Proofs about histories go by these
+-- What an accepted call does: to the slots and pins, by its deed, in six cases; and to the counters. Proofs about histories go by these
 -- and not by the single calls.
 use Prim.Native.Nat.{ℕ, _≤_}
 use mathlib.Core.Path.{_≡_, refl}
@@ -7,16 +7,18 @@ use native.Mathlib.Omega.{arith}
 use Rattle.kinds.specs.declared.Stamp.{Stamp}
 use Rattle.kinds.specs.declared.SlotNo.{SlotNo}
 use Rattle.kinds.specs.declared.Txid.{Txid}
-use Rattle.kinds.specs.Kinds.{slot, txidOf}
+use Rattle.kinds.specs.declared.PinNo.{PinNo}
+use Rattle.kinds.specs.Kinds.{slot, pinNo, txidOf}
 use Rattle.model.specs.declared.Counters.{Counters}
 use Rattle.model.specs.declared.Table.{Table}
-use Rattle.model.specs.declared.change.SlotChange.the-variants.{Stays, Enters, Leaves, Retains}
+use Rattle.model.specs.declared.change.SlotChange.the-variants.{Stays, Enters, Leaves, Retains, Pins}
 use Rattle.model.specs.Tally.{active, lowestEmpty, xminOf}
 use Rattle.model.specs.Tables.{lineOf, clockOf, sampleOf}
-use Rattle.model.specs.Changes.{pastNumber}
-use Rattle.model.specs.Calls.{Call, begin, end, snap, own, oldest, vacuum, stamp, finish, raisedLine, changeAccepted}
+use Rattle.model.specs.Changes.{pastNumber, observed}
+use Rattle.model.specs.Calls.{Call, begin, end, snap, own, oldest, vacuum, stamp, finish, pin, unpin, raisedLine}
+use Rattle.model.specs.Calls.{pinSample, changeAccepted}
 use Rattle.model.specs.Deeds.{ends, idle, deed}
-use Rattle.model.specs.Accepted.{Reserves, Free, Owns, Acceptable}
+use Rattle.model.specs.Accepted.{Reserves, Free, Owns, Observes, SomePinFree, PinTaken, Acceptable}
 
 pub data Does (n : ℕ) (t : Table) (c : Call) : Type 0 where
   stands : deed c ≡ idle → changeAccepted t c .slot ≡ Stays → Does n t c
@@ -32,6 +34,12 @@ pub data Does (n : ℕ) (t : Table) (c : Call) : Type 0 where
       (slot : SlotNo) (id : Txid) (clock sample : ℕ) → c ≡ own slot id clock sample →
       changeAccepted t c .slot ≡ Retains slot (xminOf sample (active (t .txids))) → 1 ≤ sample → Owns n t slot id →
       Does n t c
+  takes-pin :
+      (clock sample : ℕ) → c ≡ pin clock sample →
+      changeAccepted t c .slot ≡ Pins (pinNo (lowestEmpty (t .pins))) (xminOf (pinSample t sample) (active (t .txids))) →
+      changeAccepted t c .counters ≡ observed clock sample (t .counters) → Observes (clockOf t) clock sample →
+      SomePinFree t → Does n t c
+  frees-pin : (k : PinNo) → c ≡ unpin k → changeAccepted t c .slot ≡ Pins k 0 → PinTaken t k → Does n t c
 
 pub does : (n : ℕ) (t : Table) (c : Call) → Acceptable n t c → Does n t c
 unfolding changeAccepted
@@ -43,6 +51,8 @@ does n t (oldest clock sample) o = stands refl refl
 does n t (vacuum clock sample) o = stands refl refl
 does n t (stamp number) r = stands refl refl
 does n t (finish slot id number) (o, r) = leaves slot id refl refl o
+does n t (pin clock sample) (o, f) = takes-pin clock sample refl refl refl o f
+does n t (unpin k) h = frees-pin k refl refl h
 
 -- the sample stays, or is observed anew; the line stays, or a vacuum raises it
 pub data SampleMoves (t : Table) (k : Counters) : Type 0 where
@@ -77,3 +87,6 @@ counts-on n t (vacuum clock sample) o =
 counts-on n t (stamp number) r = record { onward = omega arith; sample = sample-stays refl; line = line-stays refl }
 counts-on n t (finish slot id number) (o, r) =
     record { onward = omega arith; sample = sample-stays refl; line = line-stays refl }
+counts-on n t (pin clock sample) (o, f) =
+    record { onward = o .onward; sample = sample-observed (o .positive) (o .within); line = line-stays refl }
+counts-on n t (unpin k) h = record { onward = le-refl _; sample = sample-stays refl; line = line-stays refl }

@@ -10,6 +10,7 @@ use native.Mathlib.Omega.{arith}
 use lib.Dec.{leb}
 use borrow.Author.Tests.{le-leb, lt-leb, ne-eqb}
 use Rattle.kinds.specs.declared.Stamp.{Stamp}
+use Rattle.kinds.specs.Kinds.{freePins}
 use Rattle.kinds.specs.Refusals.{consumed}
 use Rattle.model.specs.Tally.{active, retained, holderFrom, lowestEmpty, minimum, maximum, snapshotOf}
 use Rattle.model.specs.Tables.{freshTable}
@@ -38,7 +39,7 @@ none-empty n = rw (lowest-from n 0) (next-outside n)
 
 -- P1 to P12; past its three taken slots `three` has n - 3 empty ones
 edges-hold : (n : ℕ) (any : Stamp) → RowsHold (suc n) (rows (suc n) any)
-unfolding consumed active retained holderFrom lowestEmpty minimum maximum snapshotOf freshTable refusal changeAccepted changeOf spent after
+unfolding consumed freePins active retained holderFrom lowestEmpty minimum maximum snapshotOf freshTable refusal changeAccepted changeOf spent after
     answerAccepted answer shownAccepted shown seenFrom seenIn said rows
 edges-hold n any =
     rw (
@@ -54,7 +55,7 @@ edges-hold n any =
     )
 
 orders-hold : (n : ℕ) → RowsHold (suc n) (orders (suc n))
-unfolding consumed lowestEmpty refusal changeAccepted changeOf spent after answerAccepted answer shownAccepted shown seenFrom seenIn said
+unfolding consumed freePins lowestEmpty refusal changeAccepted changeOf spent after answerAccepted answer shownAccepted shown seenFrom seenIn said
     orders
 orders-hold n = rw (first-inside n, next-outside (suc n), none-empty (suc n))
 

@@ -24,7 +24,7 @@ use Rattle.model.proofs.Tally.{lowest-empty}
 use Rattle.model.proofs.Accepted.{accepted-acceptable}
 use Rattle.model.proofs.Transactions.{registered-taken, same-txids, other-slot, slots-differ}
 use Rattle.model.proofs.Calls.{afterAccepted, by-verdict}
-use Rattle.model.proofs.Does.{Does, stands, enters, leaves, retakes, does}
+use Rattle.model.proofs.Does.{Does, stands, enters, leaves, retakes, takes-pin, frees-pin, does}
 
 -- who is registered after a call was so before it, and the call did not end it; or the call is its begin
 pub data Was (t : Table) (slot : SlotNo) (id : Txid) (c : Call) (v : Verdict) : Type 0 where
@@ -57,6 +57,8 @@ module _ (n : ℕ) (t : Table) (slot : SlotNo) (id : Txid) where
           let inside = inside-of-ne (t .txids) (slot .0) (registered-taken t slot id was) in
           before-it was (λ p. rw d (other-slot slot id slot′ id′ (λ z. h (rw (← z) inside) z)))
   was-accepted c (retakes slot′ id′ clock sample p e h o) r = before-it (same-txids _ t slot id (rw e) r) (λ q. rw p)
+  was-accepted c (takes-pin clock sample p e k o f) r = before-it (same-txids _ t slot id (rw e) r) (λ q. rw p)
+  was-accepted c (frees-pin k p e h) r = before-it (same-txids _ t slot id (rw e) r) (λ q. rw p)
 
   pub was : (c : Call) → Registered (after n t c) slot id → Was t slot id c (refusal n t c)
   unfolding after
@@ -81,6 +83,8 @@ module _ (n : ℕ) (t : Table) (slot : SlotNo) (id : Txid) (r : Registered t slo
       let apart = slots-differ slot id slot′ id′ t r (o .registered) (rw d at h) in
       record { not-zero = r .not-zero; holds = rw e (still (slot′ .0) 0 apart) }
   stays-accepted c (retakes slot′ id′ clock sample p e k o) h = same-txids t _ slot id (rw e) r
+  stays-accepted c (takes-pin clock sample p e k o f) h = same-txids t _ slot id (rw e) r
+  stays-accepted c (frees-pin k p e q) h = same-txids t _ slot id (rw e) r
 
   pub stays-after : (c : Call) → (Accepts n t c → endOf slot id c ≡ false) → Registered (after n t c) slot id
   unfolding after

@@ -67,6 +67,33 @@ module _ (x otherwise : ℕ) where
           (λ j l. absurd (not-suc-le-zero l))
       go false q f = further slot txid xmin txids xmins q f
 
+-- counting from a number further on tells numbers that are as much higher
+pub holder-further :
+    (by slot : ℕ) (txids xmins : List ℕ) (x otherwise : ℕ) →
+    holderFrom slot txids xmins x otherwise + by ≡ holderFrom (slot + by) txids xmins x (otherwise + by)
+unfolding holderFrom
+holder-further by slot [] xmins x otherwise = refl
+holder-further by slot (txid ∷ txids) [] x otherwise = refl
+holder-further by slot (txid ∷ txids) (xmin ∷ xmins) x otherwise =
+    let next : slot + 1 + by ≡ slot + by + 1 = omega arith in
+    go (holds txid xmin x) (rw next at (holder-further by (slot + 1) txids xmins x otherwise))
+  where
+    go :
+        (b : Bool) →
+        holderFrom (slot + 1) txids xmins x otherwise + by ≡ holderFrom (slot + by + 1) txids xmins x (otherwise + by) →
+        cond b slot (holderFrom (slot + 1) txids xmins x otherwise) + by
+        ≡ cond b (slot + by) (holderFrom (slot + by + 1) txids xmins x (otherwise + by))
+    go true e = refl
+    go false e = e
+
+-- no number is told beyond the last one and what is answered otherwise
+pub holder-bound : (xs : List ℕ) (x otherwise : ℕ) → holderFrom 0 xs xs x otherwise ≤ length xs + otherwise
+holder-bound xs x otherwise = go (holder-found x otherwise 0 xs xs refl)
+  where
+    go : Found 0 xs xs x otherwise (holderFrom 0 xs xs x otherwise) → holderFrom 0 xs xs x otherwise ≤ length xs + otherwise
+    go (found i e l a b c) = omega arith
+    go (nowhere e f) = omega arith
+
 -- the smallest of a number and a list is the number, or listed
 pub minimum-of : (a : ℕ) (xs : List ℕ) → (minimum a xs ≡ a) ⊎ (listed (minimum a xs) xs ≡ true)
 unfolding minimum

@@ -7,74 +7,85 @@ use mathlib.Core.List.{List, []}
 use lib.ListN.{length, take}
 use lib.Seq.{take-all}
 use Rattle.kinds.specs.declared.Stamp.{Stamp}
+use Rattle.kinds.specs.declared.PinNo.{PinNo}
 use Rattle.kinds.specs.declared.refusal.Verdict.{Verdict}
 use Rattle.kinds.specs.declared.refusal.Verdict.the-variants.{Pass, Refuse}
+use Rattle.kinds.specs.Verdicts.{then}
 use Rattle.model.specs.declared.Table.{Table}
 use Rattle.model.specs.declared.answer.Decision.{Decision}
 use Rattle.model.specs.declared.answer.SnapshotDecision.{SnapshotDecision}
 use Rattle.model.specs.declared.answer.Outcome.{Outcome}
 use Rattle.model.specs.declared.answer.SnapshotOutcome.{SnapshotOutcome}
-use Rattle.model.specs.Tables.{clockOf, lent, lentTxids}
+use Rattle.model.specs.Tables.{clockOf, lent, lentTxids, lentToPin, lentPins}
 use Rattle.model.specs.Changes.{applied}
-use Rattle.model.specs.Tests.{reservationTest}
-use Rattle.model.specs.Calls.{Call, begin, end, snap, own, oldest, vacuum, stamp, finish, refusal}
+use Rattle.model.specs.Tests.{reservationTest, observationTest, pinTest, releaseTest}
+use Rattle.model.specs.Calls.{Call, begin, end, snap, own, oldest, vacuum, stamp, finish, pin, unpin}
+use Rattle.model.specs.Calls.{refusal}
 use Rattle.model.specs.Calls.{changeAccepted, changeBy, changeOf, after, answerAccepted, answerBy, answer}
 use Rattle.model.specs.Calls.{shownAccepted, shownBy, shown, decision, snapshotDecision, outcome, snapshotOutcome}
 
--- who reads the snapshot_xmins
-abbrev pub readsXmins : Call → Bool
-readsXmins (begin number) = false
-readsXmins (end slot id) = false
-readsXmins (snap clock sample) = false
-readsXmins (own slot id clock sample) = false
-readsXmins (oldest clock sample) = true
-readsXmins (vacuum clock sample) = true
-readsXmins (stamp number) = false
-readsXmins (finish slot id number) = false
+-- who reads more than the txids and the counters: the snapshot_xmins or the pins
+abbrev pub readsMore : Call → Bool
+readsMore (begin number) = false
+readsMore (end slot id) = false
+readsMore (snap clock sample) = false
+readsMore (own slot id clock sample) = false
+readsMore (oldest clock sample) = true
+readsMore (vacuum clock sample) = true
+readsMore (stamp number) = false
+readsMore (finish slot id number) = false
+readsMore (pin clock sample) = true
+readsMore (unpin k) = true
 
--- no call is refused by them
-same-refusal : (n : ℕ) (t : Table) (xmins : List ℕ) (c : Call) → refusal n (lent (t .txids) xmins (t .counters)) c ≡ refusal n t c
+-- whoever doesn't is refused the same whatever they are
+same-refusal :
+    (n : ℕ) (t : Table) (xmins pins : List ℕ) (c : Call) → readsMore c ≡ false →
+    refusal n (lent (t .txids) xmins pins (t .counters)) c ≡ refusal n t c
 unfolding refusal
-same-refusal n t xmins (begin number) = refl
-same-refusal n t xmins (end slot id) = refl
-same-refusal n t xmins (snap clock sample) = refl
-same-refusal n t xmins (own slot id clock sample) = refl
-same-refusal n t xmins (oldest clock sample) = refl
-same-refusal n t xmins (vacuum clock sample) = refl
-same-refusal n t xmins (stamp number) = refl
-same-refusal n t xmins (finish slot id number) = refl
+same-refusal n t xmins pins (begin number) e = refl
+same-refusal n t xmins pins (end slot id) e = refl
+same-refusal n t xmins pins (snap clock sample) e = refl
+same-refusal n t xmins pins (own slot id clock sample) e = refl
+same-refusal n t xmins pins (oldest clock sample) e = refl
+same-refusal n t xmins pins (vacuum clock sample) e = refl
+same-refusal n t xmins pins (stamp number) e = refl
+same-refusal n t xmins pins (finish slot id number) e = refl
+same-refusal n t xmins pins (pin clock sample) e = absurd (false≢true (sym e))
+same-refusal n t xmins pins (unpin k) e = absurd (false≢true (sym e))
 
--- whoever doesn't read them does the same whatever they are
+-- .. and does the same
 abbrev by : Verdict → ℕ → Table → Call → SnapshotDecision
 by v n t c = record { change = changeBy v t c; answer = answerBy v t c; snapshot = shownBy v n t c }
 
 same-by :
-    (v : Verdict) (n : ℕ) (t : Table) (xmins : List ℕ) (c : Call) → readsXmins c ≡ false →
-    by v n (lent (t .txids) xmins (t .counters)) c ≡ by v n t c
+    (v : Verdict) (n : ℕ) (t : Table) (xmins pins : List ℕ) (c : Call) → readsMore c ≡ false →
+    by v n (lent (t .txids) xmins pins (t .counters)) c ≡ by v n t c
 unfolding changeAccepted answerAccepted shownAccepted
-same-by (Refuse r) n t xmins c e = refl
-same-by Pass n t xmins (begin number) e = refl
-same-by Pass n t xmins (end slot id) e = refl
-same-by Pass n t xmins (snap clock sample) e = refl
-same-by Pass n t xmins (own slot id clock sample) e = refl
-same-by Pass n t xmins (oldest clock sample) e = absurd (false≢true (sym e))
-same-by Pass n t xmins (vacuum clock sample) e = absurd (false≢true (sym e))
-same-by Pass n t xmins (stamp number) e = refl
-same-by Pass n t xmins (finish slot id number) e = refl
+same-by (Refuse r) n t xmins pins c e = refl
+same-by Pass n t xmins pins (begin number) e = refl
+same-by Pass n t xmins pins (end slot id) e = refl
+same-by Pass n t xmins pins (snap clock sample) e = refl
+same-by Pass n t xmins pins (own slot id clock sample) e = refl
+same-by Pass n t xmins pins (oldest clock sample) e = absurd (false≢true (sym e))
+same-by Pass n t xmins pins (vacuum clock sample) e = absurd (false≢true (sym e))
+same-by Pass n t xmins pins (stamp number) e = refl
+same-by Pass n t xmins pins (finish slot id number) e = refl
+same-by Pass n t xmins pins (pin clock sample) e = absurd (false≢true (sym e))
+same-by Pass n t xmins pins (unpin k) e = absurd (false≢true (sym e))
 
 module _ (n : ℕ) (t : Table) (c : Call) where
   pub lent-shows :
-      readsXmins c ≡ false → snapshotDecision n (lentTxids (t .txids) (t .counters)) c ≡ snapshotDecision n t c
+      readsMore c ≡ false → snapshotDecision n (lentTxids (t .txids) (t .counters)) c ≡ snapshotDecision n t c
   unfolding changeOf answer shown snapshotDecision
-  lent-shows e = rw (same-refusal n t [] c) (same-by (refusal n t c) n t [] c e)
+  lent-shows e = rw (same-refusal n t [] [] c e) (same-by (refusal n t c) n t [] [] c e)
 
-  pub lent-decides : readsXmins c ≡ false → decision n (lentTxids (t .txids) (t .counters)) c ≡ decision n t c
+  pub lent-decides : readsMore c ≡ false → decision n (lentTxids (t .txids) (t .counters)) c ≡ decision n t c
   unfolding decision snapshotDecision
   lent-decides e = ap (λ (d : SnapshotDecision). record { change = d .change; answer = d .answer }) (lent-shows e)
 
   -- .. where the table has no more slots than a snapshot has places
   pub slots-show :
-      length (t .txids) ≤ n → readsXmins c ≡ false →
+      length (t .txids) ≤ n → readsMore c ≡ false →
       snapshotDecision n (lentTxids (take n (t .txids)) (t .counters)) c ≡ snapshotDecision n t c
   slots-show few e = rw (take-all n (t .txids) few) (lent-shows e)
 
@@ -108,7 +119,7 @@ lent-stamps n t number = go (reservationTest (clockOf t) number)
 
 -- the outcome by value, from what was decided on the lent column; a stamp's, from what was decided on the counters
 pub lent-outcome :
-    (n : ℕ) (t : Table) (c : Call) → readsXmins c ≡ false → {d : Decision} {next : Table} →
+    (n : ℕ) (t : Table) (c : Call) → readsMore c ≡ false → {d : Decision} {next : Table} →
     d ≡ decision n (lentTxids (t .txids) (t .counters)) c → next ≡ applied t (d .change) →
     _≡_ {A = Outcome} (record { table = next; answer = d .answer }) (outcome n t c)
 lent-outcome n t c b e a = rw a (outcome-of n t c (e ∙ lent-decides n t c b))
@@ -118,3 +129,25 @@ pub stamp-outcome :
     d ≡ decision n (lentTxids [] (t .counters)) (stamp number) → next ≡ applied t (d .change) →
     _≡_ {A = Outcome} (record { table = next; answer = d .answer }) (outcome n t (stamp number))
 stamp-outcome n t number e a = rw a (outcome-of n t (stamp number) (e ∙ lent-stamps n t number))
+
+-- a pinned snapshot reads no snapshot_xmin; a release reads the pins alone
+pub lent-pins :
+    (n : ℕ) (t : Table) (clock sample : ℕ) → length (t .txids) ≤ n →
+    snapshotDecision n (lentToPin n (t .txids) (t .pins) (t .counters)) (pin clock sample)
+    ≡ snapshotDecision n t (pin clock sample)
+unfolding refusal changeAccepted changeOf answerAccepted answer shownAccepted shown snapshotDecision
+lent-pins n t clock sample few =
+    rw (take-all n (t .txids) few) (go (then (observationTest (clockOf t) clock sample) (pinTest (t .pins))))
+  where
+    go : (v : Verdict) → by v n (lent (t .txids) [] (t .pins) (t .counters)) (pin clock sample) ≡ by v n t (pin clock sample)
+    go Pass = refl
+    go (Refuse r) = refl
+
+pub lent-releases :
+    (n : ℕ) (t : Table) (k : PinNo) → decision n (lentPins (t .pins) (t .counters)) (unpin k) ≡ decision n t (unpin k)
+unfolding refusal changeAccepted changeOf answerAccepted answer decision
+lent-releases n t k = go (releaseTest (t .pins) k)
+  where
+    go : (v : Verdict) → decidesBy v (lentPins (t .pins) (t .counters)) (unpin k) ≡ decidesBy v t (unpin k)
+    go Pass = refl
+    go (Refuse r) = refl

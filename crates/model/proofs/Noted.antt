@@ -34,7 +34,8 @@ use Rattle.model.proofs.Accepted.{accepted-acceptable}
 use Rattle.model.proofs.Transactions.{registered-taken, same-txids, same-both, slots-differ}
 use Rattle.model.proofs.Refused.{Declined, stays, spends}
 use Rattle.model.proofs.Calls.{afterAccepted, changeRefused, by-verdict}
-use Rattle.model.proofs.Does.{Does, stands, enters, leaves, retakes, does, LineMoves, line-stays, line-raised, counts-on}
+use Rattle.model.proofs.Does.{Does, stands, enters, leaves, retakes, takes-pin, frees-pin, does}
+use Rattle.model.proofs.Does.{LineMoves, line-stays, line-raised, counts-on}
 use Rattle.model.proofs.Moves.{equally-long}
 use Rattle.model.proofs.Facts.{oldest-taken}
 
@@ -59,12 +60,12 @@ pub data Noted
 module _ (n : ℕ) (t : Table) (slot : SlotNo) (id : Txid) where
   -- columns and counters after a call leave it, where they do so apart; an oldest xmin is at most the slot's
   left :
-      (txids xmins : List ℕ) (k : Counters) → LineMoves t k → (getD txids (slot .0) 0 ≡ id .0 → id .0 ≢ 0 → txidAt t (slot .0) ≡ id .0) →
-      (Good n t → Registered (lent txids xmins k) slot id → getD xmins (slot .0) 0 ≡ xminAt t (slot .0)) →
-      Left n t slot id (lent txids xmins k)
-  left txids xmins k l held xmin = record { was = before; same-xmin = xmin; line-below = λ g r. line g (before r) l }
+      (txids xmins pins : List ℕ) (k : Counters) → LineMoves t k → (getD txids (slot .0) 0 ≡ id .0 → id .0 ≢ 0 → txidAt t (slot .0) ≡ id .0) →
+      (Good n t → Registered (lent txids xmins pins k) slot id → getD xmins (slot .0) 0 ≡ xminAt t (slot .0)) →
+      Left n t slot id (lent txids xmins pins k)
+  left txids xmins pins k l held xmin = record { was = before; same-xmin = xmin; line-below = λ g r. line g (before r) l }
     where
-      before : Registered (lent txids xmins k) slot id → Registered t slot id
+      before : Registered (lent txids xmins pins k) slot id → Registered t slot id
       before r = record { not-zero = r .not-zero; holds = held (r .holds) (r .not-zero) }
 
       line : Good n t → Registered t slot id → LineMoves t k → k .«vacuum_line» ≤ max (lineOf t) (xminAt t (slot .0))
@@ -72,24 +73,24 @@ module _ (n : ℕ) (t : Table) (slot : SlotNo) (id : Txid) where
       line g r (line-raised sample a b e) = omega (arith, oldest-taken n t sample (slot .0) g (registered-taken t slot id r))
 
   -- no slot moves
-  left-same : (k : Counters) → LineMoves t k → Left n t slot id (lent (t .txids) (t .«snapshot_xmins») k)
-  left-same k l = left (t .txids) (t .«snapshot_xmins») k l (λ e z. e) (λ g r. refl)
+  left-same : (pins : List ℕ) (k : Counters) → LineMoves t k → Left n t slot id (lent (t .txids) (t .«snapshot_xmins») pins k)
+  left-same pins k l = left (t .txids) (t .«snapshot_xmins») pins k l (λ e z. e) (λ g r. refl)
 
   -- another slot becomes (txid, xmin)
   left-other :
       (i txid xmin : ℕ) (k : Counters) → LineMoves t k → slot .0 ≢ i →
-      Left n t slot id (lent (set (t .txids) i txid) (set (t .«snapshot_xmins») i xmin) k)
+      Left n t slot id (lent (set (t .txids) i txid) (set (t .«snapshot_xmins») i xmin) (t .pins) k)
   left-other i txid xmin k l d =
-      left (set (t .txids) i txid) (set (t .«snapshot_xmins») i xmin) k l
+      left (set (t .txids) i txid) (set (t .«snapshot_xmins») i xmin) (t .pins) k l
       (λ e z. sym (getD-set-other (t .txids) i (slot .0) txid 0 d) ∙ e)
       (λ g r. getD-set-other (t .«snapshot_xmins») i (slot .0) xmin 0 d)
 
   -- some slot is emptied
   left-emptied :
       (i : ℕ) (k : Counters) → LineMoves t k →
-      Left n t slot id (lent (set (t .txids) i 0) (set (t .«snapshot_xmins») i 0) k)
+      Left n t slot id (lent (set (t .txids) i 0) (set (t .«snapshot_xmins») i 0) (t .pins) k)
   left-emptied i k l =
-      left (set (t .txids) i 0) (set (t .«snapshot_xmins») i 0) k l (λ e z. before e z (stored 0 (t .txids) i 0 (slot .0)))
+      left (set (t .txids) i 0) (set (t .«snapshot_xmins») i 0) (t .pins) k l (λ e z. before e z (stored 0 (t .txids) i 0 (slot .0)))
       (λ g r. xmin r (stored-both (t .txids) (t .«snapshot_xmins») i 0 0 (slot .0) (equally-long n t g)))
     where
       before : getD (set (t .txids) i 0) (slot .0) 0 ≡ id .0 → id .0 ≢ 0 → Stored 0 (t .txids) i 0 (slot .0) →
@@ -98,7 +99,7 @@ module _ (n : ℕ) (t : Table) (slot : SlotNo) (id : Txid) where
       before e z (as-before d q) = sym q ∙ e
 
       xmin :
-          Registered (lent (set (t .txids) i 0) (set (t .«snapshot_xmins») i 0) k) slot id →
+          Registered (lent (set (t .txids) i 0) (set (t .«snapshot_xmins») i 0) (t .pins) k) slot id →
           StoredBoth (t .txids) (t .«snapshot_xmins») i 0 0 (slot .0) →
           getD (set (t .«snapshot_xmins») i 0) (slot .0) 0 ≡ xminAt t (slot .0)
       xmin r (both-new p h q w) = absurd (r .not-zero (sym (r .holds) ∙ q))
@@ -107,7 +108,7 @@ module _ (n : ℕ) (t : Table) (slot : SlotNo) (id : Txid) where
   noted-accepted :
       (c : Call) (last : Option Snapshot) → LineMoves t (changeAccepted t c .counters) → Does n t c →
       Noted n t slot id c last Pass (afterAccepted t c)
-  noted-accepted c last l (stands d e) = rw e (not-moved (rw d) (λ q. rw d) (left-same _ l))
+  noted-accepted c last l (stands d e) = rw e (not-moved (rw d) (λ q. rw d) (left-same (t .pins) _ l))
   noted-accepted c last l (enters number p e r k f) = go (eqb entered (slot .0)) refl
     where
       entered : ℕ
@@ -129,10 +130,12 @@ module _ (n : ℕ) (t : Table) (slot : SlotNo) (id : Txid) where
       go false q =
           rw e
           (not-moved (rw (p, q)) (λ z. rw p q)
-          (left (t .txids) (set (t .«snapshot_xmins») (slot′ .0) _) _ l (λ a z. a)
+          (left (t .txids) (set (t .«snapshot_xmins») (slot′ .0) _) (t .pins) _ l (λ a z. a)
           (λ g r.
           getD-set-other (t .«snapshot_xmins») (slot′ .0) (slot .0) _ 0
           (slots-differ slot id slot′ id′ t (same-txids _ t slot id refl r) (o .registered) q))))
+  noted-accepted c last l (takes-pin clock sample p e k o f) = rw e (not-moved (rw p) (λ q. rw p) (left-same _ _ l))
+  noted-accepted c last l (frees-pin k p e h) = rw e (not-moved (rw p) (λ q. rw p) (left-same _ _ l))
 
   pub noted : (c : Call) (last : Option Snapshot) → Noted n t slot id c last (refusal n t c) (after n t c)
   unfolding consumed spent after
@@ -142,5 +145,5 @@ module _ (n : ℕ) (t : Table) (slot : SlotNo) (id : Txid) where
       (λ r f. not-moved refl (λ p. absurd (refuse-not-pass r p)) (refused r f))
     where
       refused : (r : Refusal) → Declined n t c r → Left n t slot id (applied t (changeRefused t r))
-      refused r (stays p) = rw p (left-same _ (line-stays refl))
-      refused r (spends number p q h f) = rw q (left-same _ (line-stays refl))
+      refused r (stays p) = rw p (left-same (t .pins) _ (line-stays refl))
+      refused r (spends number p q h f) = rw q (left-same (t .pins) _ (line-stays refl))

@@ -1,7 +1,7 @@
 -- The promise holds, for every number of slots.
 use Prim.Native.Nat.{ℕ, _≤_, _<_}
-use mathlib.Core.Path.{_≡_, sym, _∙_, ap}
-use mathlib.Core.Logic.{_↔_}
+use mathlib.Core.Path.{_≡_, refl, sym, _∙_, ap}
+use mathlib.Core.Logic.{_↔_, _⊎_, inl, inr}
 use mathlib.Core.Bool.{true, false≢true}
 use mathlib.Core.List.{List, [], _∷_, _++_}
 use mathlib.Core.Option.{none}
@@ -11,7 +11,8 @@ use lib.Seq.{append-snoc}
 use borrow.Author.Tests.{le-ltb, ne-eqb}
 use Rattle.kinds.specs.declared.SlotNo.{SlotNo}
 use Rattle.kinds.specs.declared.Txid.{Txid}
-use Rattle.kinds.specs.Kinds.{txid}
+use Rattle.kinds.specs.declared.PinNo.{PinNo}
+use Rattle.kinds.specs.Kinds.{pinNo, txid}
 use Rattle.kinds.specs.Refusals.{accepted}
 use Rattle.kinds.specs.declared.refusal.Verdict.{Verdict}
 use Rattle.kinds.specs.declared.refusal.Verdict.the-variants.{Pass, Refuse}
@@ -19,44 +20,58 @@ use Rattle.settled.specs.declared.Snapshot.{Snapshot}
 use Rattle.settled.specs.Settled.{settledTest}
 use Rattle.model.specs.declared.Table.{Table}
 use Rattle.model.specs.declared.answer.Answer.the-variants.{Line}
+use Rattle.model.specs.Tally.{lowestEmpty}
 use Rattle.model.specs.Tables.{freshTable, lineOf}
 use Rattle.model.specs.Changes.{applied}
-use Rattle.model.specs.Calls.{Call, own, vacuum, refusal, changeAccepted, changeBy, changeOf, after, answerAccepted, answerBy}
+use Rattle.model.specs.Calls.{Call, own, vacuum, pin, refusal, changeAccepted, changeBy, changeOf, after, answerAccepted, answerBy}
 use Rattle.model.specs.Calls.{answer, shown}
 use Rattle.model.specs.Deeds.{takesSnapshot}
 use Rattle.model.specs.Accepted.{Registered, Owns}
 use Rattle.model.specs.History.{run, reached, Accepts, lastFrom, lastOwn, IsLast}
-use Rattle.model.specs.Promise.{SettledBelow, lineAfter, Covered, of-transaction, Promise, Gives, VacuumPromise}
+use Rattle.model.specs.Pins.{heldFrom, heldSnapshot, IsHeld}
+use Rattle.model.specs.Promise.{SettledBelow, lineAfter, Covered, of-transaction, of-pin, Promise, Gives, VacuumPromise}
 use Rattle.model.proofs.Accepted.{accepted-acceptable}
 use Rattle.model.proofs.Transactions.{registered-taken}
 use Rattle.model.proofs.Moves.{is-taken}
 use Rattle.model.proofs.Answers.{line-given, refused-not-line}
 use Rattle.model.proofs.Calls.{after-accepted}
-use Rattle.model.proofs.Does.{Does, stands, enters, leaves, retakes, does}
+use Rattle.model.proofs.Does.{Does, stands, enters, leaves, retakes, takes-pin, frees-pin, does}
 use Rattle.model.proofs.Facts.{good-reached}
 use Rattle.model.proofs.History.{run-append, run-snoc}
 use Rattle.model.proofs.Rising.{line-after, line-never-falls}
 use Rattle.model.proofs.Last.{last-append, last-own, walk-words, words-walk, words-registered}
 use Rattle.model.proofs.Retention.{last-keeps}
+use Rattle.model.proofs.PinHeld.{held-keeps}
+use Rattle.model.proofs.PinWords.{held-append, held-now, held-in-words}
 
--- covered, in words: the last transaction snapshot of somebody, as the history is written
+-- covered, in words: the last transaction snapshot of somebody, or the one that a pin holds, as the history is written
+abbrev pub LastOfSomebody : ℕ → List Call → Snapshot → Type 0
+LastOfSomebody n cs s = (slot : SlotNo) × (id : Txid) × IsLast n (freshTable n) slot id cs s
+
+abbrev pub HeldBySome : ℕ → List Call → Snapshot → Type 0
+HeldBySome n cs s = (k : PinNo) × IsHeld n (freshTable n) k cs s
+
 pub covered-in-words :
     (n : ℕ) (cs : List Call) (s : Snapshot) →
-    Covered n cs s ↔ ((slot : SlotNo) × (id : Txid) × IsLast n (freshTable n) slot id cs s)
+    Covered n cs s ↔ (LastOfSomebody n cs s ⊎ HeldBySome n cs s)
 covered-in-words n cs s = (to, from)
   where
-    to : Covered n cs s → (slot : SlotNo) × (id : Txid) × IsLast n (freshTable n) slot id cs s
-    to (of-transaction slot id r e) = (slot, id, walk-words n (freshTable n) slot id cs s r e)
+    to : Covered n cs s → LastOfSomebody n cs s ⊎ HeldBySome n cs s
+    to (of-transaction slot id r e) = inl (slot, id, walk-words n (freshTable n) slot id cs s r e)
+    to (of-pin k e) = inr (k, held-in-words n cs k s .0 e)
 
-    from : (slot : SlotNo) × (id : Txid) × IsLast n (freshTable n) slot id cs s → Covered n cs s
-    from (slot, id, w) =
+    from : LastOfSomebody n cs s ⊎ HeldBySome n cs s → Covered n cs s
+    from (inl (slot, id, w)) =
         of-transaction slot id (words-registered n (freshTable n) slot id cs s w) (words-walk n (freshTable n) slot id cs s w)
+    from (inr (k, w)) = of-pin k (held-in-words n cs k s .1 w)
 
 pub covered-settled : (n : ℕ) (cs : List Call) (s : Snapshot) → Covered n cs s → SettledBelow (lineAfter n cs) s
 covered-settled n cs s (of-transaction slot id r e) x h l = last-keeps n cs slot id s e .settles r x l
+covered-settled n cs s (of-pin k e) x h l = held-keeps n cs k s e .settles x l
 
 pub covered-count : (n : ℕ) (cs : List Call) (s : Snapshot) → Covered n cs s → s .count ≤ n
 covered-count n cs s (of-transaction slot id r e) = last-keeps n cs slot id s e .few
+covered-count n cs s (of-pin k e) = held-keeps n cs k s e .few
 
 -- a transaction snapshot is covered from the call that takes it on
 pub own-covered :
@@ -82,6 +97,26 @@ own-settled n cs slot id clock sample e x h l =
     covered-settled n (cs ++ own slot id clock sample ∷ []) _ (own-covered n cs slot id clock sample e) x h
     (le-trans l (line-never-falls n cs (own slot id clock sample ∷ [])))
 
+-- so is a pinned one
+pub pin-covered :
+    (n : ℕ) (cs : List Call) (clock sample : ℕ) → Accepts n (reached n cs) (pin clock sample) →
+    Covered n (cs ++ pin clock sample ∷ []) (shown n (reached n cs) (pin clock sample))
+unfolding heldFrom
+pin-covered n cs clock sample e =
+    of-pin k
+    (held-append n k (freshTable n) cs (pin clock sample ∷ []) none
+    ∙ held-now n k (reached n cs) clock sample (heldSnapshot n k cs) (record { accepted = e; lowest = refl }))
+  where
+    k : PinNo
+    k = pinNo (lowestEmpty (reached n cs .pins))
+
+pin-settled :
+    (n : ℕ) (cs : List Call) (clock sample : ℕ) → Accepts n (reached n cs) (pin clock sample) →
+    SettledBelow (lineAfter n cs) (shown n (reached n cs) (pin clock sample))
+pin-settled n cs clock sample e x h l =
+    covered-settled n (cs ++ pin clock sample ∷ []) _ (pin-covered n cs clock sample e) x h
+    (le-trans l (line-never-falls n cs (pin clock sample ∷ [])))
+
 pub taken-settled :
     (n : ℕ) (cs : List Call) (c : Call) → takesSnapshot c ≡ true → Accepts n (reached n cs) c →
     SettledBelow (lineAfter n cs) (shown n (reached n cs) c)
@@ -92,6 +127,8 @@ taken-settled n cs c k e = go (does n (reached n cs) c (accepted-acceptable n (r
     go (enters number p q r f g) = absurd (false≢true (sym (rw p) ∙ k))
     go (leaves slot id d q o) = absurd (false≢true (sym (rw d) ∙ k))
     go (retakes slot id clock sample p q h o) = rw p (own-settled n cs slot id clock sample (rw p at e))
+    go (takes-pin clock sample p q m o f) = rw p (pin-settled n cs clock sample (rw p at e))
+    go (frees-pin j p q h) = absurd (false≢true (sym (rw p) ∙ k))
 
 pub promise : (n : ℕ) → Promise n
 promise n =

@@ -9,11 +9,12 @@ use borrow.Author.Tests.{leb-true}
 use Rattle.kinds.specs.declared.Stamp.{Stamp}
 use Rattle.kinds.specs.declared.SlotNo.{SlotNo}
 use Rattle.kinds.specs.declared.Txid.{Txid}
+use Rattle.kinds.specs.declared.PinNo.{PinNo}
 use Rattle.kinds.specs.declared.refusal.Refusal.{Refusal}
 use Rattle.kinds.specs.declared.refusal.Refusal.the-variants.{NoFreeSlot}
 use Rattle.kinds.specs.declared.refusal.Verdict.{Verdict}
 use Rattle.kinds.specs.declared.refusal.Verdict.the-variants.{Pass, Refuse}
-use Rattle.kinds.specs.Kinds.{top, txidOf}
+use Rattle.kinds.specs.Kinds.{top, pinCount, txidOf}
 use Rattle.kinds.specs.Refusals.{consumed}
 use Rattle.kinds.specs.Verdicts.{then, zeroTest}
 use Rattle.kinds.proofs.Verdicts.{refuse-not-pass, same-refusal}
@@ -21,7 +22,8 @@ use Rattle.model.specs.declared.Table.{Table}
 use Rattle.model.specs.Tables.{clockOf}
 use Rattle.model.specs.Tally.{lowestEmpty}
 use Rattle.model.specs.Tests.{slotTest, holderTest, ownerTest, farthest, reservationTest, fullTest, observationTest}
-use Rattle.model.specs.Calls.{Call, begin, end, snap, own, oldest, vacuum, stamp, finish, refusal, spent}
+use Rattle.model.specs.Tests.{pinTest, releaseTest}
+use Rattle.model.specs.Calls.{Call, begin, end, snap, own, oldest, vacuum, stamp, finish, pin, unpin, refusal, spent}
 use Rattle.model.specs.Accepted.{Reserves}
 use Rattle.model.specs.Deeds.{opens}
 use Rattle.model.proofs.Tests.{reserves}
@@ -66,6 +68,15 @@ unfolding consumed
 observation-uses former clock sample =
     cond-uses (ltb clock former) _ _ refl (cond-uses (eqb sample 0 || ltb clock sample) _ _ refl refl)
 
+pin-uses : (pins : List ℕ) → uses (pinTest pins) ≡ []
+unfolding consumed
+pin-uses pins = cond-uses (leb pinCount (lowestEmpty pins)) _ _ refl refl
+
+release-uses : (pins : List ℕ) (k : PinNo) → uses (releaseTest pins k) ≡ []
+unfolding consumed
+release-uses pins k =
+    cond-uses (leb pinCount (k .0)) _ _ refl (cond-uses (eqb (getD pins (k .0) 0) 0) _ _ refl refl)
+
 begin-declined :
     (n : ℕ) (t : Table) (number : Stamp) (r : Refusal) →
     then (reservationTest (clockOf t) number) (fullTest n (t .txids) number) ≡ Refuse r → Declined n t (begin number) r
@@ -102,6 +113,12 @@ declined n t (finish slot id number) r e =
     (sym (ap uses e)
     ∙ then-uses (ownerTest n (t .txids) slot id) (reservationTest (clockOf t) number)
     (owner-uses n (t .txids) slot id) (reservation-uses (clockOf t) number))
+declined n t (pin clock sample) r e =
+    stays
+    (sym (ap uses e)
+    ∙ then-uses (observationTest (clockOf t) clock sample) (pinTest (t .pins))
+    (observation-uses (clockOf t) clock sample) (pin-uses (t .pins)))
+declined n t (unpin k) r e = stays (sym (ap uses e) ∙ release-uses (t .pins) k)
 
 -- every refusal but a begin's leaves the counters
 pub refused-kept :

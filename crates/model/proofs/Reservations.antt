@@ -16,7 +16,8 @@ use Rattle.settled.proofs.Listed.{listed-none, listed-head, listed-cases}
 use Rattle.kinds.specs.Refusals.{consumed}
 use Rattle.model.specs.declared.Table.{Table}
 use Rattle.model.specs.Tables.{freshTable, clockOf}
-use Rattle.model.specs.Calls.{Call, begin, end, snap, own, oldest, vacuum, stamp, finish, refusal, changeAccepted, spent, after}
+use Rattle.model.specs.Calls.{Call, begin, end, snap, own, oldest, vacuum, stamp, finish, pin, unpin, refusal}
+use Rattle.model.specs.Calls.{changeAccepted, spent, after}
 use Rattle.model.specs.Accepted.{Acceptable}
 use Rattle.model.specs.History.{run, reached, Accepts}
 use Rattle.model.specs.Reservations.{reservesAccepted, reservesBy, reservationsFrom, reservations}
@@ -41,6 +42,8 @@ step-accepted n t (oldest clock sample) o = nothing refl (o .onward)
 step-accepted n t (vacuum clock sample) o = nothing refl (o .onward)
 step-accepted n t (stamp number) r = one (number .0) refl (r .positive) (r .from-clock) refl
 step-accepted n t (finish slot id number) (o, r) = one (number .0) refl (r .positive) (r .from-clock) refl
+step-accepted n t (pin clock sample) (o, f) = nothing refl (o .onward)
+step-accepted n t (unpin k) h = nothing refl (le-refl _)
 
 pub reserve-step : (n : ℕ) (t : Table) (c : Call) → Step (clockOf t) (reservesBy (refusal n t c) c) (clockOf (after n t c))
 unfolding consumed spent after
@@ -142,7 +145,7 @@ reservations-snoc n cs c =
     reservations-append n (freshTable n) cs (c ∷ [])
     ∙ ap (λ (l : List ℕ). reservations n cs ++ l) (append-nil (reservesBy (refusal n (reached n cs) c) c))
 
--- end, snap, own, oldest and vacuum reserve nothing, accepted or refused
+-- end, snap, own, oldest, vacuum, pin and unpin reserve nothing, accepted or refused
 pub reserves-nothing :
     (n : ℕ) (t : Table) (c : Call) → reservesAccepted c ≡ [] → reservesBy (refusal n t c) c ≡ []
 reserves-nothing n t c e = by-verdict n t c (λ v d. reservesBy v c ≡ []) (λ a. e) other

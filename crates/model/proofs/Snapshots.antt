@@ -1,17 +1,20 @@
--- Which ids are settled in the snapshot of a registered transaction: all below what bounds the taken txids.
-use Prim.Native.Nat.{ℕ, _≤_, _<_}
+-- Which ids are settled in the snapshot of a registered transaction, and in one whose sample is raised: all below what bounds
+-- the taken txids.
+use Prim.Native.Nat.{ℕ, _≤_, _<_, max}
 use mathlib.Core.Path.{_≡_, refl, sym, _∙_}
 use mathlib.Core.Logic.{_≢_}
-use mathlib.Core.Bool.{Bool, true, false}
+use mathlib.Core.Bool.{Bool, true, false, cond}
 use mathlib.Core.List.{List}
+use native.Mathlib.Nat.{le-refl}
 use native.Mathlib.Omega.{arith}
+use lib.Dec.{eqb}
 use lib.ListN.{length, getD}
 use borrow.Author.Tests.{lt-ltb, ne-eqb}
-use Rattle.kinds.specs.Kinds.{top}
+use Rattle.kinds.specs.Kinds.{top, saturatingNext}
 use Rattle.settled.specs.declared.Snapshot.{Snapshot}
 use Rattle.settled.specs.Settled.{listed, settledIn}
 use Rattle.settled.proofs.Listed.{listed-place}
-use Rattle.model.specs.Tally.{active, xmaxOf, snapshotOf}
+use Rattle.model.specs.Tally.{active, maximum, xmaxOf, snapshotOf}
 use Rattle.model.proofs.Tally.{maximum-member, taken-active, active-taken, used-places}
 
 -- the settled test's definition, of a whole snapshot
@@ -38,6 +41,26 @@ not-active txids bound x under l = go (listed x (active txids)) refl
     go : (b : Bool) → listed x (active txids) ≡ b → listed x (active txids) ≡ false
     go true e = absurd (clash (active-taken txids x e))
     go false e = e
+
+-- the sample is at most xmax
+pub sample-to-xmax : (sample : ℕ) (ids : List ℕ) → sample ≤ xmaxOf sample ids
+sample-to-xmax sample ids = go (eqb (length ids) 0)
+  where
+    go : (b : Bool) → sample ≤ cond b sample (max sample (saturatingNext (maximum 0 ids)))
+    go true = le-refl _
+    go false = omega arith
+
+-- so of a snapshot whose sample is at least the bound too, registered or not
+pub settled-in-pinned :
+    (n : ℕ) (txids : List ℕ) (sample bound x : ℕ) → bound ≤ sample →
+    ((j : ℕ) → getD txids j 0 ≢ 0 → bound ≤ getD txids j 0) → x < bound → Settles (snapshotOf n txids sample) x
+unfolding snapshotOf
+settled-in-pinned n txids sample bound x h under l =
+    rw (
+      lt-ltb x (xmaxOf sample (active txids)) (omega (arith, sample-to-xmax sample (active txids))),
+      used-places n (active txids),
+      not-active txids bound x under l,
+    )
 
 pub settled-in-own :
     (n : ℕ) (txids : List ℕ) (sample i bound x : ℕ) → getD txids i 0 ≢ 0 → getD txids i 0 < top →

@@ -1,6 +1,6 @@
 -- The tallies over any columns: which bounds hold, who is active, which slot is the lowest empty one, how many are taken.
 use Prim.Native.Nat.{ℕ, zero, suc, _+_, _-_, _≤_, _<_, min, max}
-use mathlib.Core.Path.{_≡_, refl, sym, _∙_}
+use mathlib.Core.Path.{_≡_, refl, sym, _∙_, ap}
 use mathlib.Core.Logic.{_≢_, _⊎_, inl, inr}
 use mathlib.Core.Bool.{Bool, true, false, cond, false≢true}
 use mathlib.Core.List.{List, [], _∷_}
@@ -106,6 +106,18 @@ taken-retained (x ∷ xs) [] i e h = absurd (suc-ne-zero _ e)
 taken-retained (x ∷ xs) (m ∷ ms) zero e h = consUnless-head (eqb x 0) m (retained xs ms) (ne-eqb x 0 h)
 taken-retained (x ∷ xs) (m ∷ ms) (suc i) e h =
     consUnless-tail (eqb x 0) (getD ms i 0) m (retained xs ms) (taken-retained xs ms i (suc-inj e) h)
+
+-- a pin retains what it holds, so that pins are scanned as slots are
+pub retained-self : (xs : List ℕ) → retained xs xs ≡ active xs
+unfolding retained active
+retained-self [] = refl
+retained-self (x ∷ xs) = ap (consUnless (eqb x 0) x) (retained-self xs)
+
+-- where every place is 0, none is active
+pub none-active : (xs : List ℕ) → ((i : ℕ) → getD xs i 0 ≡ 0) → active xs ≡ []
+unfolding active
+none-active [] f = refl
+none-active (x ∷ xs) f = rw (eq-eqb x 0 (f 0)) (none-active xs (λ i. f (suc i)))
 
 -- the lowest empty slot is empty (a place past the end reads 0), and those below it are taken
 pub lowest-empty : (txids : List ℕ) → getD txids (lowestEmpty txids) 0 ≡ 0

@@ -11,15 +11,17 @@ use borrow.Author.Tests.{ltb-false, leb-false, eqb-true, eqb-false, le-ltb, lt-l
 use Rattle.kinds.specs.declared.Stamp.{Stamp}
 use Rattle.kinds.specs.declared.SlotNo.{SlotNo}
 use Rattle.kinds.specs.declared.Txid.{Txid}
-use Rattle.kinds.specs.Kinds.{top}
+use Rattle.kinds.specs.declared.PinNo.{PinNo}
+use Rattle.kinds.specs.Kinds.{top, pinCount}
 use Rattle.kinds.specs.declared.refusal.Verdict.the-variants.{Pass}
 use Rattle.kinds.specs.Verdicts.{zeroTest}
 use Rattle.kinds.proofs.Verdicts.{not-refused, passed-by, then-pass}
 use Rattle.model.specs.declared.Table.{Table}
 use Rattle.model.specs.Tally.{lowestEmpty}
-use Rattle.model.specs.Tables.{txidAt}
+use Rattle.model.specs.Tables.{txidAt, pinAt}
 use Rattle.model.specs.Tests.{slotTest, holderTest, ownerTest, farthest, reservationTest, fullTest, observationTest}
-use Rattle.model.specs.Accepted.{Owns, Free, Reserves, Observes}
+use Rattle.model.specs.Tests.{pinTest, releaseTest}
+use Rattle.model.specs.Accepted.{Owns, Free, Reserves, Observes, SomePinFree, PinTaken}
 use Rattle.model.proofs.Tally.{lowest-empty, below-lowest}
 
 pub owns : (n : ℕ) (t : Table) (slot : SlotNo) (id : Txid) → ownerTest n (t .txids) slot id ≡ Pass → Owns n t slot id
@@ -74,6 +76,28 @@ free n t number e =
       empty = lowest-empty (t .txids);
     }
 
+-- the same of pins
+pub free-pin-lowest : (t : Table) → SomePinFree t → lowestEmpty (t .pins) < pinCount
+free-pin-lowest t f = go (decLt (lowestEmpty (t .pins)) pinCount)
+  where
+    go : Dec (lowestEmpty (t .pins) < pinCount) → lowestEmpty (t .pins) < pinCount
+    go (yes h) = h
+    go (no h) = absurd (below-lowest (t .pins) (f .number) (omega (arith, f .inside)) (f .is-free))
+
+pub some-pin-free : (t : Table) → pinTest (t .pins) ≡ Pass → SomePinFree t
+some-pin-free t e =
+    record {
+      number = lowestEmpty (t .pins);
+      inside = leb-false pinCount (lowestEmpty (t .pins)) (not-refused (leb pinCount (lowestEmpty (t .pins))) _ Pass e .0);
+      is-free = lowest-empty (t .pins);
+    }
+
+pub pin-taken : (t : Table) (k : PinNo) → releaseTest (t .pins) k ≡ Pass → PinTaken t k
+pin-taken t k e =
+    let (a, e₁) = not-refused (leb pinCount (k .0)) _ _ e in
+    let (b, e₂) = not-refused (eqb (pinAt t (k .0)) 0) _ Pass e₁ in
+    record { inside = leb-false pinCount (k .0) a; not-free = eqb-false (pinAt t (k .0)) 0 b }
+
 -- and the other way round: each test passes on what it asks for
 pub owner-passes : (n : ℕ) (t : Table) (slot : SlotNo) (id : Txid) → Owns n t slot id → ownerTest n (t .txids) slot id ≡ Pass
 owner-passes n t slot id o =
@@ -103,3 +127,9 @@ observation-passes former clock sample o =
 
 pub free-passes : (n : ℕ) (t : Table) (number : Stamp) → Free n t → fullTest n (t .txids) number ≡ Pass
 free-passes n t number f = rw (lt-leb n (lowestEmpty (t .txids)) (free-lowest n t f))
+
+pub free-pin-passes : (t : Table) → SomePinFree t → pinTest (t .pins) ≡ Pass
+free-pin-passes t f = rw (lt-leb pinCount (lowestEmpty (t .pins)) (free-pin-lowest t f))
+
+pub taken-pin-passes : (t : Table) (k : PinNo) → PinTaken t k → releaseTest (t .pins) k ≡ Pass
+taken-pin-passes t k h = rw (lt-leb pinCount (k .0) (h .inside), ne-eqb (pinAt t (k .0)) 0 (h .not-free))

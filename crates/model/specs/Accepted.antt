@@ -4,11 +4,12 @@ use mathlib.Core.Path.{_≡_}
 use mathlib.Core.Logic.{_≢_}
 use Rattle.kinds.specs.declared.SlotNo.{SlotNo}
 use Rattle.kinds.specs.declared.Txid.{Txid}
-use Rattle.kinds.specs.Kinds.{top}
+use Rattle.kinds.specs.declared.PinNo.{PinNo}
+use Rattle.kinds.specs.Kinds.{top, pinCount}
 use Rattle.model.specs.declared.Table.{Table}
-use Rattle.model.specs.Tables.{txidAt, clockOf}
+use Rattle.model.specs.Tables.{txidAt, pinAt, clockOf}
 use Rattle.model.specs.Tests.{farthest}
-use Rattle.model.specs.Calls.{Call, begin, end, snap, own, oldest, vacuum, stamp, finish}
+use Rattle.model.specs.Calls.{Call, begin, end, snap, own, oldest, vacuum, stamp, finish, pin, unpin}
 
 -- the transaction (slot, id) is registered: the slot holds that txid
 pub record Registered (t : Table) (slot : SlotNo) (id : Txid) : Type 0 where
@@ -39,6 +40,17 @@ pub record Observes (former clock sample : ℕ) : Type 0 where
   pub positive : 1 ≤ sample
   pub within : sample ≤ clock
 
+-- some pin is free
+pub record SomePinFree (t : Table) : Type 0 where
+  pub number : ℕ
+  pub inside : number < pinCount
+  pub is-free : pinAt t number ≡ 0
+
+-- the pin holds a snapshot
+pub record PinTaken (t : Table) (k : PinNo) : Type 0 where
+  pub inside : k .0 < pinCount
+  pub not-free : pinAt t (k .0) ≢ 0
+
 abbrev pub Acceptable : ℕ → Table → Call → Type 0
 Acceptable n t (begin number) = Reserves (clockOf t) (number .0) × Free n t
 Acceptable n t (end slot id) = Owns n t slot id
@@ -48,3 +60,5 @@ Acceptable n t (oldest clock sample) = Observes (clockOf t) clock sample
 Acceptable n t (vacuum clock sample) = Observes (clockOf t) clock sample
 Acceptable n t (stamp number) = Reserves (clockOf t) (number .0)
 Acceptable n t (finish slot id number) = Owns n t slot id × Reserves (clockOf t) (number .0)
+Acceptable n t (pin clock sample) = Observes (clockOf t) clock sample × SomePinFree t
+Acceptable n t (unpin k) = PinTaken t k

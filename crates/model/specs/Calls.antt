@@ -1,32 +1,33 @@
--- The eight calls on a table of n slots: when each is refused, what it changes, what it answers, and the snapshot that it shows.
+-- The ten calls on a table of n slots: when each is refused, what it changes, what it answers, and the snapshot that it shows.
 use Prim.Native.Nat.{ℕ, max}
 use mathlib.Core.List.{List, [], _∷_}
 use Rattle.kinds.specs.declared.Stamp.{Stamp}
 use Rattle.kinds.specs.declared.SlotNo.{SlotNo}
+use Rattle.kinds.specs.declared.PinNo.{PinNo}
 use Rattle.kinds.specs.declared.Txid.{Txid}
 use Rattle.kinds.specs.declared.refusal.Verdict.{Verdict}
 use Rattle.kinds.specs.declared.refusal.Verdict.the-variants.{Pass, Refuse}
-use Rattle.kinds.specs.Kinds.{slot, txidOf}
+use Rattle.kinds.specs.Kinds.{slot, pinNo, txidOf}
 use Rattle.kinds.specs.Refusals.{consumed}
 use Rattle.kinds.specs.Verdicts.{then}
 use Rattle.settled.specs.declared.Snapshot.{Snapshot}
 use Rattle.settled.specs.Snapshots.{noSnapshot}
 use Rattle.model.specs.declared.Counters.{Counters}
 use Rattle.model.specs.declared.Table.{Table}
-use Rattle.model.specs.declared.change.SlotChange.the-variants.{Stays, Enters, Leaves, Retains}
+use Rattle.model.specs.declared.change.SlotChange.the-variants.{Stays, Enters, Leaves, Retains, Pins}
 use Rattle.model.specs.declared.change.Change.{Change}
 use Rattle.model.specs.declared.answer.Answer.{Answer}
-use Rattle.model.specs.declared.answer.Answer.the-variants.{Begun, Done, Oldest, Line, Stamped, Refused}
+use Rattle.model.specs.declared.answer.Answer.the-variants.{Begun, Done, Pinned, Oldest, Line, Stamped, Refused}
 use Rattle.model.specs.declared.answer.Decision.{Decision}
 use Rattle.model.specs.declared.answer.SnapshotDecision.{SnapshotDecision}
 use Rattle.model.specs.declared.answer.Outcome.{Outcome}
 use Rattle.model.specs.declared.answer.SnapshotOutcome.{SnapshotOutcome}
-use Rattle.model.specs.Tally.{active, lowestEmpty, xminOf, snapshotOf, oldestOf, holderOf, noHolder}
+use Rattle.model.specs.Tally.{active, lowestEmpty, minimum, xminOf, snapshotOf, oldestOf, holderOf, pinHolderOf}
 use Rattle.model.specs.Tables.{lineOf, clockOf}
 use Rattle.model.specs.Changes.{change, pastNumber, observed, withLine, applied}
-use Rattle.model.specs.Tests.{ownerTest, reservationTest, fullTest, observationTest}
+use Rattle.model.specs.Tests.{ownerTest, reservationTest, fullTest, observationTest, pinTest, releaseTest}
 
--- a call with what the host hands in: a reserved number; a registration; a clock with a sample of it
+-- a call with what the host hands in: a reserved number; a registration; a clock with a sample of it; a pin's number
 pub data Call : Type 0 where
   begin : Stamp → Call
   end : SlotNo → Txid → Call
@@ -36,6 +37,8 @@ pub data Call : Type 0 where
   vacuum : ℕ → ℕ → Call
   stamp : Stamp → Call
   finish : SlotNo → Txid → Stamp → Call
+  pin : ℕ → ℕ → Call
+  unpin : PinNo → Call
 
 -- the order of checks of each call
 unfoldable pub refusal : ℕ → Table → Call → Verdict
@@ -47,18 +50,25 @@ refusal n t (oldest clock sample) = observationTest (clockOf t) clock sample
 refusal n t (vacuum clock sample) = observationTest (clockOf t) clock sample
 refusal n t (stamp number) = reservationTest (clockOf t) number
 refusal n t (finish slot id number) = then (ownerTest n (t .txids) slot id) (reservationTest (clockOf t) number)
+refusal n t (pin clock sample) = then (observationTest (clockOf t) clock sample) (pinTest (t .pins))
+refusal n t (unpin k) = releaseTest (t .pins) k
 
--- what oldest finds on this table
+-- what oldest finds on this table: the smallest of sample, the snapshot_xmin of taken slots, and the taken pins
 abbrev pub oldestIn : Table → ℕ → ℕ
-oldestIn t sample = oldestOf (t .txids) (t .«snapshot_xmins») sample
+oldestIn t sample = minimum (oldestOf (t .txids) (t .«snapshot_xmins») sample) (active (t .pins))
 
--- who holds that back: the lowest taken slot that retains it
+-- who holds that back: the lowest taken slot that retains it; where none does, the lowest pin
 abbrev pub holderIn : Table → ℕ → ℕ
-holderIn t sample = holderOf (t .txids) (t .«snapshot_xmins») (oldestIn t sample) noHolder
+holderIn t sample =
+    holderOf (t .txids) (t .«snapshot_xmins») (oldestIn t sample) (pinHolderOf (t .pins) (oldestIn t sample))
 
 -- the line that a vacuum leaves
 abbrev pub raisedLine : Table → ℕ → ℕ
 raisedLine t sample = max (lineOf t) (oldestIn t sample)
+
+-- the sample that a pinned snapshot uses: the larger of the one given and the line
+abbrev pub pinSample : Table → ℕ → ℕ
+pinSample t sample = max sample (lineOf t)
 
 -- what an accepted call changes
 unfoldable pub changeAccepted : Table → Call → Change
@@ -72,6 +82,10 @@ changeAccepted t (oldest clock sample) = change Stays (observed clock sample (t 
 changeAccepted t (vacuum clock sample) = change Stays (withLine (raisedLine t sample) (observed clock sample (t .counters)))
 changeAccepted t (stamp number) = change Stays (pastNumber (number .0) (t .counters))
 changeAccepted t (finish slot id number) = change (Leaves slot) (pastNumber (number .0) (t .counters))
+changeAccepted t (pin clock sample) =
+    change (Pins (pinNo (lowestEmpty (t .pins))) (xminOf (pinSample t sample) (active (t .txids))))
+    (observed clock sample (t .counters))
+changeAccepted t (unpin k) = change (Pins k 0) (t .counters)
 
 -- the clock goes past each number that was consumed
 unfoldable pub spent : List ℕ → Counters → Counters
@@ -100,6 +114,8 @@ answerAccepted t (oldest clock sample) = Oldest (oldestIn t sample) (holderIn t 
 answerAccepted t (vacuum clock sample) = Line (raisedLine t sample) (holderIn t sample)
 answerAccepted t (stamp number) = Stamped number
 answerAccepted t (finish slot id number) = Stamped number
+answerAccepted t (pin clock sample) = Pinned (pinNo (lowestEmpty (t .pins)))
+answerAccepted t (unpin k) = Done
 
 abbrev pub answerBy : Verdict → Table → Call → Answer
 answerBy Pass t c = answerAccepted t c
@@ -118,6 +134,8 @@ shownAccepted n t (oldest clock sample) = noSnapshot n
 shownAccepted n t (vacuum clock sample) = noSnapshot n
 shownAccepted n t (stamp number) = noSnapshot n
 shownAccepted n t (finish slot id number) = noSnapshot n
+shownAccepted n t (pin clock sample) = snapshotOf n (t .txids) (pinSample t sample)
+shownAccepted n t (unpin k) = noSnapshot n
 
 -- beside a refusal stands a snapshot of zeros only
 abbrev pub shownBy : Verdict → ℕ → Table → Call → Snapshot

@@ -6,7 +6,7 @@ use Rattle.kinds.specs.declared.Stamp.{Stamp}
 use Rattle.model.specs.declared.Counters.{Counters}
 use Rattle.model.specs.declared.Table.{Table}
 use Rattle.model.specs.declared.change.SlotChange.{SlotChange}
-use Rattle.model.specs.declared.change.SlotChange.the-variants.{Stays, Enters, Leaves, Retains}
+use Rattle.model.specs.declared.change.SlotChange.the-variants.{Stays, Enters, Leaves, Retains, Pins}
 use Rattle.model.specs.declared.change.Change.{Change}
 use Rattle.model.specs.Tables.{counted}
 
@@ -29,12 +29,21 @@ txidsAfter Stays txids = txids
 txidsAfter (Enters slot txid) txids = set txids (slot .0) (txid .0)
 txidsAfter (Leaves slot) txids = set txids (slot .0) 0
 txidsAfter (Retains slot xmin) txids = txids
+txidsAfter (Pins pin xmin) txids = txids
 
 abbrev pub xminsAfter : SlotChange → List ℕ → List ℕ
 xminsAfter Stays xmins = xmins
 xminsAfter (Enters slot txid) xmins = set xmins (slot .0) (txid .0)
 xminsAfter (Leaves slot) xmins = set xmins (slot .0) 0
 xminsAfter (Retains slot xmin) xmins = set xmins (slot .0) xmin
+xminsAfter (Pins pin xmin) xmins = xmins
+
+abbrev pub pinsAfter : SlotChange → List ℕ → List ℕ
+pinsAfter Stays pins = pins
+pinsAfter (Enters slot txid) pins = pins
+pinsAfter (Leaves slot) pins = pins
+pinsAfter (Retains slot xmin) pins = pins
+pinsAfter (Pins pin xmin) pins = set pins (pin .0) xmin
 
 -- the table that a change leaves
 abbrev pub applied : Table → Change → Table
@@ -42,5 +51,6 @@ applied t c =
     record {
       txids = txidsAfter (c .slot) (t .txids);
       «snapshot_xmins» = xminsAfter (c .slot) (t .«snapshot_xmins»);
+      pins = pinsAfter (c .slot) (t .pins);
       counters = c .counters;
     }

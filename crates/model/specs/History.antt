@@ -1,4 +1,4 @@
--- Histories: lists of the eight calls with any arguments, refused ones included, and what is read off them.
+-- Histories: lists of the ten calls with any arguments, refused ones included, and what is read off them.
 use Prim.Native.Nat.{ℕ}
 use mathlib.Core.Path.{_≡_}
 use mathlib.Core.List.{List, [], _∷_, _++_}
@@ -16,7 +16,7 @@ use Rattle.model.specs.Tally.{lowestEmpty}
 use Rattle.model.specs.Tables.{freshTable}
 use Rattle.model.specs.declared.answer.Answer.the-variants.{Begun}
 use Rattle.model.specs.Calls.{Call, begin, own, refusal, after, answer, shown}
-use Rattle.model.specs.Deeds.{Deed, registers, ends, takes, idle, deed, sameTransaction, endOf, ownOf}
+use Rattle.model.specs.Deeds.{Deed, registers, ends, takes, takesPin, freesPin, idle, deed, sameTransaction, endOf, ownOf}
 use Rattle.model.specs.Accepted.{Registered}
 
 -- the table after the calls, one after the other
@@ -58,6 +58,8 @@ abbrev pub notedDeed : Deed → ℕ → SlotNo → Txid → Table → Call → O
 notedDeed registers n slot id t c last = forgotten (lowestEmpty (t .txids)) slot last
 notedDeed (ends slot′ id′) n slot id t c last = last
 notedDeed (takes slot′ id′) n slot id t c last = replaced slot id slot′ id′ (shown n t c) last
+notedDeed takesPin n slot id t c last = last
+notedDeed (freesPin k) n slot id t c last = last
 notedDeed idle n slot id t c last = last
 
 -- a refused call takes no snapshot and replaces none

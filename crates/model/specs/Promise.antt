@@ -6,6 +6,7 @@ use mathlib.Core.Option.{some}
 use mathlib.Core.Bool.{true}
 use Rattle.kinds.specs.declared.SlotNo.{SlotNo}
 use Rattle.kinds.specs.declared.Txid.{Txid}
+use Rattle.kinds.specs.declared.PinNo.{PinNo}
 use Rattle.settled.specs.declared.Snapshot.{Snapshot}
 use Rattle.settled.specs.Settled.{settledIn}
 use Rattle.model.specs.declared.answer.Answer.the-variants.{Line}
@@ -14,6 +15,7 @@ use Rattle.model.specs.Calls.{Call, vacuum, answer, shown}
 use Rattle.model.specs.Deeds.{takesSnapshot}
 use Rattle.model.specs.Accepted.{Registered}
 use Rattle.model.specs.History.{reached, Accepts, lastOwn}
+use Rattle.model.specs.Pins.{heldSnapshot}
 
 -- each id from 1 up to but not including the line is below xmax and not listed in flight: the settled test's own definition
 abbrev pub SettledBelow : ℕ → Snapshot → Type 0
@@ -23,18 +25,21 @@ SettledBelow line s = (x : ℕ) → 1 ≤ x → x < line → settledIn (s .xmax)
 abbrev pub lineAfter : ℕ → List Call → ℕ
 lineAfter n cs = lineOf (reached n cs)
 
--- the snapshots that are covered at the end of a history: the last transaction snapshot of each transaction then registered
+-- the snapshots that are covered at the end of a history: the last transaction snapshot of each transaction then registered, and
+-- the snapshot that each pin then holds
 pub data Covered (n : ℕ) (cs : List Call) (s : Snapshot) : Type 0 where
   of-transaction :
       (slot : SlotNo) (id : Txid) → Registered (reached n cs) slot id → lastOwn n slot id cs ≡ some s → Covered n cs s
+  of-pin : (k : PinNo) → heldSnapshot n k cs ≡ some s → Covered n cs s
 
 -- for every number of slots, every history and every call in it, whatever its arguments
 pub record Promise (n : ℕ) : Type 0 where
   -- the line never falls
   pub never-falls : (before after : List Call) → lineAfter n before ≤ lineAfter n (before ++ after)
-  -- for every line given out: in the last transaction snapshot of every transaction then registered ..
+  -- for every line given out: in the last transaction snapshot of every transaction then registered, in every snapshot then
+  -- pinned ..
   pub held : (cs : List Call) (s : Snapshot) → Covered n cs s → SettledBelow (lineAfter n cs) s
-  -- .. and in every transaction snapshot taken later
+  -- .. and in every transaction snapshot and every pinned one taken later
   pub later :
       (before after : List Call) (c : Call) → takesSnapshot c ≡ true → Accepts n (reached n (before ++ after)) c →
       SettledBelow (lineAfter n before) (shown n (reached n (before ++ after)) c)

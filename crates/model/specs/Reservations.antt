@@ -6,7 +6,7 @@ use Rattle.kinds.specs.declared.refusal.Verdict.the-variants.{Pass, Refuse}
 use Rattle.kinds.specs.Refusals.{consumed}
 use Rattle.model.specs.declared.Table.{Table}
 use Rattle.model.specs.Tables.{freshTable}
-use Rattle.model.specs.Calls.{Call, begin, end, snap, own, oldest, vacuum, stamp, finish, refusal, after}
+use Rattle.model.specs.Calls.{Call, begin, end, snap, own, oldest, vacuum, stamp, finish, pin, unpin, refusal, after}
 
 -- by an accepted begin, stamp or finish ..
 abbrev pub reservesAccepted : Call → List ℕ
@@ -18,6 +18,8 @@ reservesAccepted (oldest clock sample) = []
 reservesAccepted (vacuum clock sample) = []
 reservesAccepted (stamp number) = number .0 ∷ []
 reservesAccepted (finish slot id number) = number .0 ∷ []
+reservesAccepted (pin clock sample) = []
+reservesAccepted (unpin k) = []
 
 -- .. and by a refusal that consumes a number
 abbrev pub reservesBy : Verdict → Call → List ℕ

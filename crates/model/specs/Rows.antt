@@ -1,20 +1,21 @@
--- The twelve situations at the edges, and every pair of refusals whose order a call decides, each as one list.
+-- The twelve situations at the edges, every pair of refusals whose order a call decides, and what pins do, each as one list.
 use Prim.Native.Nat.{ℕ, zero, suc, _+_, _-_}
 use mathlib.Core.Path.{_≡_}
 use mathlib.Core.List.{List, [], _∷_}
 use lib.ListN.{length, replicate}
 use Rattle.kinds.specs.declared.Stamp.{Stamp}
 use Rattle.kinds.specs.declared.refusal.Refusal.the-variants.{NoFreeSlot, InvalidSlot, SlotOwnershipMismatch, ZeroTxid, ClockExhausted}
-use Rattle.kinds.specs.declared.refusal.Refusal.the-variants.{BadReservation, WildJump, BadClock, BadSample}
-use Rattle.kinds.specs.Kinds.{top, number, slot, txid}
+use Rattle.kinds.specs.declared.refusal.Refusal.the-variants.{BadReservation, WildJump, BadClock, BadSample, NoFreePin, InvalidPin}
+use Rattle.kinds.specs.declared.refusal.Refusal.the-variants.{FreePin}
+use Rattle.kinds.specs.Kinds.{top, pinCount, freePins, number, slot, pinNo, txid}
 use Rattle.settled.specs.declared.Snapshot.{Snapshot}
 use Rattle.settled.specs.Snapshots.{noSnapshot}
 use Rattle.model.specs.declared.Table.{Table}
 use Rattle.model.specs.declared.answer.Answer.{Answer}
-use Rattle.model.specs.declared.answer.Answer.the-variants.{Begun, Done, Oldest, Line, Stamped, Refused}
+use Rattle.model.specs.declared.answer.Answer.the-variants.{Begun, Done, Pinned, Oldest, Line, Stamped, Refused}
 use Rattle.model.specs.Tally.{places}
 use Rattle.model.specs.Tables.{counted, freshTable, clockOf, lineOf}
-use Rattle.model.specs.Calls.{Call, begin, end, snap, own, oldest, vacuum, stamp, finish, after, answer, shown}
+use Rattle.model.specs.Calls.{Call, begin, end, snap, own, oldest, vacuum, stamp, finish, pin, unpin, after, answer, shown}
 
 -- what is seen of a call: its answer, the snapshot beside it, and the clock and the line after it
 pub record Seen : Type 0 where
@@ -57,7 +58,7 @@ from (suc n) k = k ∷ from n (k + 1)
 
 -- a table whose taken slots, from slot 0 on, retain their own txids
 abbrev holding : List ℕ → ℕ → Table
-holding ids clock = record { txids = ids; «snapshot_xmins» = ids; counters = counted clock 1 1 }
+holding ids clock = record { txids = ids; «snapshot_xmins» = ids; pins = freePins; counters = counted clock 1 1 }
 
 -- seen of a call that shows no snapshot, and of one that does
 abbrev seen : ℕ → Answer → ℕ → ℕ → Seen
@@ -151,6 +152,16 @@ nowhere n clock = seen n (Refused (InvalidSlot (slot n))) clock 1
 abbrev exhausted : ℕ → Table
 exhausted n = holding (9 ∷ replicate (n - 1) 0) top
 
+-- three slots hold 9, 4, 7, and every pin holds 3
+abbrev allPinned : ℕ → Table
+allPinned n =
+    record {
+      txids = 9 ∷ 4 ∷ 7 ∷ replicate (n - 3) 0;
+      «snapshot_xmins» = 9 ∷ 4 ∷ 7 ∷ replicate (n - 3) 0;
+      pins = replicate pinCount 3;
+      counters = counted 12 1 1;
+    }
+
 -- a call that earns two refusals is given the one that its order has first; the clock of `three` is 12, so that 4294967308 is the
 -- farthest number there. 5 and 13 are never earned together: no number is above 2^64 − 1
 unfoldable pub orders : ℕ → List Row
@@ -211,11 +222,82 @@ orders n =
     -- near the end of the clock nothing wraps: 2^64 − 2 is still reserved there
     ∷ one (empty n 18446744073709551614) (stamp (number 18446744073709551614))
     (seen n (Stamped (number 18446744073709551614)) top 1)
+    -- 7 before 14 and 8 before 14, by a pinned snapshot, where every pin is taken; 8 reads the sample as given
+    ∷ one (three n) (pin 11 0) (seen n (Refused BadClock) 12 1)
+    ∷ one (allPinned n) (pin 11 1) (seen n (Refused BadClock) 12 1)
+    ∷ one (allPinned n) (pin 12 0) (seen n (Refused BadSample) 12 1)
+    ∷ one (allPinned n) (pin 12 13) (seen n (Refused BadSample) 12 1)
+    ∷ one (allPinned n) (pin 12 12) (seen n (Refused NoFreePin) 12 1)
+    -- 15 before 16, at the first number that no pin has; 16
+    ∷ one (three n) (unpin (pinNo pinCount)) (seen n (Refused (InvalidPin (pinNo pinCount))) 12 1)
+    ∷ one (three n) (unpin (pinNo 0)) (seen n (Refused (FreePin (pinNo 0))) 12 1)
     -- 5, 6 and 13 before 1
     ∷ one (full n top) (begin (number 1)) (seen n (Refused ClockExhausted) top 1)
     ∷ one (full n 1200) (begin (number 1199)) (seen n (Refused BadReservation) 1200 1)
     ∷ one (full n 1200) (begin (number 4294968497)) (seen n (Refused WildJump) 1200 1)
     ∷ one (full n 1200) (begin (number 4294968496)) (seen n (Refused (NoFreeSlot (txid 4294968496))) 4294968497 1)
+    ∷ []
+
+-- seen of a pinned snapshot
+abbrev pinned : ℕ → ℕ → ℕ → ℕ → List ℕ → ℕ → ℕ → Seen
+pinned n k xmin xmax ids clock line =
+    record {
+      answers = Pinned (pinNo k);
+      shows = record { xmin = xmin; xmax = xmax; ids = places n ids; count = length ids };
+      clock = clock;
+      line = line;
+    }
+
+-- what pins do: which one is taken, the sample that a snapshot uses, and whom they hold back
+unfoldable pub pinRows : ℕ → List Row
+pinRows n =
+    -- a free pin is not released once more, and is taken next
+    record {
+      start = allPinned n;
+      calls = unpin (pinNo 5) ∷ unpin (pinNo 5) ∷ pin 12 2 ∷ [];
+      sees = seen n Done 12 1 ∷ seen n (Refused (FreePin (pinNo 5))) 12 1 ∷ pinned n 5 2 10 (9 ∷ 4 ∷ 7 ∷ []) 12 1 ∷ [];
+    }
+    -- a full table of slots refuses no pin: every id is listed
+    ∷ one (full n 1200) (pin 5000 5000) (pinned n 0 1 5000 (from n 1) 5000 1)
+    -- the lowest free pin
+    ∷ record {
+      start = freshTable n;
+      calls = pin 1 1 ∷ pin 1 1 ∷ unpin (pinNo 0) ∷ pin 1 1 ∷ [];
+      sees = pinned n 0 1 1 [] 1 1 ∷ pinned n 1 1 1 [] 1 1 ∷ seen n Done 1 1 ∷ pinned n 0 1 1 [] 1 1 ∷ [];
+    }
+    -- the line is 100: a pin with the stale sample 50 uses 100, one with sample 0 is refused by the sample as given; the pin
+    -- holds the line, and a release lets it go
+    ∷ record {
+      start = freshTable n;
+      calls =
+          vacuum 100 100 ∷ pin 100 0 ∷ pin 100 50 ∷ vacuum 200 200 ∷ unpin (pinNo 0) ∷ vacuum 200 200 ∷ [];
+      sees =
+          seen n (Line 100 65535) 100 100
+          ∷ seen n (Refused BadSample) 100 100
+          ∷ pinned n 0 100 100 [] 100 100
+          ∷ seen n (Line 100 2000) 200 100
+          ∷ seen n Done 200 100
+          ∷ seen n (Line 200 65535) 200 200
+          ∷ [];
+    }
+    -- the holder: a slot before a pin that holds the same; of pins that do, the lowest; none where the sample is lower
+    ∷ record {
+      start = freshTable n;
+      calls =
+          begin (number 5) ∷ pin 9 9 ∷ pin 9 9 ∷ oldest 9 9 ∷ end (slot 0) (txid 5) ∷ oldest 9 9 ∷ unpin (pinNo 0) ∷ oldest 9 9
+          ∷ oldest 9 4 ∷ [];
+      sees =
+          seen n (Begun (slot 0) (txid 5)) 6 1
+          ∷ pinned n 0 5 9 (5 ∷ []) 9 1
+          ∷ pinned n 1 5 9 (5 ∷ []) 9 1
+          ∷ seen n (Oldest 5 0) 9 1
+          ∷ seen n Done 9 1
+          ∷ seen n (Oldest 5 2000) 9 1
+          ∷ seen n Done 9 1
+          ∷ seen n (Oldest 5 2001) 9 1
+          ∷ seen n (Oldest 4 65535) 9 1
+          ∷ [];
+    }
     ∷ []
 
 -- every row holds, P7 whatever its number, and every order

@@ -6,12 +6,14 @@ use lib.Dec.{eqb, ltb, leb}
 use lib.ListN.{getD}
 use Rattle.kinds.specs.declared.Stamp.{Stamp}
 use Rattle.kinds.specs.declared.SlotNo.{SlotNo}
+use Rattle.kinds.specs.declared.PinNo.{PinNo}
 use Rattle.kinds.specs.declared.Txid.{Txid}
 use Rattle.kinds.specs.declared.refusal.Refusal.the-variants.{NoFreeSlot, InvalidSlot, SlotOwnershipMismatch, ClockExhausted}
-use Rattle.kinds.specs.declared.refusal.Refusal.the-variants.{BadReservation, WildJump, BadClock, BadSample}
+use Rattle.kinds.specs.declared.refusal.Refusal.the-variants.{BadReservation, WildJump, BadClock, BadSample, NoFreePin, InvalidPin}
+use Rattle.kinds.specs.declared.refusal.Refusal.the-variants.{FreePin}
 use Rattle.kinds.specs.declared.refusal.Verdict.{Verdict}
 use Rattle.kinds.specs.declared.refusal.Verdict.the-variants.{Pass, Refuse}
-use Rattle.kinds.specs.Kinds.{top, txid, txidOf}
+use Rattle.kinds.specs.Kinds.{top, pinCount, txid, txidOf}
 use Rattle.kinds.specs.Verdicts.{then, zeroTest}
 use Rattle.model.specs.Tally.{lowestEmpty}
 
@@ -50,3 +52,13 @@ abbrev pub observationTest : ℕ → ℕ → ℕ → Verdict
 observationTest former clock sample =
     cond (ltb clock former) (Refuse BadClock)
     (cond (eqb sample 0 || ltb clock sample) (Refuse BadSample) Pass)
+
+-- 14: all pins are taken
+abbrev pub pinTest : List ℕ → Verdict
+pinTest pins = cond (leb pinCount (lowestEmpty pins)) (Refuse NoFreePin) Pass
+
+-- 15: no pin has the number. 16: the pin is free
+abbrev pub releaseTest : List ℕ → PinNo → Verdict
+releaseTest pins k =
+    cond (leb pinCount (k .0)) (Refuse (InvalidPin k))
+    (cond (eqb (getD pins (k .0) 0) 0) (Refuse (FreePin k)) Pass)

@@ -1,6 +1,7 @@
 // What a call answers, and the records in which an answer stands beside what the call changed.
 use crate::Change;
 use crate::Table;
+use kinds::PinNo;
 use kinds::Refusal;
 use kinds::SlotNo;
 use kinds::Stamp;
@@ -11,9 +12,12 @@ use settled::Snapshot;
 pub enum Answer {
     // Begin: the slot taken, and the id.
     Begun { slot: SlotNo, id: Txid },
-    // End, and the snapshot calls, whose snapshot stands beside the answer.
+    // End, a release, and the snapshot calls, whose snapshot stands beside the answer.
     Done,
-    // Oldest: the oldest retained xmin, and who holds it back: the lowest taken slot that retains it, else 65,535.
+    // A pinned snapshot: the pin taken; the snapshot stands beside it.
+    Pinned(PinNo),
+    // Oldest: the oldest retained xmin, and who holds it back: the lowest taken slot that retains it, else 2,000 plus
+    // the lowest pin that does, else 65,535.
     Oldest { xmin: u64, holder: u64 },
     // Vacuum: the line, and the holder that oldest would name.
     Line { line: u64, holder: u64 },

@@ -1,11 +1,12 @@
-// What a call changes of a table: one slot at most, and the counters. The kinds of number hold here too, so that no stamp
+// What a call changes of a table: one slot or one pin at most, and the counters. The kinds of number hold here too, so that no stamp
 // becomes a slot's txid but by the visible step.
 use crate::Counters;
+use kinds::PinNo;
 use kinds::SlotNo;
 use kinds::Txid;
 
 pub enum SlotChange {
-    // No slot moves.
+    // No slot and no pin moves.
     Stays,
     // The slot becomes (txid, txid).
     Enters { slot: SlotNo, txid: Txid },
@@ -13,6 +14,8 @@ pub enum SlotChange {
     Leaves { slot: SlotNo },
     // The slot's snapshot_xmin alone becomes xmin.
     Retains { slot: SlotNo, xmin: u64 },
+    // No slot moves, and the pin becomes xmin: 0 frees it.
+    Pins { pin: PinNo, xmin: u64 },
 }
 
 // The counters become these.

@@ -17,7 +17,7 @@ use Rattle.text.specs.Line.{lineText}
 use Rattle.text.specs.Write.{spliced, putAt, written}
 use Rattle.text.proofs.Decimal.{length-word}
 use Rattle.trace.specs.declared.Version.{Version}
-use Rattle.trace.specs.declared.Version.the-variants.{Proc1, Proc2}
+use Rattle.trace.specs.declared.Version.the-variants.{Proc1, Proc2, Proc3}
 use Rattle.text.proofs.Splice.{splice-length, splice-none, splice-append, room, line-length}
 use Rattle.output.specs.Output.{inLines, holderRoom, need, fits, putText, leftText}
 use Rattle.output.specs.Wrote.{Wrote}
@@ -90,6 +90,7 @@ one-more-id ids i h =
 pub holder-few : (v : Version) → holderRoom v ≤ 28
 holder-few Proc1 = omega arith
 holder-few Proc2 = omega arith
+holder-few Proc3 = omega arith
 
 -- a record that has room, and one that has none
 module _ (v : Version) (n : ℕ) (xs : List ℕ) (at count : ℕ) where

@@ -16,7 +16,7 @@ use Rattle.text.specs.Keys.{answerKey, slotKey, idKey, seenKey, xminKey, xmaxKe
 use Rattle.text.specs.Line.{lineText}
 use Rattle.text.specs.Write.{spliced}
 use Rattle.trace.specs.declared.Version.{Version}
-use Rattle.trace.specs.declared.Version.the-variants.{Proc1, Proc2}
+use Rattle.trace.specs.declared.Version.the-variants.{Proc1, Proc2, Proc3}
 
 -- what the answer tells
 unfoldable pub toldLines : Told → List ℕ
@@ -34,10 +34,11 @@ unfoldable pub inLines : List ℕ → List ℕ
 inLines [] = []
 inLines (x ∷ xs) = lineText inKey x ++ inLines xs
 
--- the ninth line, under proc-2 alone
+-- the ninth line, under proc-2 and proc-3
 unfoldable pub holderLine : Version → ℕ → List ℕ
 holderLine Proc1 holder = []
 holderLine Proc2 holder = lineText holderKey holder
+holderLine Proc3 holder = lineText holderKey holder
 
 unfoldable pub answerText : Version → Numbers → List ℕ → List ℕ
 answerText v n ids = toldLines (n .told) ++ restLines n ++ holderLine v (n .holder) ++ inLines ids
@@ -51,6 +52,7 @@ printed v n t c =
 abbrev pub holderRoom : Version → ℕ
 holderRoom Proc1 = 0
 holderRoom Proc2 = 28
+holderRoom Proc3 = 28
 
 abbrev pub need : Version → ℕ → ℕ
 need v count = 224 + holderRoom v + 24 * count

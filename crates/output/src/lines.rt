@@ -55,6 +55,7 @@ fn holder_line(buf: &mut [u8], at: usize, version: Version, holder: u64) -> usiz
     match version {
         Version::Proc1 => at,
         Version::Proc2 => line(buf, at, b"holder=", holder),
+        Version::Proc3 => line(buf, at, b"holder=", holder),
     }
 }
 
@@ -90,6 +91,7 @@ fn holder_room(version: Version) -> usize
     match version {
         Version::Proc1 => 0,
         Version::Proc2 => 28,
+        Version::Proc3 => 28,
     }
 }
 

@@ -27,6 +27,7 @@ fn tells_of(answer: Answer) -> Told
         Answer::Line { line: _, holder: _ } => accepted_with(0, 0),
         Answer::Stamped(stamp) => accepted_with(0, stamp.0),
         Answer::Refused(r) => kinds::tell(r),
+        Answer::Pinned(pin) => accepted_with(pin.0 as u64, 0),
     }
 }
 
@@ -44,6 +45,7 @@ fn xmin_told(answer: Answer, xmin: u64) -> u64
         Answer::Line { line: _, holder: _ } => xmin,
         Answer::Stamped(_) => xmin,
         Answer::Refused(_) => xmin,
+        Answer::Pinned(_) => xmin,
     }
 }
 
@@ -58,6 +60,7 @@ fn holder_told(answer: Answer) -> u64
         Answer::Done => 0,
         Answer::Stamped(_) => 0,
         Answer::Refused(_) => 0,
+        Answer::Pinned(_) => 0,
     }
 }
 

@@ -18,6 +18,8 @@ fn op_line(op: Op) -> bool {
         Op::Vacuum => io::write_all(1, b"op=vacuum\n"),
         Op::Stamp => io::write_all(1, b"op=stamp\n"),
         Op::Finish => io::write_all(1, b"op=finish\n"),
+        Op::Pin => io::write_all(1, b"op=pin\n"),
+        Op::Unpin => io::write_all(1, b"op=unpin\n"),
     }
 }
 

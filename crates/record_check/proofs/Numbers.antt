@@ -8,8 +8,9 @@ use lib.ListN.{length, getD, set, take, length-map}
 use lib.Seq.{take-suc-set, take-suc, take-all}
 use package.mir.Val.{Val, vstruct, ofList}
 use denote.Laws.{Is}
-use Rattle.model.specs.Check.{passes}
+use Rattle.record_check.specs.Run.{gatheredPasses}
 use Rattle.record_check.specs.declared.Columns.{Columns}
+use Rattle.record_check.specs.declared.Rest.{Rest}
 use Rattle.record_check.proofs.Columns as S
 use Rattle.record_check.proofs.Types.{count, Column}
 
@@ -35,11 +36,9 @@ long t vs is = sym (length-map (t .txids) _) ∙ is .1 .1 .0 .1 .0 .1
 
 -- so the core may say the slot count as a length
 pub by-length :
-    (t : Columns) (vs : List Val) → Is S.the-row t vs → (clock sample line : ℕ) (r : Bool) →
-    r ≡ passes count (t .txids) (t .«snapshot_xmins») clock sample line →
-    r ≡ passes (length (t .txids)) (t .txids) (t .«snapshot_xmins») clock sample line
-by-length t vs is clock sample line r e =
-    e ∙ ap (λ (n : ℕ). passes n (t .txids) (t .«snapshot_xmins») clock sample line) (sym (long t vs is))
+    (t : Columns) (vs : List Val) → Is S.the-row t vs → (rest : Rest) (r : Bool) → r ≡ gatheredPasses count t rest →
+    r ≡ gatheredPasses (length (t .txids)) t rest
+by-length t vs is rest r e = e ∙ ap (λ (n : ℕ). gatheredPasses n t rest) (sym (long t vs is))
 
 -- columns in a struct, from each array
 pub paired : (t : Columns) (u z : Val) → Is Column (t .txids) (u ∷ []) → Is Column (t .«snapshot_xmins») (z ∷ [])

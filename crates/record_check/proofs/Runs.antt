@@ -8,11 +8,11 @@ use lib.ListN.{length, length-map}
 use Rattle.model.specs.Check.{passes, tablePasses}
 use Rattle.record_check.specs.Run.{tableOf, runPasses}
 use Rattle.record_check.specs.declared.Slot.{Slot}
+use Rattle.record_check.specs.declared.Rest.{Rest}
 
 -- a run passes exactly if the table whose slots it holds does
-pub as-table : (n : ℕ) (run : List Slot) (clock sample line : ℕ)
-    → runPasses n run clock sample line ≡ tablePasses n (tableOf run clock sample line)
-as-table n run clock sample line = refl
+pub as-table : (n : ℕ) (run : List Slot) (rest : Rest) → runPasses n run rest ≡ tablePasses n (tableOf run rest)
+as-table n run rest = refl
 
 no-first : (z a b : Bool) → Holds (not z) → false ≡ ((z && a) && b)
 no-first true a b h = absurd h
@@ -20,7 +20,6 @@ no-first false a b h = refl
 
 -- one of another length doesn't, whatever it holds
 pub other-length :
-    (n : ℕ) (run : List Slot) (clock sample line : ℕ) → Holds (not (eqb (length run) n)) →
-    false ≡ runPasses n run clock sample line
+    (n : ℕ) (run : List Slot) (rest : Rest) → Holds (not (eqb (length run) n)) → false ≡ runPasses n run rest
 unfolding passes
-other-length n run clock sample line h = rw (length-map run _) (no-first (eqb (length run) n) _ _ h)
+other-length n run rest h = rw (length-map run _) (no-first (eqb (length run) n) _ _ h)

@@ -11,6 +11,8 @@ use Rattle.record_check.proofs.Slot as T
 use Rattle.record_check.proofs.Slot.Laws as T′
 use Rattle.record_check.proofs.Columns as S
 use Rattle.record_check.proofs.Columns.Laws as S′
+use Rattle.record_check.proofs.Rest as R
+use Rattle.record_check.proofs.Rest.Laws as R′
 
 -- the slot count, as the code has it: no proof writes the number
 abbrev pub count : ℕ
@@ -40,6 +42,9 @@ module _ {M : Type 1} {𝓤 : URA M} {H : Heap 𝓤} (w : World 𝓤 H) where
 
   abbrev pub columns : Plain w S.the-row
   columns = record-of w S.the-type S′.the-laws S′.the-copy S′.the-plain
+
+  abbrev pub the-rest : Plain w R.the-row
+  the-rest = record-of w R.the-type R′.the-laws R′.the-copy R′.the-plain
 
 -- the two numbers of a record fit their words
 pub fit : (r : Slot) (m : Val) → Is T.the-row r (m ∷ []) → (r .txid < 2 ^ 64) × (r .«snapshot_xmin» < 2 ^ 64)

@@ -8,6 +8,7 @@ use Rattle.model.specs.declared.Table.{Table}
 use Rattle.model.specs.Tables.{counted, lent}
 use Rattle.record_check.specs.declared.Slot.{Slot}
 use Rattle.record_check.specs.declared.Columns.{Columns}
+use Rattle.record_check.specs.declared.Rest.{Rest}
 
 abbrev pub emptySlot : Slot
 emptySlot = record { txid = 0; «snapshot_xmin» = 0 }
@@ -26,9 +27,14 @@ abbrev pub zeroColumns : ℕ → Columns
 zeroColumns n = record { txids = replicate n 0; «snapshot_xmins» = replicate n 0 }
 
 -- the table whose slots a run holds
-abbrev pub tableOf : List Slot → ℕ → ℕ → ℕ → Table
-tableOf run clock sample line = lent (txidsOf run) (xminsOf run) (counted clock sample line)
+abbrev pub tableOf : List Slot → Rest → Table
+tableOf run rest = lent (txidsOf run) (xminsOf run) (rest .pins) (counted (rest .clock) (rest .sample) (rest .line))
+
+-- the check of gathered columns, for tables of n slots
+abbrev pub gatheredPasses : ℕ → Columns → Rest → Bool
+gatheredPasses n columns rest =
+    passes n (columns .txids) (columns .«snapshot_xmins») (rest .pins) (rest .clock) (rest .sample) (rest .line)
 
 -- the check of a run of any length, for tables of n slots
-abbrev pub runPasses : ℕ → List Slot → ℕ → ℕ → ℕ → Bool
-runPasses n run clock sample line = passes n (txidsOf run) (xminsOf run) clock sample line
+abbrev pub runPasses : ℕ → List Slot → Rest → Bool
+runPasses n run rest = gatheredPasses n (columnsOf run) rest

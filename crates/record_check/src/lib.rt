@@ -1,17 +1,26 @@
 // The table check over a lent run of slot records: the host's shared segment, read where it lies.
+use kinds::PINS;
 use kinds::SLOTS;
 use model::Counters;
 ghost use mathlib.Core.Path.{_≡_};
 ghost use Prim.Native.Nat.{_<_};
 ghost use lib.ListN.{length, getD};
-ghost use Rattle.model.specs.Check.{passes};
-ghost use Rattle.record_check.specs.Run.{emptySlot, zeroColumns, columnsOf, runPasses};
+ghost use Rattle.record_check.specs.Run.{emptySlot, zeroColumns, columnsOf, gatheredPasses, runPasses};
 
 // One slot of the segment, laid out as the host lays it out.
 #[repr(C)]
 pub struct Slot {
     pub txid: u64,
     pub snapshot_xmin: u64,
+}
+
+// What a table has beside its slots, laid out as the host lays it out: there are as many pins as a table has, by their type.
+#[repr(C)]
+pub struct Rest {
+    pub pins: [u64; PINS],
+    pub clock: u64,
+    pub sample: u64,
+    pub line: u64,
 }
 
 // A run of as many records as a table has slots, by value: one array for each field of a record.
@@ -60,24 +69,29 @@ fn gather(slots: &[Slot], into: Columns) -> Columns
     }
 }
 
-// The check on gathered columns, by value: `table_check::check_columns` on both arrays.
-fn check_gathered(columns: Columns, clock: u64, sample: u64, line: u64) -> bool
-    ensures { λ r. ⌜ r ≡ passes (length (columns .txids)) (columns .txids) (columns .«snapshot_xmins») clock sample line ⌝ }
+// The check on gathered columns, by value: `table_check::check_columns` on the arrays.
+fn check_gathered(columns: Columns, rest: Rest) -> bool
+    ensures { λ r. ⌜ r ≡ gatheredPasses (length (columns .txids)) columns rest ⌝ }
 {
     let counters = Counters {
-        clock,
-        sampled_clock: sample,
-        vacuum_line: line,
+        clock: rest.clock,
+        sampled_clock: rest.sample,
+        vacuum_line: rest.line,
     };
-    table_check::check_columns(&columns.txids, &columns.snapshot_xmins, counters)
+    table_check::check_columns(
+        &columns.txids,
+        &columns.snapshot_xmins,
+        &rest.pins,
+        counters,
+    )
 }
 
 // The table check of a lent run of any length. A run of another length than a table's is refused before a record is read.
-pub fn check_run(slots: &[Slot], clock: u64, sample: u64, line: u64) -> bool
-    ensures { λ r. do ⌜ r ≡ runPasses (← ⟦kinds::SLOTS⟧ .entry) (now (slots .entry)) clock sample line ⌝ }
+pub fn check_run(slots: &[Slot], rest: Rest) -> bool
+    ensures { λ r. do ⌜ r ≡ runPasses (← ⟦kinds::SLOTS⟧ .entry) (now (slots .entry)) rest ⌝ }
 {
     if slots.len() == SLOTS {
-        check_gathered(gather(slots, no_columns()), clock, sample, line)
+        check_gathered(gather(slots, no_columns()), rest)
     } else {
         false
     }

@@ -1,5 +1,6 @@
 // Covered code can't make a `&[Slot]`: here an array by value is lent.
 use kinds::SLOTS;
+use record_check::Rest;
 use record_check::Slot;
 ghost use Prim.Native.Nat.{_≤_};
 ghost use mathlib.Core.Path.{_≡_};
@@ -10,15 +11,9 @@ ghost use Rattle.record_check.specs.Run.{runPasses};
 pub const ROOM: usize = SLOTS + 1;
 
 // The check of the first `count` records.
-pub(crate) fn check_first(
-    records: [Slot; ROOM],
-    count: usize,
-    clock: u64,
-    sample: u64,
-    line: u64,
-) -> bool
+pub(crate) fn check_first(records: [Slot; ROOM], count: usize, rest: Rest) -> bool
     requires { ⌜ count ≤ length records ⌝ }
-    ensures { λ r. do ⌜ r ≡ runPasses (← ⟦kinds::SLOTS⟧ .entry) (take count records) clock sample line ⌝ }
+    ensures { λ r. do ⌜ r ≡ runPasses (← ⟦kinds::SLOTS⟧ .entry) (take count records) rest ⌝ }
 {
-    record_check::check_run(&records[..count], clock, sample, line)
+    record_check::check_run(&records[..count], rest)
 }

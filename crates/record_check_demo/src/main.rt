@@ -2,13 +2,17 @@
 mod lend;
 mod runs;
 
+use kinds::PINS;
 use kinds::SLOTS;
 use lend::ROOM;
 use lend::check_first;
+use record_check::Rest;
 use record_check::Slot;
+use runs::beside;
 use runs::empty;
 use runs::full;
 use runs::good;
+use runs::pinned;
 use runs::put;
 
 // One line: the case's name, and the check's answer.
@@ -23,22 +27,32 @@ fn tell(name: &[u8], passed: bool) {
 
 // The check of a run of as many records as a table has slots.
 fn check(run: [Slot; ROOM], clock: u64, sample: u64, line: u64) -> bool {
-    check_first(run, SLOTS, clock, sample, line)
+    check_first(run, SLOTS, beside(clock, sample, line))
+}
+
+// What `good` passes with.
+fn usual() -> Rest {
+    beside(12, 2, 4)
+}
+
+// The check of a good run where pin k holds x.
+fn with_pin(k: usize, x: u64) -> bool {
+    check_first(good(), SLOTS, pinned(usual(), k, x))
 }
 
 fn lengths() {
-    tell(b"no record", check_first(empty(), 0, 12, 2, 4));
+    tell(b"no record", check_first(empty(), 0, usual()));
     tell(
         b"one record too few",
-        check_first(good(), SLOTS - 1, 12, 2, 4),
+        check_first(good(), SLOTS - 1, usual()),
     );
     tell(
         b"as many records as slots",
-        check_first(good(), SLOTS, 12, 2, 4),
+        check_first(good(), SLOTS, usual()),
     );
     tell(
         b"one record too many",
-        check_first(good(), SLOTS + 1, 12, 2, 4),
+        check_first(good(), SLOTS + 1, usual()),
     );
     tell(
         b"damage past the end",
@@ -115,9 +129,19 @@ fn records() {
     );
 }
 
+fn pins() {
+    tell(b"pin at the line", with_pin(0, 4));
+    tell(b"pin below the line", with_pin(0, 3));
+    tell(b"pin at the clock", with_pin(5, 12));
+    tell(b"pin above the clock", with_pin(5, 13));
+    tell(b"the last pin below the line", with_pin(PINS - 1, 3));
+    tell(b"no such pin", with_pin(PINS, 3));
+}
+
 fn main() {
     lengths();
     whole_runs();
     numbers();
     records();
+    pins();
 }

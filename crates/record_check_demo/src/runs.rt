@@ -1,6 +1,8 @@
 // The runs that the cases start from.
 use crate::lend::ROOM;
+use kinds::PINS;
 use kinds::SLOTS;
+use record_check::Rest;
 use record_check::Slot;
 ghost use Prim.Native.Nat.{_<_};
 ghost use lib.ListN.{length};
@@ -23,6 +25,26 @@ pub(crate) fn put(run: [Slot; ROOM], at: usize, txid: u64, snapshot_xmin: u64) -
         txid,
         snapshot_xmin,
     };
+    after
+}
+
+// What stands beside the slots: all pins free.
+pub fn beside(clock: u64, sample: u64, line: u64) -> Rest {
+    let pins = kinds::free_pins();
+    Rest {
+        pins,
+        clock,
+        sample,
+        line,
+    }
+}
+
+// One pin replaced, where there is one.
+pub fn pinned(rest: Rest, k: usize, x: u64) -> Rest {
+    let mut after = rest;
+    if k < PINS {
+        after.pins[k] = x;
+    }
     after
 }
 

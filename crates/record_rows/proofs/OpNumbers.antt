@@ -8,7 +8,7 @@ use lib.Dec.{eqb}
 use borrow.Author.Tests.{eqb-true}
 use Rattle.trace.specs.Op.{ops}
 use Rattle.trace.specs.declared.Op.{Op}
-use Rattle.trace.specs.declared.Op.the-variants.{Begin, End, Snap, Own, Oldest, Vacuum, Stamp, Finish}
+use Rattle.trace.specs.declared.Op.the-variants.{Begin, End, Snap, Own, Oldest, Vacuum, Stamp, Finish, Pin, Unpin}
 use Rattle.record_rows.specs.Numbers.{opNumber, tryNumber, firstNumbered, opNumbered}
 use Rattle.record_rows.specs.declared.OpNumbered.the-variants.{Is, Unknown}
 
@@ -23,6 +23,8 @@ op-of-number Oldest = refl
 op-of-number Vacuum = refl
 op-of-number Stamp = refl
 op-of-number Finish = refl
+op-of-number Pin = refl
+op-of-number Unpin = refl
 
 pub no-op : (o : Op) → Unknown ≡ Is o → ⊥
 no-op o h = let z : _≡_ {A = ℕ} 0 1 = cc in omega arith

@@ -5,7 +5,7 @@ use mathlib.Core.List.{List, [], _∷_}
 use lib.Dec.{eqb}
 use Rattle.trace.specs.Op.{ops}
 use Rattle.trace.specs.declared.Op.{Op}
-use Rattle.trace.specs.declared.Op.the-variants.{Begin, End, Snap, Own, Oldest, Vacuum, Stamp, Finish}
+use Rattle.trace.specs.declared.Op.the-variants.{Begin, End, Snap, Own, Oldest, Vacuum, Stamp, Finish, Pin, Unpin}
 use Rattle.record_rows.specs.declared.OpNumbered.{OpNumbered}
 use Rattle.record_rows.specs.declared.OpNumbered.the-variants.{Is, Unknown}
 
@@ -19,6 +19,8 @@ opNumber Oldest = 5
 opNumber Vacuum = 6
 opNumber Stamp = 7
 opNumber Finish = 8
+opNumber Pin = 9
+opNumber Unpin = 10
 
 unfoldable pub tryNumber : ℕ → ℕ → Op → OpNumbered → OpNumbered
 tryNumber n number o other = cond (eqb n number) (Is o) other

@@ -17,6 +17,8 @@ pub fn op_number(op: Op) -> u64
         Op::Vacuum => 6,
         Op::Stamp => 7,
         Op::Finish => 8,
+        Op::Pin => 9,
+        Op::Unpin => 10,
     }
 }
 
@@ -34,7 +36,9 @@ fn try_number(n: u64, number: u64, op: Op, other: OpNumbered) -> OpNumbered
 pub fn op_of(n: u64) -> OpNumbered
     ensures { λ r. ⌜ r ≡ opNumbered n ⌝ }
 {
-    let finish = try_number(n, 8, Op::Finish, OpNumbered::Unknown);
+    let unpin = try_number(n, 10, Op::Unpin, OpNumbered::Unknown);
+    let pin = try_number(n, 9, Op::Pin, unpin);
+    let finish = try_number(n, 8, Op::Finish, pin);
     let stamp = try_number(n, 7, Op::Stamp, finish);
     let vacuum = try_number(n, 6, Op::Vacuum, stamp);
     let oldest = try_number(n, 5, Op::Oldest, vacuum);

@@ -3,6 +3,7 @@
 use mathlib.Core.Path.{refl}
 use lib.ListN.{length}
 use borrow.Author.Tests.{lt-ltb}
+use Rattle.kinds.specs.Kinds.{freePins}
 use Rattle.kinds.specs.Refusals.{told, consumed}
 use Rattle.settled.specs.Snapshots.{noSnapshot}
 use Rattle.model.specs.Tally.{active, retained, holderFrom, lowestEmpty, minimum, maximum, snapshotOf}
@@ -27,7 +28,7 @@ pub examples : Examples
 unfolding
     readsOf printsOf everyRefusal whoHolds
     replayOf textOf brokenText callOf printed answerText toldLines restLines holderLine inLines lineText numberText decimal decimalIn
-    told consumed noSnapshot active retained holderFrom lowestEmpty minimum maximum snapshotOf freshTable
+    told consumed noSnapshot active retained holderFrom lowestEmpty minimum maximum snapshotOf freePins freshTable
     tellsOf xminTold holderTold numbersOf refusal changeAccepted spent changeOf after answerAccepted answer shownAccepted shown
     readText nameAt firstNamed nameLine foundFrom foundIn itemAt allowed fieldsAt fieldRules limit
     linesAt fieldAt numberAt numberFrom numberTail starts

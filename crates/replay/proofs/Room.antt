@@ -10,7 +10,8 @@ use borrow.Author.Tests.{le-leb}
 use Rattle.kinds.specs.declared.refusal.Verdict.{Verdict}
 use Rattle.kinds.specs.declared.refusal.Verdict.the-variants.{Pass, Refuse}
 use Rattle.model.specs.declared.Table.{Table}
-use Rattle.model.specs.Calls.{Call, begin, end, snap, own, oldest, vacuum, stamp, finish, refusal, after, shownAccepted, shownBy, shown}
+use Rattle.model.specs.Calls.{Call, begin, end, snap, own, oldest, vacuum, stamp, finish, pin, unpin, refusal, after}
+use Rattle.model.specs.Calls.{shownAccepted, shownBy, shown}
 use Rattle.model.specs.Facts.{Good}
 use Rattle.model.proofs.Tally.{active-length}
 use Rattle.model.proofs.Facts.{good-after}
@@ -33,6 +34,8 @@ accepted-few n t (oldest clock sample) = omega arith
 accepted-few n t (vacuum clock sample) = omega arith
 accepted-few n t (stamp number) = omega arith
 accepted-few n t (finish slot id number) = omega arith
+accepted-few n t (pin clock sample) = active-length (t .txids)
+accepted-few n t (unpin k) = omega arith
 
 shown-few : (n : ℕ) (t : Table) (c : Call) → shown n t c .count ≤ length (t .txids)
 unfolding shown noSnapshot

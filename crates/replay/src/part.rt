@@ -33,7 +33,16 @@ pub fn run_part(version: Version, s: &[u8], from: usize, table: Table, buf: &mut
             };
         };
         let was = t.counters;
-        let ran = step::run_record(version, &t.txids, &t.snapshot_xmins, was, r, buf, filled);
+        let ran = step::run_record(
+            version,
+            &t.txids,
+            &t.snapshot_xmins,
+            &t.pins,
+            was,
+            r,
+            buf,
+            filled,
+        );
         let put = ran.put;
         let change = ran.change;
         let Put::Past(past) = put else {
@@ -46,6 +55,7 @@ pub fn run_part(version: Version, s: &[u8], from: usize, table: Table, buf: &mut
         let slot = change.slot;
         table::store_txid(&mut t.txids, slot);
         table::store_xmin(&mut t.snapshot_xmins, slot);
+        table::store_pin(&mut t.pins, slot);
         let counters = change.counters;
         t.counters.clock = counters.clock;
         t.counters.sampled_clock = counters.sampled_clock;

@@ -1,5 +1,5 @@
 // Writes the trace of rows that are given as numbers: on standard input a line `n=` and a number for each, first the
-// header's (1 or 2), the size of the buffer and the number of rows, then six for each row. Prints the answer, then the whole buffer, which
+// header's (1, 2 or 3), the size of the buffer and the number of rows, then six for each row. Prints the answer, then the whole buffer, which
 // held dots, so that bytes past the text can be looked at. The tests put rows to it, good and bad.
 use libc::STDIN_FILENO;
 use libc::STDOUT_FILENO;
@@ -87,6 +87,9 @@ fn write_some(version: Version, rows: &[[u64; 6]], count: usize, out: &mut [u8],
 fn version_of(number: u64) -> Version {
     if number == 2 {
         return Version::Proc2;
+    }
+    if number == 3 {
+        return Version::Proc3;
     }
     Version::Proc1
 }

@@ -8,3 +8,4 @@ pub use own::create_transaction_snapshot;
 pub use own::decide_own;
 pub use plain::create_snapshot;
 pub use plain::decide_snap;
+pub use refused::refused_snapshot;

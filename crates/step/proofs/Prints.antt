@@ -1,7 +1,6 @@
 -- What is put for a decided call is what the call prints.
 use Prim.Native.Nat.{ℕ, _≤_}
-use mathlib.Core.Path.{_≡_, refl, _∙_}
-use mathlib.Core.Bool.{false}
+use mathlib.Core.Path.{_≡_, refl}
 use mathlib.Core.List.{List}
 use lib.ListN.{length}
 use borrow.Author.Tests.{le-leb}
@@ -11,9 +10,7 @@ use Rattle.settled.specs.Snapshots.{noSnapshot}
 use Rattle.model.specs.declared.Table.{Table}
 use Rattle.model.specs.declared.answer.Decision.{Decision}
 use Rattle.model.specs.declared.answer.SnapshotDecision.{SnapshotDecision}
-use Rattle.model.specs.Tables.{lentSlots}
 use Rattle.model.specs.Calls.{Call, refusal, changeOf, after, answer, shownAccepted, shownBy, shown, decision, snapshotDecision}
-use Rattle.model.proofs.Lent.{readsXmins, slots-show}
 use Rattle.trace.specs.declared.Version.{Version}
 use Rattle.output.specs.Output.{printed}
 use Rattle.step.specs.declared.Ran.{Ran}
@@ -39,13 +36,11 @@ module _ (v : Version) (n : ℕ) (t : Table) (c : Call) (few : length (t .txids)
     unfolding decision after noSnapshot printed ranLeft
     plain-left = rw (e, le-leb (length (t .txids)) n few, shows-none n t c none)
 
-  module _
-      {d : SnapshotDecision} (e : d ≡ snapshotDecision n (lentSlots n (t .txids) (t .counters)) c) (b : readsXmins c ≡ false)
-    where
-      pub listing-ran : listingRan v n d xs at ≡ ran v n t c xs at
-      unfolding snapshotDecision after printed ran
-      listing-ran = rw (e ∙ slots-show n t c few b, le-leb (length (t .txids)) n few)
+  module _ {d : SnapshotDecision} (e : d ≡ snapshotDecision n t c) where
+    pub listing-ran : listingRan v n d xs at ≡ ran v n t c xs at
+    unfolding snapshotDecision after printed ran
+    listing-ran = rw (e, le-leb (length (t .txids)) n few)
 
-      pub listing-left : listingLeft v n d xs at ≡ ranLeft v n t c xs at
-      unfolding snapshotDecision after printed ranLeft
-      listing-left = rw (e ∙ slots-show n t c few b, le-leb (length (t .txids)) n few)
+    pub listing-left : listingLeft v n d xs at ≡ ranLeft v n t c xs at
+    unfolding snapshotDecision after printed ranLeft
+    listing-left = rw (e, le-leb (length (t .txids)) n few)

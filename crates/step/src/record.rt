@@ -1,8 +1,10 @@
 // The call that a record names.
 use crate::Ran;
 use crate::listing::run_own;
+use crate::listing::run_pin;
 use crate::listing::run_snap;
 use crate::put::put_plain;
+use kinds::PinNo;
 use kinds::SLOTS;
 use kinds::SlotNo;
 use kinds::Stamp;
@@ -25,6 +27,7 @@ pub fn run_record<'a>(
     version: Version,
     txids: &'a [u64],
     xmins: &'a [u64],
+    pins: &'a [u64],
     was: Counters,
     r: Record,
     buf: &mut [u8],
@@ -32,10 +35,10 @@ pub fn run_record<'a>(
 ) -> Ran
     ensures { λ o. do
       n ← ⟦kinds::SLOTS⟧ .entry
-      ⌜ o ≡ ran version n (lent (now (txids .entry)) (now (xmins .entry)) was) (callOf r) (now (buf .entry)) at ⌝ }
+      ⌜ o ≡ ran version n (lent (now (txids .entry)) (now (xmins .entry)) (now (pins .entry)) was) (callOf r) (now (buf .entry)) at ⌝ }
     ensures { λ _. do
       n ← ⟦kinds::SLOTS⟧ .entry
-      ⌜ now (buf .exit) ≡ ranLeft version n (lent (now (txids .entry)) (now (xmins .entry)) was) (callOf r) (now (buf .entry)) at ⌝ }
+      ⌜ now (buf .exit) ≡ ranLeft version n (lent (now (txids .entry)) (now (xmins .entry)) (now (pins .entry)) was) (callOf r) (now (buf .entry)) at ⌝ }
 {
     if SLOTS < txids.len() {
         return Ran {
@@ -57,13 +60,13 @@ pub fn run_record<'a>(
         Op::Own => run_own(version, txids, was, slot, id, r.clock, r.sample, buf, at),
         Op::Oldest => put_plain(
             version,
-            table::decide_oldest(txids, xmins, was, r.clock, r.sample),
+            table::decide_oldest(txids, xmins, pins, was, r.clock, r.sample),
             buf,
             at,
         ),
         Op::Vacuum => put_plain(
             version,
-            table::decide_vacuum(txids, xmins, was, r.clock, r.sample),
+            table::decide_vacuum(txids, xmins, pins, was, r.clock, r.sample),
             buf,
             at,
         ),
@@ -71,6 +74,13 @@ pub fn run_record<'a>(
         Op::Finish => put_plain(
             version,
             table::decide_finish(txids, was, slot, id, number),
+            buf,
+            at,
+        ),
+        Op::Pin => run_pin(version, txids, pins, was, r.clock, r.sample, buf, at),
+        Op::Unpin => put_plain(
+            version,
+            table::decide_unpin(pins, was, PinNo(r.slot)),
             buf,
             at,
         ),

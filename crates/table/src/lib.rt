@@ -1,8 +1,9 @@
-// The slot table under one name: the fresh table, the eight calls by value, the same calls decided on lent columns, and how a
+// The slot table under one name: the fresh table, the ten calls by value, the same calls decided on lent columns, and how a
 // change that was decided is stored. What stands above the table knows this crate and the model's definitions.
 mod holds;
 
 pub use changes::apply;
+pub use changes::store_pin;
 pub use changes::store_txid;
 pub use changes::store_xmin;
 pub use holds::promise_holds;
@@ -20,6 +21,10 @@ pub use model::SlotChange;
 pub use model::SnapshotDecision;
 pub use model::SnapshotOutcome;
 pub use model::Table;
+pub use pins::create_pinned_snapshot;
+pub use pins::decide_pin;
+pub use pins::decide_unpin;
+pub use pins::release_pin;
 pub use publication::decide_finish;
 pub use publication::decide_stamp;
 pub use publication::finish_transaction;
@@ -35,15 +40,17 @@ pub use snapshots::decide_snap;
 ghost use mathlib.Core.Path.{_≡_};
 ghost use Rattle.model.specs.Tables.{freshTable};
 
-// A table with no transaction.
+// A table with no transaction and no pinned snapshot.
 pub fn fresh() -> Table
     ensures { λ r. do ⌜ r ≡ freshTable (← ⟦kinds::SLOTS⟧ .entry) ⌝ }
 {
     let txids = kinds::zeros();
     let snapshot_xmins = kinds::zeros();
+    let pins = kinds::free_pins();
     Table {
         txids,
         snapshot_xmins,
+        pins,
         counters: Counters {
             clock: 1,
             sampled_clock: 1,

@@ -7,7 +7,7 @@ use lib.ListN.{length, drop, getD, drop-of-length-le}
 use borrow.Author.Tests.{eq-eqb, ne-eqb}
 use Rattle.kinds.proofs.Lists.{from}
 use Rattle.settled.specs.Settled.{listed}
-use Rattle.model.specs.Check.{slotPasses, slotsPass, differ}
+use Rattle.model.specs.Check.{slotPasses, slotsPass, differ, pinPasses, pinsPass}
 
 module _ (l : List ℕ) (i : ℕ) where
   pub differ-empty : i < length l → getD l i 0 ≡ 0 → differ (drop i l) ≡ differ (drop (i + 1) l)
@@ -53,3 +53,18 @@ module _ (clock line : ℕ) (txids xmins : List ℕ) (i : ℕ) where
   pub slots-long : length txids ≤ i → i < length xmins → slotsPass clock line (drop i txids) (drop i xmins) ≡ false
   unfolding slotsPass
   slots-long h k = rw (drop-of-length-le txids h, from xmins i k)
+
+module _ (clock line : ℕ) (pins : List ℕ) (i : ℕ) where
+  pub pins-bad : i < length pins → pinPasses clock line (getD pins i 0) ≡ false → pinsPass clock line (drop i pins) ≡ false
+  unfolding pinsPass
+  pins-bad h e = rw (from pins i h, e)
+
+  pub pins-good :
+      i < length pins → pinPasses clock line (getD pins i 0) ≡ true →
+      pinsPass clock line (drop i pins) ≡ pinsPass clock line (drop (i + 1) pins)
+  unfolding pinsPass
+  pins-good h e = rw (from pins i h, e)
+
+  pub pins-over : length pins ≤ i → pinsPass clock line (drop i pins) ≡ true
+  unfolding pinsPass
+  pins-over h = rw (drop-of-length-le pins h)

@@ -7,7 +7,7 @@ ghost use lib.ListN.{length};
 ghost use Rattle.text.specs.Line.{lineText};
 ghost use Rattle.text.specs.Placed.{Placed};
 ghost use Rattle.table_text.specs.TableText.{header, linesUnder};
-ghost use Rattle.table_text.specs.Filling.{slotLines, counterLines};
+ghost use Rattle.table_text.specs.Filling.{slotLines, counterLines, pinLines};
 
 fn line(buf: &mut [u8], at: usize, key: &[u8], n: u64) -> usize
     requires { ⌜ at + length (lineText (now key) n) ≤ length (now buf) ⌝ }
@@ -45,17 +45,34 @@ fn counter_lines(buf: &mut [u8], at: usize, counters: Counters) -> usize
     line(buf, b, b"line=", counters.vacuum_line)
 }
 
-// All lines under line 1: slot after slot, then the counters.
+// The lines after the slots: pin after pin, then the counters.
+fn pin_lines(buf: &mut [u8], at: usize, pins: &[u64], counters: Counters) -> usize
+    requires { ⌜ at + length (pinLines (now pins) counters) ≤ length (now buf) ⌝ }
+    ensures { λ r. ⌜ Placed (now (buf .entry)) at (pinLines (now (pins .entry)) counters) (now (buf .exit)) r ⌝ }
+{
+    let mut past = at;
+    let mut k: usize = 0;
+    while k < pins.len() {
+        let xmin = pins[k];
+        past = line(buf, past, b"pin=", xmin);
+        k += 1;
+    }
+    counter_lines(buf, past, counters)
+}
+
+// All lines under line 1: slot after slot, then those of pins and counters.
 pub fn lines_under<'a>(
     buf: &mut [u8],
     at: usize,
     txids: &'a [u64],
     xmins: &'a [u64],
+    pins: &'a [u64],
     counters: Counters,
 ) -> usize
     requires { ⌜ length (now xmins) ≡ length (now txids) ⌝ }
-    requires { ⌜ at + length (linesUnder (now txids) (now xmins) counters) ≤ length (now buf) ⌝ }
-    ensures { λ r. ⌜ Placed (now (buf .entry)) at (linesUnder (now (txids .entry)) (now (xmins .entry)) counters) (now (buf .exit)) r ⌝ }
+    requires { ⌜ at + length (linesUnder (now txids) (now xmins) (now pins) counters) ≤ length (now buf) ⌝ }
+    ensures { λ r. ⌜ Placed (now (buf .entry)) at
+        (linesUnder (now (txids .entry)) (now (xmins .entry)) (now (pins .entry)) counters) (now (buf .exit)) r ⌝ }
 {
     let mut past = at;
     let mut i: usize = 0;
@@ -65,5 +82,5 @@ pub fn lines_under<'a>(
         past = slot_lines(buf, past, txid, xmin);
         i += 1;
     }
-    counter_lines(buf, past, counters)
+    pin_lines(buf, past, pins, counters)
 }

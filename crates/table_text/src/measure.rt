@@ -6,7 +6,7 @@ ghost use mathlib.Core.Path.{_≡_};
 ghost use lib.ListN.{length};
 ghost use Rattle.text.specs.Decimal.{decimal};
 ghost use Rattle.table_text.specs.TableText.{linesUnder, tableText};
-ghost use Rattle.table_text.specs.Filling.{slotLines, counterLines};
+ghost use Rattle.table_text.specs.Filling.{slotLines, counterLines, pinLines};
 
 fn digits(n: u64) -> usize
     ensures { λ r. ⌜ r ≡ length (decimal n) ⌝ }
@@ -36,11 +36,34 @@ fn counter_length(counters: Counters) -> usize
     21 + a + b + c
 }
 
+// A pin's key with its `=` and its newline are 5. Pins as many as a number of theirs can tell.
+fn pins_length(pins: &[u64], counters: Counters) -> usize
+    requires { ⌜ length (now pins) ≤ 65536 ⌝ }
+    ensures { λ r. ⌜ r ≡ length (pinLines (now (pins .entry)) counters) ⌝ }
+    ensures { λ r. ⌜ r ≤ 25 * length (now (pins .entry)) + 81 ⌝ }
+{
+    let mut total: usize = 0;
+    let mut k: usize = 0;
+    while k < pins.len() {
+        let xmin = pins[k];
+        let more = digits(xmin);
+        total += 5 + more;
+        k += 1;
+    }
+    let last = counter_length(counters);
+    total + last
+}
+
 // Columns as long as a slot's number can tell.
-fn length_under<'a>(txids: &'a [u64], xmins: &'a [u64], counters: Counters) -> usize
-    requires { ⌜ (length (now xmins) ≡ length (now txids)) × (length (now txids) ≤ 65536) ⌝ }
-    ensures { λ r. ⌜ r ≡ length (linesUnder (now (txids .entry)) (now (xmins .entry)) counters) ⌝ }
-    ensures { λ r. ⌜ r ≤ 52 * length (now (txids .entry)) + 81 ⌝ }
+fn length_under<'a>(
+    txids: &'a [u64],
+    xmins: &'a [u64],
+    pins: &'a [u64],
+    counters: Counters,
+) -> usize
+    requires { ⌜ (length (now xmins) ≡ length (now txids)) × (length (now txids) ≤ 65536) × (length (now pins) ≤ 65536) ⌝ }
+    ensures { λ r. ⌜ r ≡ length (linesUnder (now (txids .entry)) (now (xmins .entry)) (now (pins .entry)) counters) ⌝ }
+    ensures { λ r. ⌜ r ≤ 52 * length (now (txids .entry)) + 25 * length (now (pins .entry)) + 81 ⌝ }
 {
     let mut total: usize = 0;
     let mut i: usize = 0;
@@ -51,7 +74,7 @@ fn length_under<'a>(txids: &'a [u64], xmins: &'a [u64], counters: Counters) -> u
         total += more;
         i += 1;
     }
-    let last = counter_length(counters);
+    let last = pins_length(pins, counters);
     total + last
 }
 
@@ -60,6 +83,6 @@ pub fn table_length(table: Table) -> usize
     ensures { λ r. ⌜ r ≡ length (tableText table) ⌝ }
 {
     let counters = table.counters;
-    let under = length_under(&table.txids, &table.snapshot_xmins, counters);
+    let under = length_under(&table.txids, &table.snapshot_xmins, &table.pins, counters);
     13 + under
 }

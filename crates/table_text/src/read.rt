@@ -1,5 +1,6 @@
-// Reading the text of a table, slot after slot.
+// Reading the text of a table, slot after slot, then pin after pin.
 use crate::TableRead;
+use kinds::PINS;
 use kinds::SLOTS;
 use model::Counters;
 use model::Table;
@@ -8,21 +9,26 @@ ghost use Prim.Native.Nat.{_+_, _*_};
 ghost use mathlib.Core.Path.{_≡_};
 ghost use Rattle.text.specs.Bytes.{starts};
 ghost use Rattle.text.specs.Line.{linesAt};
-ghost use Rattle.table_text.specs.TableText.{header, tableRules, brokenAt, tableOf};
-ghost use Rattle.table_text.specs.Filling.{restRead};
+ghost use Rattle.kinds.specs.Kinds.{pinCount};
+ghost use Rattle.table_text.specs.TableText.{header, pinRules, tableRules, brokenAt, tableOf};
+ghost use Rattle.table_text.specs.Filling.{restRead, pinsRead};
 
-// The number of the first line after the slots.
+// The number of the first line after the slots, and after the pins.
 const AFTER_SLOTS: usize = 2 * SLOTS + 2;
+
+const AFTER_PINS: usize = 2 * SLOTS + 2 + PINS;
 
 fn no_table(line: usize) -> TableRead
     ensures { λ r. do ⌜ r ≡ brokenAt (← ⟦kinds::SLOTS⟧ .entry) line ⌝ }
 {
     let txids = kinds::zeros();
     let snapshot_xmins = kinds::zeros();
+    let pins = kinds::free_pins();
     TableRead {
         table: Table {
             txids,
             snapshot_xmins,
+            pins,
             counters: Counters {
                 clock: 0,
                 sampled_clock: 0,
@@ -40,28 +46,35 @@ fn headed(s: &[u8]) -> bool
     text::bytes_at(s, 0, b"table=proc-1\n")
 }
 
-// The three lines after the slots, and the end of the text.
-fn last_lines(s: &[u8], at: usize, txids: [u64; SLOTS], xmins: [u64; SLOTS]) -> TableRead
+// The three lines after the pins, and the end of the text.
+fn last_lines(
+    s: &[u8],
+    at: usize,
+    txids: [u64; SLOTS],
+    xmins: [u64; SLOTS],
+    pins: [u64; PINS],
+) -> TableRead
     ensures { λ r. do
       n ← ⟦kinds::SLOTS⟧ .entry
-      ⌜ r ≡ restRead n (now (s .entry)) txids xmins 0 (linesAt (now (s .entry)) at (2 * n + 2) (tableRules 0)) ⌝ }
+      ⌜ r ≡ pinsRead n (now (s .entry)) txids xmins pins 0 (linesAt (now (s .entry)) at (2 * n + 2 + pinCount) (pinRules 0)) ⌝ }
 {
     let Number::Is(clock, a) = text::field_at(s, at, b"clock=", u64::MAX) else {
-        return no_table(AFTER_SLOTS);
+        return no_table(AFTER_PINS);
     };
     let Number::Is(sampled_clock, b) = text::field_at(s, a, b"sample=", u64::MAX) else {
-        return no_table(AFTER_SLOTS + 1);
+        return no_table(AFTER_PINS + 1);
     };
     let Number::Is(vacuum_line, end) = text::field_at(s, b, b"line=", u64::MAX) else {
-        return no_table(AFTER_SLOTS + 2);
+        return no_table(AFTER_PINS + 2);
     };
     if end != s.len() {
-        return no_table(AFTER_SLOTS + 3);
+        return no_table(AFTER_PINS + 3);
     }
     TableRead {
         table: Table {
             txids,
             snapshot_xmins: xmins,
+            pins,
             counters: Counters {
                 clock,
                 sampled_clock,
@@ -70,6 +83,26 @@ fn last_lines(s: &[u8], at: usize, txids: [u64; SLOTS], xmins: [u64; SLOTS]) -> 
         },
         broken: 0,
     }
+}
+
+// The lines of the pins, and those after them.
+fn pin_lines(s: &[u8], from: usize, txids: [u64; SLOTS], xmins: [u64; SLOTS]) -> TableRead
+    ensures { λ r. do
+      n ← ⟦kinds::SLOTS⟧ .entry
+      ⌜ r ≡ restRead n (now (s .entry)) txids xmins 0 (linesAt (now (s .entry)) from (2 * n + 2) (tableRules 0 pinCount)) ⌝ }
+{
+    let mut pins = kinds::free_pins();
+    let mut at = from;
+    let mut k: usize = 0;
+    while k < PINS {
+        let Number::Is(xmin, next) = text::field_at(s, at, b"pin=", u64::MAX) else {
+            return no_table(AFTER_SLOTS + k);
+        };
+        pins[k] = xmin;
+        at = next;
+        k += 1;
+    }
+    last_lines(s, at, txids, xmins, pins)
 }
 
 // The table of a text, or the first line that breaks a rule.
@@ -95,5 +128,5 @@ pub fn read_table(s: &[u8]) -> TableRead
         at = b;
         i += 1;
     }
-    last_lines(s, at, txids, xmins)
+    pin_lines(s, at, txids, xmins)
 }

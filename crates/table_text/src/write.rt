@@ -19,6 +19,13 @@ pub fn put_table(buf: &mut [u8], at: usize, table: Table) -> Put
     }
     let counters = table.counters;
     let first = crate::lines::first_line(buf, at);
-    let past = crate::lines::lines_under(buf, first, &table.txids, &table.snapshot_xmins, counters);
+    let past = crate::lines::lines_under(
+        buf,
+        first,
+        &table.txids,
+        &table.snapshot_xmins,
+        &table.pins,
+        counters,
+    );
     Put::Past(past)
 }

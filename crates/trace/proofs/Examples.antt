@@ -11,7 +11,7 @@ use Rattle.grammar.specs.Named.{itemAt}
 use Rattle.grammar.specs.Texts.{readText, countText}
 use Rattle.trace.specs.Version.{headerOf, allowed}
 use Rattle.trace.specs.Trace.{reading}
-use Rattle.trace.specs.declared.Version.the-variants.{Proc1, Proc2}
+use Rattle.trace.specs.declared.Version.the-variants.{Proc1, Proc2, Proc3}
 use Rattle.trace.specs.declared.Reading.the-variants.{Whole, Broken}
 
 record Read : Type 0 where
@@ -26,8 +26,20 @@ record Read : Type 0 where
   header-only : reading (headerOf Proc1) ≡ Whole Proc1 0
   -- the other header, which allows the same ops
   header-second : reading (bytes "trace=proc-2\nop=begin\nslot=0\nid=0\nstamp=5\nclock=0\nsample=0\n") ≡ Whole Proc2 1
+  -- the third, with the two ops of pins; they are unknown under the others
+  header-third :
+      reading
+      (bytes "trace=proc-3\n"
+      ++ bytes "op=pin\nslot=0\nid=0\nstamp=0\nclock=9\nsample=3\n"
+      ++ bytes "op=unpin\nslot=64\nid=0\nstamp=0\nclock=0\nsample=0\n")
+      ≡ Whole Proc3 2
+  pin-second : reading (bytes "trace=proc-2\nop=pin\nslot=0\nid=0\nstamp=0\nclock=9\nsample=3\n") ≡ Broken 2
+  unpin-first : reading (bytes "trace=proc-1\nop=unpin\nslot=0\nid=0\nstamp=0\nclock=0\nsample=0\n") ≡ Broken 2
+  -- pin reads no slot, and unpin no id
+  pin-no-slot : reading (bytes "trace=proc-3\nop=pin\nslot=1\n") ≡ Broken 3
+  unpin-no-id : reading (bytes "trace=proc-3\nop=unpin\nslot=1\nid=1\n") ≡ Broken 4
   -- a header that isn't known
-  header-other : reading (bytes "trace=proc-3\n") ≡ Broken 1
+  header-other : reading (bytes "trace=proc-4\n") ≡ Broken 1
   -- a header without its newline
   header-open : reading (bytes "trace=proc-1") ≡ Broken 1
   -- nothing at all
@@ -51,6 +63,11 @@ read = record {
   whole-case = refl;
   header-only = refl;
   header-second = refl;
+  header-third = refl;
+  pin-second = refl;
+  unpin-first = refl;
+  pin-no-slot = refl;
+  unpin-no-id = refl;
   header-other = refl;
   header-open = refl;
   empty = refl;

@@ -17,9 +17,9 @@ use Rattle.trace.specs.Version.{versionName, versions, headerOf, allowed
 use Rattle.trace.specs.Record.{recordShape, anyForm}
 use Rattle.trace.specs.Trace.{firstRecord, traceGrammar, traceFormat}
 use Rattle.trace.specs.declared.Op.{Op}
-use Rattle.trace.specs.declared.Op.the-variants.{Begin, End, Snap, Own, Oldest, Vacuum, Stamp, Finish}
+use Rattle.trace.specs.declared.Op.the-variants.{Begin, End, Snap, Own, Oldest, Vacuum, Stamp, Finish, Pin, Unpin}
 use Rattle.trace.specs.declared.Version.{Version}
-use Rattle.trace.specs.declared.Version.the-variants.{Proc1, Proc2}
+use Rattle.trace.specs.declared.Version.the-variants.{Proc1, Proc2, Proc3}
 
 op-found : (o : Op) (s : List ℕ) (at : ℕ) (rest : List ℕ) → drop at s ≡ opName o ++ rest
     → firstNamed opName ops s at ≡ Named o (at + length (opName o))
@@ -32,6 +32,8 @@ op-found Oldest s at rest e = rw e
 op-found Vacuum s at rest e = rw e
 op-found Stamp s at rest e = rw e
 op-found Finish s at rest e = rw e
+op-found Pin s at rest e = rw e
+op-found Unpin s at rest e = rw e
 
 op-one : (o : Op) → oneLine (nameLine opNames o) ≡ true
 unfolding oneLine nameLine
@@ -43,6 +45,8 @@ op-one Oldest = refl
 op-one Vacuum = refl
 op-one Stamp = refl
 op-one Finish = refl
+op-one Pin = refl
+op-one Unpin = refl
 
 record-laws : ShapeLaws recordShape
 unfolding oneLine
@@ -59,21 +63,25 @@ version-found : (v : Version) (s : List ℕ) (at : ℕ) (rest : List ℕ) → dr
 unfolding starts firstNamed
 version-found Proc1 s at rest e = rw e
 version-found Proc2 s at rest e = rw e
+version-found Proc3 s at rest e = rw e
 
 version-one : (v : Version) → oneLine (headerOf v) ≡ true
 unfolding oneLine nameLine
 version-one Proc1 = refl
 version-one Proc2 = refl
+version-one Proc3 = refl
 
 pub header-length : (v : Version) → length (headerOf v) ≡ firstRecord
 unfolding nameLine
 header-length Proc1 = refl
 header-length Proc2 = refl
+header-length Proc3 = refl
 
 begin-allowed : (v : Version) → allowed v Begin ≡ true
 unfolding allowed
 begin-allowed Proc1 = refl
 begin-allowed Proc2 = refl
+begin-allowed Proc3 = refl
 
 pub trace-grammar : GrammarLaws traceGrammar
 trace-grammar = record {

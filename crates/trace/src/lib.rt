@@ -11,10 +11,12 @@ pub use whole::LONGEST;
 pub use whole::first_record;
 pub use whole::read_trace;
 
-// The headers that are known: `trace=proc-1`, and `trace=proc-2`, whose records print their holder.
+// The headers that are known: `trace=proc-1`; `trace=proc-2`, whose records print their holder; and `trace=proc-3`, which is
+// printed like that and has the two ops of pins.
 pub enum Version {
     Proc1,
     Proc2,
+    Proc3,
 }
 
 // The calls that a record can name.
@@ -27,9 +29,11 @@ pub enum Op {
     Vacuum,
     Stamp,
     Finish,
+    Pin,
+    Unpin,
 }
 
-// One call of a captured run. A field that the op doesn't read is 0.
+// One call of a captured run. A field that the op doesn't read is 0; `slot` is the pin's number for an op of pins.
 pub struct Record {
     pub op: Op,
     pub slot: u16,

@@ -38,6 +38,8 @@ pub fn reads_of(op: Op) -> Reads
         Op::Vacuum => reads(false, false, false, true),
         Op::Stamp => reads(false, false, true, false),
         Op::Finish => reads(true, true, true, false),
+        Op::Pin => reads(false, false, false, true),
+        Op::Unpin => reads(true, false, false, false),
     }
 }
 
@@ -52,12 +54,14 @@ fn try_name(s: &[u8], at: usize, name: &[u8], op: Op, other: OpAt) -> OpAt
     other
 }
 
-// The op whose name, with its newline, stands at `at`. All eight are compared; no two can stand at
+// The op whose name, with its newline, stands at `at`. All ten are compared; no two can stand at
 // one place.
 fn name_at(s: &[u8], at: usize) -> OpAt
     ensures { λ r. ⌜ r ≡ sayName Is Unknown (firstNamed opName ops (now (s .entry)) at) ⌝ }
 {
-    let finish = try_name(s, at, b"finish\n", Op::Finish, OpAt::Unknown);
+    let unpin = try_name(s, at, b"unpin\n", Op::Unpin, OpAt::Unknown);
+    let pin = try_name(s, at, b"pin\n", Op::Pin, unpin);
+    let finish = try_name(s, at, b"finish\n", Op::Finish, pin);
     let stamp = try_name(s, at, b"stamp\n", Op::Stamp, finish);
     let vacuum = try_name(s, at, b"vacuum\n", Op::Vacuum, stamp);
     let oldest = try_name(s, at, b"oldest\n", Op::Oldest, vacuum);

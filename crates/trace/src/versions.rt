@@ -2,7 +2,7 @@
 use crate::Op;
 use crate::Version;
 ghost use mathlib.Core.Path.{_≡_};
-ghost use Rattle.trace.specs.Version.{allowed, headerAt};
+ghost use Rattle.trace.specs.Version.{ofPins, allowed, headerAt};
 
 // The header of a text, with the place past its line, or none that is known.
 pub enum HeaderAt {
@@ -20,15 +20,38 @@ pub fn header_at(s: &[u8]) -> HeaderAt
     if text::bytes_at(s, 0, b"trace=proc-2\n") {
         return HeaderAt::Is(Version::Proc2, 13);
     }
+    if text::bytes_at(s, 0, b"trace=proc-3\n") {
+        return HeaderAt::Is(Version::Proc3, 13);
+    }
     HeaderAt::Unknown
+}
+
+// Whether an op is one of pins.
+fn is_of_pins(op: Op) -> bool
+    ensures { λ r. ⌜ r ≡ ofPins op ⌝ }
+{
+    match op {
+        Op::Begin => false,
+        Op::End => false,
+        Op::Snap => false,
+        Op::Own => false,
+        Op::Oldest => false,
+        Op::Vacuum => false,
+        Op::Stamp => false,
+        Op::Finish => false,
+        Op::Pin => true,
+        Op::Unpin => true,
+    }
 }
 
 // Whether a record under this header may name this op.
 pub fn allows(version: Version, op: Op) -> bool
     ensures { λ r. ⌜ r ≡ allowed version op ⌝ }
 {
+    let pins = is_of_pins(op);
     match version {
-        Version::Proc1 => true,
-        Version::Proc2 => true,
+        Version::Proc1 => !pins,
+        Version::Proc2 => !pins,
+        Version::Proc3 => true,
     }
 }

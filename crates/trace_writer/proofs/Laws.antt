@@ -19,7 +19,7 @@ use Rattle.trace.specs.Version.{allowed}
 use Rattle.trace.specs.Record.{recordText}
 use Rattle.trace.specs.Trace.{traceFormat, longest, traceText, AllExpressible, traceOf}
 use Rattle.trace.specs.declared.Op.{Op}
-use Rattle.trace.specs.declared.Op.the-variants.{Begin, End, Snap, Own, Oldest, Vacuum, Stamp, Finish}
+use Rattle.trace.specs.declared.Op.the-variants.{Begin, End, Snap, Own, Oldest, Vacuum, Stamp, Finish, Pin, Unpin}
 use Rattle.trace.specs.declared.Version.{Version}
 use Rattle.trace.specs.declared.Record.{Record}
 use Rattle.grammar.proofs.Grammar.{accepted, accepts, one-text}
@@ -284,6 +284,8 @@ name-least Oldest = omega arith
 name-least Vacuum = omega arith
 name-least Stamp = omega arith
 name-least Finish = omega arith
+name-least Pin = omega arith
+name-least Unpin = omega arith
 
 record-least : (r : Record) → 44 ≤ length (recordText r)
 record-least r =

@@ -22,10 +22,10 @@ use Rattle.trace.specs.Version.{headerOf}
 use Rattle.trace.specs.Record.{recordForm, anyForm, recordText}
 use Rattle.trace.specs.Trace.{firstRecord, traceText}
 use Rattle.trace.specs.declared.Op.{Op}
-use Rattle.trace.specs.declared.Op.the-variants.{Begin, End, Snap, Own, Oldest, Vacuum, Stamp, Finish}
+use Rattle.trace.specs.declared.Op.the-variants.{Begin, End, Snap, Own, Oldest, Vacuum, Stamp, Finish, Pin, Unpin}
 use Rattle.trace.specs.declared.Record.{Record}
 use Rattle.trace.specs.declared.Version.{Version}
-use Rattle.trace.specs.declared.Version.the-variants.{Proc1, Proc2}
+use Rattle.trace.specs.declared.Version.the-variants.{Proc1, Proc2, Proc3}
 use Rattle.trace.proofs.Shape.{header-length, any-facts}
 use Rattle.trace_writer.specs.Writing.{recordsText}
 use Rattle.trace_writer.specs.TwoLines.{twoLines}
@@ -34,11 +34,13 @@ use Rattle.trace_writer.specs.TwoLines.{twoLines}
 abbrev pub headerNumber : Version → ℕ
 headerNumber Proc1 = 1
 headerNumber Proc2 = 2
+headerNumber Proc3 = 3
 
 pub header-line : (v : Version) → lineText (bytes "trace=proc-") (headerNumber v) ≡ headerOf v
 unfolding lineText numberText decimal decimalIn nameLine
 header-line Proc1 = refl
 header-line Proc2 = refl
+header-line Proc3 = refl
 
 pub header-room :
     (v : Version) (xs : List ℕ) → length (headerOf v) ≤ length xs →

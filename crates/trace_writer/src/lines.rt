@@ -30,6 +30,7 @@ pub fn header(version: Version, buf: &mut [u8]) -> usize
     match version {
         Version::Proc1 => line(buf, 0, b"trace=proc-", 1),
         Version::Proc2 => line(buf, 0, b"trace=proc-", 2),
+        Version::Proc3 => line(buf, 0, b"trace=proc-", 3),
     }
 }
 
@@ -47,6 +48,8 @@ fn op_and_slot(buf: &mut [u8], at: usize, op: Op, slot: u64) -> usize
         Op::Vacuum => line(buf, at, b"op=vacuum\nslot=", slot),
         Op::Stamp => line(buf, at, b"op=stamp\nslot=", slot),
         Op::Finish => line(buf, at, b"op=finish\nslot=", slot),
+        Op::Pin => line(buf, at, b"op=pin\nslot=", slot),
+        Op::Unpin => line(buf, at, b"op=unpin\nslot=", slot),
     }
 }
 

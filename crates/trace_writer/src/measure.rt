@@ -62,6 +62,8 @@ fn name_length(op: Op) -> usize
         Op::Vacuum => 7,
         Op::Stamp => 6,
         Op::Finish => 7,
+        Op::Pin => 4,
+        Op::Unpin => 6,
     }
 }
 

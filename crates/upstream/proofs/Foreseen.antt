@@ -20,7 +20,7 @@ use Rattle.model.specs.Tally.{lowestEmpty}
 use Rattle.model.specs.Tables.{txidAt, clockOf}
 use Rattle.model.specs.Tests.{slotTest, holderTest, ownerTest, farthest, reservationTest, fullTest, observationTest}
 use Rattle.model.specs.Accepted.{Reserves, Observes}
-use Rattle.model.specs.Calls.{Call, begin, end, snap, own, oldest, vacuum, stamp, finish, refusal}
+use Rattle.model.specs.Calls.{Call, begin, end, snap, own, oldest, vacuum, stamp, finish, pin, unpin, refusal}
 use Rattle.model.proofs.Tests.{reservation-passes, observation-passes}
 use Rattle.upstream.specs.States.{State, stateOf, Foreseen, Asked}
 use Rattle.upstream.specs.Relations.{Observation, Reservation}
@@ -73,6 +73,8 @@ module _ (n : ℕ) (t : Table) where
   asked-foreseen (finish i id k) (h, f) =
       then-foreseen (ownerTest n (t .txids) i id) (reservationTest (clockOf t) k) (owner-foreseen i id h)
       (reserves-foreseen k f)
+  asked-foreseen (pin c m) f = absurd f
+  asked-foreseen (unpin k) f = absurd f
 
 -- the trait's `reservation`, with the clock above 0 that it required and a number near it, and its `observation` give what is asked
 module _ (t : Table) (history : List ℕ) (new : State) where

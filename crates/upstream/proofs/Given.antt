@@ -1,8 +1,8 @@
--- Which refusals a call can give: 1 to 8 and 13. So upstream foresees its verdict where neither 13 nor any of 4 to 8 is given.
+-- Which refusals a call of upstream's can give: 1 to 8 and 13. So upstream foresees its verdict where neither 13 nor any of 4 to 8 is given.
 use Prim.Native.Nat.{ℕ, _+_, _≤_}
 use mathlib.Core.Path.{_≡_, refl}
 use mathlib.Core.Logic.{_≢_, _⊎_, inl, inr}
-use mathlib.Core.Bool.{Bool, true, false, cond, _||_}
+use mathlib.Core.Bool.{Bool, true, false, true≢false, cond, _||_}
 use mathlib.Core.List.{List}
 use native.Mathlib.Decide.{decLe}
 use native.Mathlib.Omega.{arith}
@@ -20,8 +20,8 @@ use Rattle.model.specs.declared.Table.{Table}
 use Rattle.model.specs.Tally.{lowestEmpty}
 use Rattle.model.specs.Tables.{clockOf}
 use Rattle.model.specs.Tests.{slotTest, holderTest, ownerTest, farthest, reservationTest, fullTest, observationTest}
-use Rattle.model.specs.Calls.{Call, begin, end, snap, own, oldest, vacuum, stamp, finish, refusal}
-use Rattle.upstream.specs.States.{Foreseen}
+use Rattle.model.specs.Calls.{Call, begin, end, snap, own, oldest, vacuum, stamp, finish, pin, unpin, refusal}
+use Rattle.upstream.specs.States.{Foreseen, pinning}
 
 abbrev pub Given : Verdict → Type 0
 Given v = (tells v .number ≤ 8) ⊎ (tells v .number ≡ 13)
@@ -60,29 +60,31 @@ observation-given former clock sample =
     cond-given (ltb clock former) _ _ (inl (omega arith))
     (cond-given (eqb sample 0 || ltb clock sample) _ Pass (inl (omega arith)) (inl (omega arith)))
 
-pub given : (n : ℕ) (t : Table) (c : Call) → Given (refusal n t c)
+pub given : (n : ℕ) (t : Table) (c : Call) → pinning c ≡ false → Given (refusal n t c)
 unfolding refusal
-given n t (begin k) =
+given n t (begin k) e =
     then-given (reservationTest (clockOf t) k) (fullTest n (t .txids) k) (reservation-given (clockOf t) k)
     (full-given n (t .txids) k)
-given n t (end i id) = owner-given n (t .txids) i id
-given n t (snap c m) = observation-given (clockOf t) c m
-given n t (own i id c m) =
+given n t (end i id) e = owner-given n (t .txids) i id
+given n t (snap c m) e = observation-given (clockOf t) c m
+given n t (own i id c m) e =
     then-given (ownerTest n (t .txids) i id) (observationTest (clockOf t) c m) (owner-given n (t .txids) i id)
     (observation-given (clockOf t) c m)
-given n t (oldest c m) = observation-given (clockOf t) c m
-given n t (vacuum c m) = observation-given (clockOf t) c m
-given n t (stamp k) = reservation-given (clockOf t) k
-given n t (finish i id k) =
+given n t (oldest c m) e = observation-given (clockOf t) c m
+given n t (vacuum c m) e = observation-given (clockOf t) c m
+given n t (stamp k) e = reservation-given (clockOf t) k
+given n t (finish i id k) e =
     then-given (ownerTest n (t .txids) i id) (reservationTest (clockOf t) k) (owner-given n (t .txids) i id)
     (reservation-given (clockOf t) k)
+given n t (pin c m) e = absurd (true≢false e)
+given n t (unpin k) e = absurd (true≢false e)
 
 -- neither 13 nor any of 4 to 8
 pub foreseen-otherwise :
-    (n : ℕ) (t : Table) (c : Call) →
+    (n : ℕ) (t : Table) (c : Call) → pinning c ≡ false →
     (4 ≤ tells (refusal n t c) .number → tells (refusal n t c) .number ≤ 8 → ⊥) →
     tells (refusal n t c) .number ≢ 13 → Foreseen (refusal n t c)
-foreseen-otherwise n t c not-4-to-8 not-13 = go (given n t c)
+foreseen-otherwise n t c e not-4-to-8 not-13 = go (given n t c e)
   where
     go : Given (refusal n t c) → Foreseen (refusal n t c)
     go (inl h) = small (decLe 4 (tells (refusal n t c) .number))

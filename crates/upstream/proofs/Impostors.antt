@@ -24,16 +24,16 @@ use Rattle.model.specs.Accepted.{Reserves, Observes}
 use Rattle.model.specs.Facts.{Good}
 use Rattle.model.proofs.Places.{Stored, new-here, as-before, stored, zeros-hold}
 use Rattle.model.proofs.Moves.{CountersFit, good-applied, good-fresh}
-use Rattle.upstream.specs.States.{at, push, stateOf, stateAfter, Shaped}
+use Rattle.upstream.specs.States.{at, push, stateOf, stateAfter, Shaped, PinsFree}
 use Rattle.upstream.specs.Relations.{Contains, TableOf, HistoryOf, Kept}
 use Rattle.upstream.specs.Clauses.{BeginTransaction, SnapshotLocked, CreateTransactionSnapshot}
-use Rattle.upstream.specs.Clauses.{OldestSnapshotXmin, DeregisterThenReserve}
+use Rattle.upstream.specs.Clauses.{OldestSnapshotXmin, OldestRetention, DeregisterThenReserve}
 use Rattle.upstream.proofs.Pairs.{pairs-set, slotsOf, txid-at, shaped-applied}
-use Rattle.upstream.proofs.Yes.{from-good, atLine, to-good}
+use Rattle.upstream.proofs.Yes.{from-good, beside, unpinned, to-good}
 use Rattle.upstream.proofs.Histories.{length-push, contains-pushes, contains-last, history-push}
 use Rattle.upstream.proofs.Foreseen.{asked-foreseen}
 use Rattle.upstream.proofs.Snapshots.{snapshot-locked-meets}
-use Rattle.upstream.proofs.Oldest.{oldest-meets}
+use Rattle.upstream.proofs.Oldest.{oldest-meets, oldest-retains}
 use Rattle.upstream.proofs.Publish.{above}
 
 -- an error that says of a begin that no slot is free
@@ -50,6 +50,7 @@ ones-fit t c h p =
       line-from-1 = le-refl 1;
       line-to-clock = p;
       under = λ i z. omega arith;
+      under-pin = λ i z. omega arith;
     }
 
 -- slot i becomes (k, k), and the sample 1
@@ -73,10 +74,10 @@ module _ (n : ℕ) (t : Table) (history : List ℕ) (s : Shaped n t) where
     where
       good :
           TableOf n (stateOf t history) →
-          Good n (applied (atLine 1 t) (change (Enters (slot i) (txid k)) (counted (k + 1) 1 1)))
+          Good n (applied (unpinned t) (change (Enters (slot i) (txid k)) (counted (k + 1) 1 1)))
       good y =
-          good-applied n (atLine 1 t) (counted (k + 1) 1 1) (to-good n t (record { shape = s; table = y }))
-          (ones-fit (atLine 1 t) (k + 1) (omega (arith, f .from-clock)) (omega arith)) (Enters (slot i) (txid k))
+          good-applied n (unpinned t) (counted (k + 1) 1 1) (to-good n t (record { shape = s; table = y }))
+          (ones-fit (unpinned t) (k + 1) (omega (arith, f .from-clock)) (omega arith)) (Enters (slot i) (txid k))
           (record { positive = f .positive; new = f .from-clock; past = omega arith; over = f .positive })
 
       held : (j : ℕ) → at (slotsOf (entered t i k)) j .txid ≡ txidAt (entered t i k) j
@@ -121,8 +122,11 @@ module _ (n : ℕ) (t : Table) (history : List ℕ) (s : Shaped n t) where
 
   pub always-oldest-one :
       (c : ℕ) → clockOf t ≤ c → 1 ≤ c →
-      OldestSnapshotXmin n (stateOf t history) (stateAfter n t history (oldest c 1)) (answer n t (oldest c 1))
-  always-oldest-one c h p = oldest-meets n t history c 1 s (asked-foreseen n t (oldest c 1) (one c h p))
+      OldestSnapshotXmin n (stateOf t history) (stateAfter n t history (oldest c 1))
+      × (PinsFree t → OldestRetention n (stateAfter n t history (oldest c 1)) (answer n t (oldest c 1)))
+  always-oldest-one c h p =
+      let f = asked-foreseen n t (oldest c 1) (one c h p) in
+      (oldest-meets n t history c 1 s f, oldest-retains n t history c 1 s f)
 
   -- the transaction snapshot: a refusal that moves clock and sample as a plain snapshot does, and is called NoFreeSlot
   pub refused-moves-clock :
@@ -181,6 +185,6 @@ module _ (n : ℕ) (t : Table) (history : List ℕ) (s : Shaped n t) where
       empty : (j : ℕ) → at (slotsOf (emptied n k)) j .txid ≡ 0
       empty j = txid-at n (emptied n k) (from-good n (emptied n k) good .shape) j ∙ zeros-hold n j
 
-  -- any call: moves the vacuum line, which no clause of upstream's sees
-  pub line-unseen : (line : ℕ) → stateOf (atLine line t) history ≡ stateOf t history
-  line-unseen line = refl
+  -- any call: moves the vacuum line and the pins, which no clause of upstream's sees
+  pub line-unseen : (pins : List ℕ) (line : ℕ) → stateOf (beside pins line t) history ≡ stateOf t history
+  line-unseen pins line = refl

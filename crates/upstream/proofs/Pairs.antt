@@ -8,7 +8,7 @@ use lib.ListN.{length, getD, set, length-set}
 use Rattle.model.specs.declared.Counters.{Counters}
 use Rattle.model.specs.declared.Table.{Table}
 use Rattle.model.specs.declared.change.SlotChange.{SlotChange}
-use Rattle.model.specs.declared.change.SlotChange.the-variants.{Stays, Enters, Leaves, Retains}
+use Rattle.model.specs.declared.change.SlotChange.the-variants.{Stays, Enters, Leaves, Retains, Pins}
 use Rattle.model.specs.Tables.{txidAt, xminAt}
 use Rattle.model.specs.Changes.{change, applied}
 use Rattle.upstream.specs.States.{Slot, slot, at, pairs, Shaped}
@@ -73,3 +73,4 @@ module _ (n : ℕ) (t : Table) (s : Shaped n t) where
       }
   shaped-applied (Retains slot xmin) k =
       record { txids-size = s .txids-size; xmins-size = length-set (t .«snapshot_xmins») (slot .0) xmin ∙ s .xmins-size }
+  shaped-applied (Pins pin xmin) k = record { txids-size = s .txids-size; xmins-size = s .xmins-size }

@@ -27,7 +27,7 @@ use Rattle.upstream.specs.States.{at, pairs, stateOf, stateAfter, Shaped
 use Rattle.upstream.specs.Relations.{Contains, TableOf, HistoryOf, Kept}
 use Rattle.upstream.specs.Clauses.{ReservePublicationClock, DeregisterThenReserve}
 use Rattle.upstream.proofs.Pairs.{txid-at, shaped-applied}
-use Rattle.upstream.proofs.Yes.{atLine, to-good}
+use Rattle.upstream.proofs.Yes.{unpinned, to-good}
 use Rattle.upstream.proofs.Always.{well-formed-kept}
 use Rattle.upstream.proofs.Runs.{stateBy, reservation-strict, Owning, outside, other, owned, owning}
 
@@ -69,7 +69,7 @@ module _ (n : ℕ) (t : Table) (history : List ℕ) (s : Shaped n t) where
         at (pairs (set (t .txids) (i .0) 0) (set (t .«snapshot_xmins») (i .0) 0)) j .txid ≢ id .0
     gone o y j =
         rw (txid-at n _ (shaped-applied n t s (Leaves i) (t .counters)) j)
-        (emptied-gone n (atLine 1 t) i id (to-good n t (record { shape = s; table = y }))
+        (emptied-gone n (unpinned t) i id (to-good n t (record { shape = s; table = y }))
         (record { inside = o .inside; registered = record { not-zero = o .registered .not-zero; holds = o .registered .holds } }) j)
 
     finish-run :

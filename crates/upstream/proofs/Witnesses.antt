@@ -5,7 +5,7 @@ use mathlib.Core.Path.{_≡_, refl}
 use mathlib.Core.Bool.{true, false}
 use mathlib.Core.List.{List, [], _∷_, map}
 use native.Mathlib.Omega.{arith}
-use Rattle.kinds.specs.Kinds.{top, number, slot, txid}
+use Rattle.kinds.specs.Kinds.{top, freePins, number, slot, txid}
 use Rattle.kinds.specs.Refusals.{told}
 use Rattle.kinds.specs.declared.refusal.Refusal.the-variants.{NoFreeSlot, InvalidSlot, SlotOwnershipMismatch, WildJump}
 use Rattle.kinds.specs.declared.refusal.Verdict.the-variants.{Pass, Refuse}
@@ -17,7 +17,7 @@ use Rattle.model.specs.Calls.{refusal, changeAccepted, changeOf, after, answer,
 use Rattle.model.specs.Answers.{tellsOf}
 use Rattle.model.specs.History.{run, reached}
 use Rattle.model.specs.Reservations.{reservationsFrom, reservations}
-use Rattle.model.specs.Check.{slotsPass, differ, passes, tablePasses}
+use Rattle.model.specs.Check.{slotsPass, differ, pinsPass, passes, tablePasses}
 use Rattle.settled.specs.Settled.{listed}
 use Rattle.upstream.specs.States.{stateOf, stateAfter}
 use Rattle.upstream.specs.Clauses.{ReservePublicationClock}
@@ -36,7 +36,7 @@ both-reserved = refl
 
 -- the check says yes of it
 pub both-pass : tablePasses 2 both-taken ≡ true
-unfolding run refusal changeAccepted changeOf after freshTable lowestEmpty passes slotsPass differ listed
+unfolding run refusal changeAccepted changeOf after freePins freshTable lowestEmpty passes slotsPass differ pinsPass listed
 both-pass = refl
 
 -- every verdict that upstream foresees is given there: a begin on the full table, an end of a slot outside and of another's, and
@@ -90,7 +90,7 @@ past-farthest-fails history r = omega (arith, r .l-stamp-e2 .from-clock)
 
 -- two slots hold 5: the check says no, a finish of 5 in slot 0 is accepted, and slot 1 holds 5 after it
 abbrev twice : Table
-twice = lent (5 ∷ 5 ∷ []) (5 ∷ 5 ∷ []) (counted 6 1 1)
+twice = lent (5 ∷ 5 ∷ []) (5 ∷ 5 ∷ []) freePins (counted 6 1 1)
 
 pub twice-fails : tablePasses 2 twice ≡ false
 unfolding passes slotsPass differ listed
@@ -106,7 +106,7 @@ twice-held = refl
 
 -- a slot holds 2^64 − 1: xmax is held there, and is not the largest txid plus 1
 abbrev at-top : Table
-at-top = lent (top ∷ []) (1 ∷ []) (counted top 1 1)
+at-top = lent (top ∷ []) (1 ∷ []) freePins (counted top 1 1)
 
 pub top-held : shown 1 at-top (snap top 1) .xmax ≡ top
 unfolding refusal shownAccepted shown snapshotOf active maximum

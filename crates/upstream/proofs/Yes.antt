@@ -1,17 +1,22 @@
 -- A yes of the table check gives what well_formed says of slots and clocks, and the shape of the table. The other way, such a
--- table passes the check once its line is 1: upstream has no line, and 1 is at most the clock and every taken txid.
+-- table passes the check once its line is 1 and its pins are free: upstream has neither, and 1 is at most the clock and every
+-- taken txid.
 use Prim.Native.Nat.{ℕ, _<_}
 use mathlib.Core.Path.{_≡_, sym, _∙_}
 use mathlib.Core.Logic.{_≢_}
 use mathlib.Core.Bool.{true}
+use mathlib.Core.List.{List}
 use native.Mathlib.Nat.{le-refl}
 use native.Mathlib.Decide.{ℕ-discrete, decLt}
 use native.Mathlib.Omega.{arith}
+use lib.ListN.{length-replicate}
 use Rattle.model.specs.declared.Table.{Table}
+use Rattle.kinds.specs.Kinds.{pinCount, freePins}
 use Rattle.model.specs.Tables.{txidAt, xminAt, clockOf, lent}
 use Rattle.model.specs.Changes.{withLine}
 use Rattle.model.specs.Check.{tablePasses}
-use Rattle.model.specs.Facts.{SlotGood, empty, taken, Good}
+use Rattle.model.specs.Facts.{SlotGood, empty, taken, pin-free, Good}
+use Rattle.model.proofs.Places.{zeros-hold}
 use Rattle.model.proofs.Moves.{is-taken}
 use Rattle.model.proofs.Check.{passes-good}
 use Rattle.upstream.specs.States.{slot, at, Shaped}
@@ -50,19 +55,26 @@ from-good n t g =
 pub from-yes : (n : ℕ) (t : Table) → tablePasses n t ≡ true → Sound n t
 from-yes n t e = from-good n t (passes-good n t e)
 
-abbrev pub atLine : ℕ → Table → Table
-atLine line t = lent (t .txids) (t .«snapshot_xmins») (withLine line (t .counters))
+-- the table with other pins, and another line
+abbrev pub beside : List ℕ → ℕ → Table → Table
+beside pins line t = lent (t .txids) (t .«snapshot_xmins») pins (withLine line (t .counters))
 
-pub to-good : (n : ℕ) (t : Table) → Sound n t → Good n (atLine 1 t)
+abbrev pub unpinned : Table → Table
+unpinned t = beside freePins 1 t
+
+pub to-good : (n : ℕ) (t : Table) → Sound n t → Good n (unpinned t)
+unfolding freePins
 to-good n t y =
     record {
       txid-column = y .shape .txids-size;
       xmin-column = y .shape .xmins-size;
+      pin-column = length-replicate {A = ℕ} pinCount 0;
       sample-from-1 = y .table .sample-positive;
       sample-to-clock = y .table .sample-within;
       line-from-1 = le-refl 1;
       line-to-clock = omega (arith, y .table .sample-positive, y .table .sample-within);
       each = λ i. each i (ℕ-discrete (txidAt t i) 0);
+      each-pin = λ k. pin-free (zeros-hold pinCount k);
       differ = λ i j z e. once i j z e (decLt i j) (decLt j i);
     }
   where

@@ -110,12 +110,15 @@ pub record CreateTransactionSnapshot
   pub l-own-e6 : result .number ≢ 0 → new .slots ≡ old .slots
   pub l-own-e7 : given .0 < n → at (old .slots) (given .0) .txid ≡ id .0 → result .number ≡ 0
 
--- L:351-355; who holds it is not upstream's
-pub record OldestSnapshotXmin (n : ℕ) (old new : State) (result : Answer) : Type 0 where
+-- L:351-354
+pub record OldestSnapshotXmin (n : ℕ) (old new : State) : Type 0 where
   pub l-oldest-e1 : Kept n old new
   pub l-oldest-e3 : new .slots ≡ old .slots
   pub l-oldest-e4 : new .reservations ≡ old .reservations
   pub l-oldest-e5 : old .clock ≤ new .clock
+
+-- L:355; who holds it is not upstream's
+pub record OldestRetention (n : ℕ) (new : State) (result : Answer) : Type 0 where
   pub l-oldest-e6 : (holder : ℕ) × (result ≡ Oldest («minimum_retention» (new .slots) n (new .«sampled_clock»)) holder)
 
 -- L:385

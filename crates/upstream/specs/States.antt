@@ -3,12 +3,13 @@
 use Prim.Native.Nat.{ℕ, _<_, _≤_}
 use mathlib.Core.List.{List, [], _∷_, _++_}
 use mathlib.Core.Path.{_≡_}
+use mathlib.Core.Bool.{Bool, true, false}
 use lib.ListN.{length, getD}
 use Rattle.kinds.specs.declared.refusal.Verdict.{Verdict}
 use Rattle.kinds.specs.Verdicts.{tells}
 use Rattle.model.specs.declared.Table.{Table}
-use Rattle.model.specs.Tables.{clockOf, sampleOf}
-use Rattle.model.specs.Calls.{Call, begin, end, snap, own, oldest, vacuum, stamp, finish, refusal, after}
+use Rattle.model.specs.Tables.{clockOf, sampleOf, pinAt}
+use Rattle.model.specs.Calls.{Call, begin, end, snap, own, oldest, vacuum, stamp, finish, pin, unpin, refusal, after}
 use Rattle.model.specs.Accepted.{Reserves, Observes}
 use Rattle.model.specs.Reservations.{reservesBy}
 
@@ -53,6 +54,10 @@ pub record Shaped (n : ℕ) (t : Table) : Type 0 where
   pub txids-size : length (t .txids) ≡ n
   pub xmins-size : length (t .«snapshot_xmins») ≡ n
 
+-- no pin is taken: upstream's oldest knows none
+abbrev pub PinsFree : Table → Type 0
+PinsFree t = (k : ℕ) → pinAt t k ≡ 0
+
 -- the ids pushed, one after the other
 abbrev pub pushes : List ℕ → List ℕ → List ℕ
 pushes history [] = history
@@ -70,6 +75,19 @@ stateAfter n t history c = stateOf (after n t c) (historyBy (refusal n t c) hist
 abbrev pub Foreseen : Verdict → Type 0
 Foreseen v = tells v .number ≤ 3
 
+-- upstream has no pins: a pinned snapshot and a release are none of its calls
+abbrev pub pinning : Call → Bool
+pinning (begin number) = false
+pinning (end slot id) = false
+pinning (snap clock sample) = false
+pinning (own slot id clock sample) = false
+pinning (oldest clock sample) = false
+pinning (vacuum clock sample) = false
+pinning (stamp number) = false
+pinning (finish slot id number) = false
+pinning (pin clock sample) = true
+pinning (unpin k) = true
+
 -- what upstream asks of a call's arguments, itself or by its trait, in our words: a number that may be reserved, a txid above 0,
 -- a clock and a sample that may be observed. That the number is near the clock upstream does not ask; our refusal 13 does
 abbrev pub Asked : Table → Call → Type 0
@@ -81,3 +99,6 @@ Asked t (oldest clock sample) = Observes (clockOf t) clock sample
 Asked t (vacuum clock sample) = Observes (clockOf t) clock sample
 Asked t (stamp number) = Reserves (clockOf t) (number .0)
 Asked t (finish slot id number) = (0 < id .0) × Reserves (clockOf t) (number .0)
+-- .. and these it does not ask
+Asked t (pin clock sample) = ⊥
+Asked t (unpin k) = ⊥

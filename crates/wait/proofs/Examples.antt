@@ -2,7 +2,8 @@
 use Prim.Native.Nat.{ℕ}
 use mathlib.Core.Path.{_≡_, refl}
 use mathlib.Core.List.{List, [], _∷_, _++_}
-use Rattle.kinds.specs.Kinds.{slot, txid}
+use lib.ListN.{set}
+use Rattle.kinds.specs.Kinds.{freePins, slot, txid}
 use Rattle.kinds.specs.declared.refusal.Refusal.the-variants.{InvalidSlot, SlotOwnershipMismatch, ZeroTxid, BadTrace, BadEntry, BadStep}
 use Rattle.kinds.specs.declared.refusal.Verdict.{Verdict}
 use Rattle.kinds.specs.declared.refusal.Verdict.the-variants.{Pass, Refuse}
@@ -10,7 +11,7 @@ use Rattle.settled.specs.Settled.{listed}
 use Rattle.model.specs.declared.Table.{Table}
 use Rattle.model.specs.Tally.{active, minimum}
 use Rattle.model.specs.Tables.{counted, lent}
-use Rattle.model.specs.Check.{slotsPass, differ, passes}
+use Rattle.model.specs.Check.{slotsPass, differ, pinsPass, passes}
 use Rattle.text.specs.Decimal.{numberTail, numberFrom, numberAt}
 use Rattle.text.specs.Bytes.{bytes, starts}
 use Rattle.text.specs.Line.{fieldAt, linesAt}
@@ -26,12 +27,16 @@ use Rattle.wait.specs.declared.WaitAnswer.{WaitAnswer}
 use Rattle.wait.specs.Steps.{registerRule, endRule, horizonRule, ruleOf, eventTest, changeBy, eventChange}
 use Rattle.wait.specs.Waits.{stepsFrom, ended, verdictOn, waitOf}
 
+-- pin 5 holds 3, the others are free
+abbrev pins : List ℕ
+pins = set freePins 5 3
+
 abbrev entry : Table
-entry = lent (4 ∷ 7 ∷ 0 ∷ []) (3 ∷ 5 ∷ 0 ∷ []) (counted 8 6 2)
+entry = lent (4 ∷ 7 ∷ 0 ∷ []) (3 ∷ 5 ∷ 0 ∷ []) pins (counted 8 6 2)
 
 -- a clock that a taken slot has passed
 abbrev torn : Table
-torn = lent (4 ∷ 7 ∷ 0 ∷ []) (3 ∷ 5 ∷ 0 ∷ []) (counted 7 6 2)
+torn = lent (4 ∷ 7 ∷ 0 ∷ []) (3 ∷ 5 ∷ 0 ∷ []) pins (counted 7 6 2)
 
 abbrev first : Owner
 first = Holds (slot 0) (txid 4)
@@ -62,14 +67,14 @@ record Answers : Type 0 where
       ++ bytes "event=horizon\nslot=2\nid=0\nxmin=4\nclock=0\nsample=0\n"
       ++ bytes "event=reserve\nslot=0\nid=12\nxmin=0\nclock=0\nsample=0\n"
       ++ bytes "event=observe\nslot=0\nid=0\nxmin=0\nclock=20\nsample=11\n")
-      ≡ accepted (lent (4 ∷ 0 ∷ 9 ∷ []) (3 ∷ 0 ∷ 4 ∷ []) (counted 20 11 2))
+      ≡ accepted (lent (4 ∷ 0 ∷ 9 ∷ []) (3 ∷ 0 ∷ 4 ∷ []) pins (counted 20 11 2))
   -- the bound of a horizon is the least active id, 4, not the slot's own, 7
   above-the-least :
       answer entry Nobody (bytes "event=horizon\nslot=1\nid=0\nxmin=5\nclock=0\nsample=0\n") ≡ refused entry (Refuse (BadStep 1))
   -- the owner's slot is named, in the second step; the entry table comes back
   owner-named : answer entry first (endOfSlot1 ++ endOfSlot0) ≡ refused entry (Refuse (BadStep 2))
   -- .. which is an end as any other where nobody waits
-  nobody-waits : answer entry Nobody endOfSlot0 ≡ accepted (lent (0 ∷ 7 ∷ 0 ∷ []) (0 ∷ 5 ∷ 0 ∷ []) (counted 8 6 2))
+  nobody-waits : answer entry Nobody endOfSlot0 ≡ accepted (lent (0 ∷ 7 ∷ 0 ∷ []) (0 ∷ 5 ∷ 0 ∷ []) pins (counted 8 6 2))
   -- a slot that the table doesn't have breaks a step
   no-such-slot : answer entry Nobody (bytes "event=end\nslot=3\nid=0\nxmin=0\nclock=0\nsample=0\n") ≡ refused entry (Refuse (BadStep 1))
   -- .. but one above 65,535 breaks the text, at its line
@@ -86,7 +91,7 @@ record Answers : Type 0 where
 answers : Answers
 unfolding
     waitOf verdictOn stepsFrom ended eventTest ruleOf registerRule endRule horizonRule eventChange changeBy passes slotsPass differ
-    listed active minimum readText nameAt firstNamed nameLine foundFrom foundIn itemAt fieldsAt fieldRules limit
+    freePins pinsPass listed active minimum readText nameAt firstNamed nameLine foundFrom foundIn itemAt fieldsAt fieldRules limit
     linesAt fieldAt numberAt numberFrom numberTail starts
 answers = record {
   nothing = refl;

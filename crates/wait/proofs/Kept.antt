@@ -2,13 +2,10 @@
 use Prim.Native.Nat.{ℕ}
 use mathlib.Core.Path.{_≡_, refl, ap}
 use mathlib.Core.Bool.{true, and-eq-true-iff}
-use mathlib.Core.List.{List, [], _∷_}
-use lib.Dec.{eqb}
 use Rattle.kinds.specs.Kinds.{slot, txid, number}
 use Rattle.model.specs.declared.Table.{Table}
 use Rattle.model.specs.declared.Counters.{Counters}
 use Rattle.model.specs.declared.change.SlotChange.the-variants.{Stays, Enters}
-use Rattle.model.specs.Tally.{consUnless, active, retained}
 use Rattle.model.specs.Tables.{lentTxids, clockOf}
 use Rattle.model.specs.Changes.{change}
 use Rattle.changes.proofs.Past.{reserved-past}
@@ -18,12 +15,6 @@ use Rattle.events.specs.declared.Event.{Event}
 use Rattle.wait.specs.declared.Owner.{Owner}
 use Rattle.wait.specs.Steps.{mayName, isEmpty, registerRule, ruleOf, eventTest, changeBy, eventChange, heldBy, heldChange}
 use Rattle.wait.proofs.Steps.{passed-pass}
-
--- the txids of taken slots, read as xmins, are the active ids
-pub retained-self : (txids : List ℕ) → retained txids txids ≡ active txids
-unfolding retained active
-retained-self [] = refl
-retained-self (x ∷ xs) = ap (consUnless (eqb x 0) x) (retained-self xs)
 
 -- a rule reads the txids and the clock
 rule-lent : (k : Kind) (n : ℕ) (t : Table) (owner : Owner) (e : Event)

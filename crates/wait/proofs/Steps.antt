@@ -1,4 +1,4 @@
--- What an event that keeps its rule leaves: a table that passes the check, the owner's slot, and the line.
+-- What an event that keeps its rule leaves: a table that passes the check, the owner's slot, the line, and the pins.
 use Prim.Native.Nat.{ℕ, _≤_}
 use mathlib.Core.Path.{_≡_, refl, sym}
 use mathlib.Core.Logic.{_≢_}
@@ -22,7 +22,7 @@ use Rattle.model.specs.Accepted.{Observes}
 use Rattle.model.specs.Facts.{Good}
 use Rattle.model.proofs.Tally.{minimum-start}
 use Rattle.model.proofs.Tests.{reserves, observes}
-use Rattle.model.proofs.Moves.{is-taken, CountersFit, good-applied}
+use Rattle.model.proofs.Moves.{is-taken, is-held, CountersFit, good-applied}
 use Rattle.events.specs.declared.Kind.{Kind}
 use Rattle.events.specs.declared.Kind.the-variants.{Register, End, Horizon, Reserve, Observe}
 use Rattle.events.specs.declared.Event.{Event}
@@ -46,6 +46,7 @@ module _ (n : ℕ) (t : Table) (g : Good n t) where
         line-from-1 = g .line-from-1;
         line-to-clock = g .line-to-clock;
         under = λ i h. is-taken (g .each i) h .over;
+        under-pin = λ i h. is-held (g .each-pin i) h .over;
       }
 
   counters-past : (m : ℕ) → clockOf t ≤ m → CountersFit t (pastNumber m (t .counters))
@@ -57,6 +58,7 @@ module _ (n : ℕ) (t : Table) (g : Good n t) where
         line-from-1 = g .line-from-1;
         line-to-clock = omega (arith, g .line-to-clock);
         under = λ i h. is-taken (g .each i) h .over;
+        under-pin = λ i h. is-held (g .each-pin i) h .over;
       }
 
   counters-observed : (clock sample : ℕ) → Observes (clockOf t) clock sample → CountersFit t (observed clock sample (t .counters))
@@ -68,6 +70,7 @@ module _ (n : ℕ) (t : Table) (g : Good n t) where
         line-from-1 = g .line-from-1;
         line-to-clock = omega (arith, g .line-to-clock, o .onward);
         under = λ i h. is-taken (g .each i) h .over;
+        under-pin = λ i h. is-held (g .each-pin i) h .over;
       }
 
   -- the facts of the check are kept
@@ -153,3 +156,16 @@ line-by t e Observe = refl
 pub line-stays : (t : Table) (e : Event) → lineOf (eventAfter t e) ≡ lineOf t
 unfolding eventChange
 line-stays t e = line-by t e (e .kind)
+
+-- .. nor a pin
+pins-by : (t : Table) (e : Event) (k : Kind) → applied t (changeBy k t e) .pins ≡ t .pins
+unfolding changeBy
+pins-by t e Register = refl
+pins-by t e End = refl
+pins-by t e Horizon = refl
+pins-by t e Reserve = refl
+pins-by t e Observe = refl
+
+pub pins-stay : (t : Table) (e : Event) → eventAfter t e .pins ≡ t .pins
+unfolding eventChange
+pins-stay t e = pins-by t e (e .kind)

@@ -28,7 +28,7 @@ use Rattle.wait.specs.declared.Owner.{Owner}
 use Rattle.wait.specs.declared.Owner.the-variants.{Holds}
 use Rattle.wait.specs.Steps.{eventTest, eventAfter}
 use Rattle.wait.specs.Waits.{entryTest, holderTest, stepsFrom, ended, verdictOn, answered, onText, waitOf}
-use Rattle.wait.proofs.Steps.{good-event, SlotStays, slot-stays, line-stays}
+use Rattle.wait.proofs.Steps.{good-event, SlotStays, slot-stays, line-stays, pins-stay}
 
 went-on : (b : Bool) (v : Verdict) (r : Refusal) → cond b v (Refuse r) ≡ Pass → (b ≡ true) × (v ≡ Pass)
 went-on true v r e = (refl, e)
@@ -59,6 +59,12 @@ pub line-ended : (t : Table) (es : List Event) → lineOf (ended t es) ≡ lineO
 unfolding ended
 line-ended t [] = refl
 line-ended t (e ∷ es) = line-ended (eventAfter t e) es ∙ line-stays t e
+
+-- .. and the pins
+pub pins-ended : (t : Table) (es : List Event) → ended t es .pins ≡ t .pins
+unfolding ended
+pins-ended t [] = refl
+pins-ended t (e ∷ es) = pins-ended (eventAfter t e) es ∙ pins-stay t e
 
 -- the first bad step is told: those before it keep their rules, it doesn't, and what follows doesn't matter
 pub first-bad : (n : ℕ) (owner : Owner) (t : Table) (step : ℕ) (before : List Event) (e : Event) (later : List Event)

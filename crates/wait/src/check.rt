@@ -12,13 +12,19 @@ ghost use Rattle.model.specs.Tables.{lent};
 ghost use Rattle.wait.specs.Waits.{entryTest, holderTest, waitOf};
 
 // Refusals 21, then 2, 4, 3.
-fn entry_test<'a>(txids: &'a [u64], xmins: &'a [u64], counters: Counters, owner: Owner) -> Verdict
+fn entry_test<'a>(
+    txids: &'a [u64],
+    xmins: &'a [u64],
+    pins: &'a [u64],
+    counters: Counters,
+    owner: Owner,
+) -> Verdict
     ensures { λ r. do
       n ← ⟦kinds::SLOTS⟧ .entry
-      ⌜ r ≡ then (entryTest n (lent (now (txids .entry)) (now (xmins .entry)) counters))
-          (holderTest n (lent (now (txids .entry)) (now (xmins .entry)) counters) owner) ⌝ }
+      ⌜ r ≡ then (entryTest n (lent (now (txids .entry)) (now (xmins .entry)) (now (pins .entry)) counters))
+          (holderTest n (lent (now (txids .entry)) (now (xmins .entry)) (now (pins .entry)) counters) owner) ⌝ }
 {
-    if table_check::check_columns(txids, xmins, counters) {
+    if table_check::check_columns(txids, xmins, pins, counters) {
         return match owner {
             Owner::Nobody => Verdict::Pass,
             Owner::Holds { slot, id } => verdicts::owner_test(txids, slot, id),
@@ -40,7 +46,13 @@ pub fn check_wait(table: Table, owner: Owner, s: &[u8]) -> WaitAnswer
         },
         Reading::Whole(_) => {
             let counters = table.counters;
-            let entry = entry_test(&table.txids, &table.snapshot_xmins, counters, owner);
+            let entry = entry_test(
+                &table.txids,
+                &table.snapshot_xmins,
+                &table.pins,
+                counters,
+                owner,
+            );
             match entry {
                 Verdict::Refuse(r) => WaitAnswer {
                     table,

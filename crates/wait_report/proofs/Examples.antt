@@ -1,12 +1,12 @@
--- Reports, computed, on a table of two slots of which slot 0 holds 4.
-use Prim.Native.Nat.{ℕ}
+-- Reports, computed, on a table of two slots of which slot 0 holds 4, and pin 0 holds 2.
+use Prim.Native.Nat.{ℕ, zero, suc}
 use mathlib.Core.Path.{_≡_, refl}
 use mathlib.Core.List.{List, [], _∷_, _++_}
-use Rattle.kinds.specs.Kinds.{slot, txid}
+use Rattle.kinds.specs.Kinds.{slot, txid, freePins}
 use Rattle.kinds.specs.Refusals.{told}
 use Rattle.settled.specs.Settled.{listed}
 use Rattle.model.specs.Tally.{active, minimum}
-use Rattle.model.specs.Check.{slotsPass, differ, passes}
+use Rattle.model.specs.Check.{slotsPass, differ, pinsPass, passes}
 use Rattle.text.specs.Decimal.{decimalIn, decimal, numberText, numberTail, numberFrom, numberAt}
 use Rattle.text.specs.Bytes.{bytes, starts}
 use Rattle.text.specs.Line.{lineText, lineTexts, joined, fieldAt, linesAt}
@@ -15,14 +15,23 @@ use Rattle.grammar.specs.Names.{nameLine, firstNamed, nameAt}
 use Rattle.grammar.specs.Items.{foundIn, foundFrom}
 use Rattle.grammar.specs.Named.{itemAt}
 use Rattle.grammar.specs.Texts.{readText}
-use Rattle.table_text.specs.TableText.{tableRules, numbersOf, linesUnder, tableText, tableFrom, brokenAt, tableOf}
+use Rattle.table_text.specs.TableText.{pinRules, tableRules, pinNumbers, numbersOf, linesUnder, tableText, tableFrom, brokenAt}
+use Rattle.table_text.specs.TableText.{tableOf}
 use Rattle.wait.specs.declared.Owner.the-variants.{Nobody, Holds}
 use Rattle.wait.specs.Steps.{registerRule, endRule, horizonRule, ruleOf, eventTest, changeBy, eventChange}
 use Rattle.wait.specs.Waits.{stepsFrom, ended, verdictOn, waitOf}
 use Rattle.wait_report.specs.Report.{verdictLines, answerText, onTable, reportOf}
 
+abbrev free : ℕ → List ℕ
+free zero = []
+free (suc n) = bytes "pin=0\n" ++ free n
+
+-- the text of a table by its slots and its counters
+abbrev pinned : List ℕ → List ℕ → List ℕ
+pinned slots counters = bytes "table=proc-1\n" ++ slots ++ bytes "pin=2\n" ++ free 63 ++ counters
+
 abbrev entry : List ℕ
-entry = bytes "table=proc-1\ntxid=4\nxmin=3\ntxid=0\nxmin=0\nclock=9\nsample=6\nline=2\n"
+entry = pinned (bytes "txid=4\nxmin=3\ntxid=0\nxmin=0\n") (bytes "clock=9\nsample=6\nline=2\n")
 
 abbrev register : List ℕ
 register = bytes "wait=proc-1\nevent=register\nslot=1\nid=9\nxmin=0\nclock=0\nsample=0\n"
@@ -34,12 +43,12 @@ record Reports : Type 0 where
   -- the table at the end
   accepted : reportOf 2 entry (Holds (slot 0) (txid 4)) register
       ≡ bytes "answer=0\nslot=0\nid=0\nseen=0\nat=0\n"
-      ++ bytes "table=proc-1\ntxid=4\nxmin=3\ntxid=9\nxmin=9\nclock=10\nsample=6\nline=2\n"
+      ++ pinned (bytes "txid=4\nxmin=3\ntxid=9\nxmin=9\n") (bytes "clock=10\nsample=6\nline=2\n")
   -- the entry table: event 1 ends the owner's slot; nobody's may go
   refused : reportOf 2 entry (Holds (slot 0) (txid 4)) end ≡ bytes "answer=22\nslot=0\nid=0\nseen=0\nat=1\n" ++ entry
   nobody : reportOf 2 entry Nobody end
       ≡ bytes "answer=0\nslot=0\nid=0\nseen=0\nat=0\n"
-      ++ bytes "table=proc-1\ntxid=0\nxmin=0\ntxid=0\nxmin=0\nclock=9\nsample=6\nline=2\n"
+      ++ pinned (bytes "txid=0\nxmin=0\ntxid=0\nxmin=0\n") (bytes "clock=9\nsample=6\nline=2\n")
   -- another owner than the slot's
   mismatch : reportOf 2 entry (Holds (slot 0) (txid 5)) register ≡ bytes "answer=3\nslot=0\nid=5\nseen=4\nat=0\n" ++ entry
   -- the wait's text breaks a rule: its line, and the entry table
@@ -49,9 +58,9 @@ record Reports : Type 0 where
 
 reports : Reports
 unfolding
-    reportOf onTable answerText verdictLines tableText linesUnder tableRules numbersOf lineTexts joined lineText numberText
-    decimal decimalIn tableOf tableFrom brokenAt told
+    freePins pinRules pinNumbers reportOf onTable answerText verdictLines tableText linesUnder tableRules numbersOf lineTexts joined
+    lineText numberText decimal decimalIn tableOf tableFrom brokenAt told
     waitOf verdictOn stepsFrom ended eventTest ruleOf registerRule endRule horizonRule eventChange changeBy passes slotsPass differ
-    listed active minimum readText nameAt firstNamed nameLine foundFrom foundIn itemAt fieldsAt fieldRules limit
+    pinsPass listed active minimum readText nameAt firstNamed nameLine foundFrom foundIn itemAt fieldsAt fieldRules limit
     linesAt fieldAt numberAt numberFrom numberTail starts
 reports = record { accepted = refl; refused = refl; nobody = refl; mismatch = refl; no-wait = refl; no-table = refl }

@@ -7,7 +7,7 @@ use crate::trace::{self, LIMIT, Op, Version};
 const KEYS: [&str; 6] = ["op", "slot", "id", "stamp", "clock", "sample"];
 
 /// Headers that are not known, as good as they look.
-const OTHER_HEADERS: [&str; 3] = ["trace=proc-0", "trace=proc-3", "trace=proc-12"];
+const OTHER_HEADERS: [&str; 3] = ["trace=proc-0", "trace=proc-4", "trace=proc-12"];
 
 /// How a line looks, and the test for it.
 pub type Look = (&'static str, fn(&[u8]) -> bool);
@@ -44,6 +44,9 @@ pub fn required() -> Vec<String> {
     .into();
     for version in Version::ALL {
         cells.push(format!("text: {}, accepted", version.header()));
+        for op in Op::ALL.into_iter().filter(|op| !version.allows(*op)) {
+            cells.push(no_such_op(version, op));
+        }
     }
     for header in OTHER_HEADERS {
         cells.push(format!("text: {header}, refused"));
@@ -67,6 +70,11 @@ pub fn required() -> Vec<String> {
         }
     }
     cells
+}
+
+/// The cell of a text that has an op of a later version.
+fn no_such_op(version: Version, op: Op) -> String {
+    format!("text: {}, refused at {}", version.header(), op.name())
 }
 
 pub fn count(text: &[u8], coverage: &mut Coverage) {
@@ -115,8 +123,20 @@ fn count_broken(text: &[u8], number: usize, coverage: &mut Coverage) {
         coverage.hit(&format!("text: unterminated {key}"));
     } else if key == "op" {
         coverage.hit_if(line.starts_with(b"op="), "text: unknown op");
+        count_later_op(lines[0], line, coverage);
     } else {
         count_field(lines[number - 1 - place], key, line, coverage);
+    }
+}
+
+/// An op that only a later version has, after one of the first lines.
+fn count_later_op(header: &[u8], line: &[u8], coverage: &mut Coverage) {
+    for version in Version::ALL {
+        let headed = header == format!("{}\n", version.header()).as_bytes();
+        for op in Op::ALL.into_iter().filter(|op| !version.allows(*op)) {
+            let named = line == format!("op={}\n", op.name()).as_bytes();
+            coverage.hit_if(headed && named, &no_such_op(version, op));
+        }
     }
 }
 
@@ -141,11 +161,8 @@ fn count_field(op_line: &[u8], key: &str, line: &[u8], coverage: &mut Coverage) 
 }
 
 fn reads(op: Op, key: &str) -> bool {
-    match key {
-        "slot" | "id" => op.reads_registration(),
-        "stamp" => op.reads_stamp(),
-        _ => op.reads_clock(),
-    }
+    let mut fields = KEYS[1..].iter().zip(op.reads());
+    fields.any(|(each, reads)| *each == key && reads)
 }
 
 fn contains(line: &[u8], part: &[u8]) -> bool {

@@ -4,15 +4,16 @@ use crate::damage_lines::at_a_line;
 use crate::random::Random;
 use crate::table::SLOTS;
 use crate::text::{HEADER_LENGTH, lines};
-use crate::trace::Op;
+use crate::trace::{Op, Version};
 
 pub fn other_header(text: &mut Vec<u8>, random: &mut Random) {
     // One named twice comes twice as often.
-    let headers: [&[u8]; 16] = [
-        b"trace=proc-3\n",
-        b"trace=proc-3\n",
-        b"trace=proc-0\n",
+    let headers: [&[u8]; 17] = [
         b"trace=proc-4\n",
+        b"trace=proc-4\n",
+        b"trace=proc-4\n",
+        b"trace=proc-0\n",
+        b"trace=proc-13\n",
         b"trace=proc-0\n",
         b"trace=proc-01\n",
         b"trace=proc-12\n",
@@ -28,6 +29,14 @@ pub fn other_header(text: &mut Vec<u8>, random: &mut Random) {
     ];
     if text.starts_with(b"trace=proc-") && text.len() >= HEADER_LENGTH {
         text.splice(..HEADER_LENGTH, random.pick(&headers).iter().copied());
+    }
+}
+
+/// Another of the headers that are known: pins are no ops of the earlier ones.
+pub fn known_header(text: &mut Vec<u8>, random: &mut Random) {
+    if text.starts_with(b"trace=proc-") && text.len() >= HEADER_LENGTH {
+        let header = random.pick(&Version::ALL).header();
+        text.splice(..HEADER_LENGTH - 1, header.bytes());
     }
 }
 
@@ -58,10 +67,18 @@ fn at_an_op(text: &mut Vec<u8>, random: &mut Random, line: &[u8]) {
     }
 }
 
+/// An op that only the latest version has.
+pub fn pin_op(text: &mut Vec<u8>, random: &mut Random) {
+    let ops: [&[u8]; 2] = [b"op=pin\n", b"op=unpin\n"];
+    let op = random.pick(&ops);
+    at_an_op(text, random, op);
+}
+
 pub fn unknown_op(text: &mut Vec<u8>, random: &mut Random) {
-    let ops: [&[u8]; 14] = [
-        b"op=pin\n",
-        b"op=unpin\n",
+    let ops: [&[u8]; 15] = [
+        b"op=pins\n",
+        b"op=unpi\n",
+        b"op=Pin\n",
         b"op=commit\n",
         b"op=\n",
         b"op=begi\n",
@@ -113,8 +130,8 @@ pub fn spoil_number(text: &mut Vec<u8>, random: &mut Random) {
 
 /// Makes a number's text something else.
 pub fn spoiler(random: &mut Random) -> impl FnOnce(&[u8]) -> Vec<u8> + use<> {
-    let befores: [&[u8]; 8] = [b"+", b"-", b"0", b"00", b" ", b"\t", b"0x", b"="];
     // One named twice comes twice as often.
+    let befores: [&[u8]; 9] = [b"+", b"+", b"-", b"0", b"00", b" ", b"\t", b"0x", b"="];
     let afters: [&[u8]; 13] = [
         b" ", b"\t", b"\r", b".0", b"e1", b"_0", b"\0", b"\0", b"\xb2", b",000", b"x", b"=", b";",
     ];
@@ -180,7 +197,6 @@ pub fn unread_field(text: Vec<u8>, random: &mut Random) -> Vec<u8> {
 
 /// The places, from 1, of the fields that the op doesn't read.
 fn unread_places(op: Op) -> Vec<usize> {
-    let (registration, clock) = (op.reads_registration(), op.reads_clock());
-    let reads = [registration, registration, op.reads_stamp(), clock, clock];
+    let reads = op.reads();
     (1..=5).filter(|place| !reads[place - 1]).collect()
 }

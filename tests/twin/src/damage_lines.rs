@@ -105,7 +105,7 @@ pub fn drop_last_newline(text: &mut Vec<u8>, _: &mut Random) {
 }
 
 pub fn lone_text(text: &mut Vec<u8>, random: &mut Random) {
-    let texts: [&[u8]; 7] = [
+    let texts: [&[u8]; 8] = [
         b"",
         b"\n",
         b"\n\n",
@@ -113,6 +113,7 @@ pub fn lone_text(text: &mut Vec<u8>, random: &mut Random) {
         b"trace=",
         b"trace=proc-1\n",
         b"trace=proc-2\n",
+        b"trace=proc-3\n",
     ];
     *text = random.pick(&texts).to_vec();
 }

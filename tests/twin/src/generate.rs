@@ -5,7 +5,7 @@ use crate::damage_fields;
 use crate::history::{History, Stride};
 use crate::random::Random;
 use crate::sized;
-use crate::table::{SLOTS, Table};
+use crate::table::{PINS, SLOTS, Table};
 use crate::trace::{Op, Version};
 
 /// What is done to the table before the mixed records.
@@ -18,6 +18,10 @@ enum Start {
     Full(u64),
     /// All slots filled and all numbers used up, but for this many at most.
     FullAndUsedUp(u64),
+    /// Some slots filled, and all pins, but for this many at most.
+    Pinned(u64),
+    /// Some slots filled, and of the pins the last ones, this many at most.
+    LastPinned(u64),
 }
 
 struct Profile {
@@ -39,6 +43,8 @@ const REGISTERING: &[Op] = &[
     Op::Snap,
     Op::Own,
     Op::Vacuum,
+    Op::Pin,
+    Op::Unpin,
 ];
 
 const OBSERVING: &[Op] = &[
@@ -52,6 +58,25 @@ const OBSERVING: &[Op] = &[
     Op::Oldest,
     Op::Vacuum,
     Op::Vacuum,
+    Op::Pin,
+    Op::Pin,
+    Op::Unpin,
+];
+
+const PINNING: &[Op] = &[
+    Op::Begin,
+    Op::End,
+    Op::Own,
+    Op::Snap,
+    Op::Oldest,
+    Op::Oldest,
+    Op::Vacuum,
+    Op::Vacuum,
+    Op::Pin,
+    Op::Pin,
+    Op::Pin,
+    Op::Unpin,
+    Op::Unpin,
 ];
 
 const PROFILES: &[Profile] = &[
@@ -69,6 +94,16 @@ const FULL: &[Profile] = &[
 ];
 
 const FULL_ONCE_IN: u64 = 10;
+
+/// These are for traces that have pins.
+const PINS_HELD: &[Profile] = &[
+    profile(Start::Pinned(2), Stride::Short, PINNING, 12, 60),
+    profile(Start::Pinned(2), Stride::Wide, PINNING, 3, 60),
+    profile(Start::Pinned(64), Stride::Short, PINNING, 30, 120),
+    profile(Start::LastPinned(2), Stride::Short, PINNING, 30, 30),
+    profile(Start::Fresh, Stride::Short, PINNING, 20, 120),
+    profile(Start::Some, Stride::Last, PINNING, 12, 60),
+];
 
 const fn profile(
     start: Start,
@@ -93,7 +128,7 @@ pub fn generate(seed: u64) -> Vec<u8> {
     let version = random.pick(&Version::ALL);
     match random.below(20) {
         0..=9 => {
-            let profile = any_profile(&mut random);
+            let profile = any_profile(version, &mut random);
             history(version, profile, random, jumps).text()
         }
         10..=15 => {
@@ -108,18 +143,22 @@ pub fn generate(seed: u64) -> Vec<u8> {
     }
 }
 
-/// A table that calls have led to, of some profile; the version of their trace says nothing about it.
+/// A table that calls have led to, of some profile.
 pub fn table(random: &mut Random) -> Table {
-    let profile = any_profile(random);
+    let version = Version::Proc3;
+    let profile = any_profile(version, random);
     let jumps = random.place(2) == 1;
     let own = Random::new(random.draw());
-    let history = history(Version::Proc1, profile, own, jumps);
+    let history = history(version, profile, own, jumps);
     history.table().clone()
 }
 
-fn any_profile(random: &mut Random) -> &'static Profile {
+fn any_profile(version: Version, random: &mut Random) -> &'static Profile {
+    let pins = version.allows(Op::Pin);
     let profiles = if random.once_in(FULL_ONCE_IN) {
         FULL
+    } else if pins && random.once_in(2) {
+        PINS_HELD
     } else {
         PROFILES
     };
@@ -131,7 +170,7 @@ fn history(version: Version, profile: &Profile, random: Random, jumps: bool) -> 
     start(&mut history, profile.start);
     let records = history.random.between(1, profile.most_records);
     for _ in 0..records {
-        let op = history.random.pick(profile.ops);
+        let op = history.op(profile.ops);
         let faults = history.faults(profile.faults);
         let record = history.record(op, faults);
         history.push(record);
@@ -155,6 +194,19 @@ fn start(history: &mut History, start: Start) {
             let left = history.random.below(left + 1);
             history.use_up(left);
         }
+        Start::Pinned(room) => {
+            let slots = history.random.place(6);
+            history.fill(slots);
+            let free = history.random.below(room + 1) as usize;
+            history.fill_pins(PINS - free);
+        }
+        Start::LastPinned(most) => {
+            let slots = history.random.place(3);
+            history.fill(slots);
+            history.fill_pins(PINS);
+            let held = history.random.between(1, most) as usize;
+            history.release_pins(PINS - held);
+        }
     }
 }
 
@@ -168,7 +220,7 @@ fn small_history(version: Version, random: &mut Random, jumps: bool) -> History 
         random.between(1, 4)
     };
     for _ in 0..records {
-        let op = history.random.pick(&Op::ALL);
+        let op = history.op(&Op::ALL);
         let faults = history.faults(8);
         let record = history.record(op, faults);
         history.push(record);

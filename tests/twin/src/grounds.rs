@@ -1,6 +1,6 @@
 //! The grounds of each refusal taken one by one, and the order that decides among them.
 
-use crate::table::{FARTHEST, SLOTS, Table};
+use crate::table::{FARTHEST, PINS, SLOTS, Table};
 use crate::trace::{Op, Record};
 
 /// The order of checks of each op, as SPEC 3.2 lists it.
@@ -12,6 +12,8 @@ pub fn order(op: Op) -> &'static [u8] {
         Op::Snap | Op::Oldest | Op::Vacuum => &[7, 8],
         Op::Stamp => &[5, 6, 13],
         Op::Finish => &[2, 4, 3, 5, 6, 13],
+        Op::Pin => &[7, 8, 14],
+        Op::Unpin => &[15, 16],
     }
 }
 
@@ -47,6 +49,10 @@ fn holds(number: u8, table: &Table, record: &Record) -> bool {
         7 => record.clock < table.clock(),
         8 => !(1..=record.clock).contains(&record.sample),
         13 => u128::from(record.stamp) > u128::from(table.clock()) + u128::from(FARTHEST),
+        14 => table.pins().iter().all(|xmin| *xmin != 0),
+        15 => slot >= PINS,
+        // A pin outside the table holds nothing.
+        16 => table.pins().get(slot).is_none_or(|xmin| *xmin == 0),
         _ => unreachable!("no op gives refusal {number}"),
     }
 }

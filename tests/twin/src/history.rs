@@ -2,7 +2,7 @@
 
 use crate::random::Random;
 use crate::replay;
-use crate::table::{FARTHEST, SLOTS, Table};
+use crate::table::{FARTHEST, FIRST_PIN, PINS, SLOTS, Table};
 use crate::text;
 use crate::trace::{LIMIT, Op, Record, Version};
 
@@ -20,8 +20,10 @@ pub enum Stride {
 /// Which refusals a record should have a ground for; several may hold at once.
 #[derive(Clone, Copy, Debug, Default)]
 pub struct Faults {
+    /// A slot or a pin that no table has.
     pub slot: bool,
     pub zero_id: bool,
+    /// An id that the slot doesn't hold, or a pin that is free.
     pub other_id: bool,
     pub number: bool,
     pub far: bool,
@@ -83,6 +85,41 @@ impl History {
         }
     }
 
+    /// Takes `count` pins: with good samples, so that the line may rise; or with any, and slots and vacuums between them.
+    pub fn fill_pins(&mut self, count: usize) {
+        let mixed = self.random.once_in(2);
+        for _ in 0..count {
+            if mixed && self.random.once_in(3) {
+                let between = [Op::Begin, Op::Vacuum, Op::End, Op::Own, Op::Stamp];
+                let op = self.random.pick(&between);
+                let record = self.record(op, Faults::default());
+                self.push(record);
+            }
+            let mut record = self.record(Op::Pin, Faults::default());
+            if !mixed {
+                record.sample = record.clock;
+            }
+            self.push(record);
+        }
+    }
+
+    /// Releases the pins from 0 on, this many of them.
+    pub fn release_pins(&mut self, count: usize) {
+        for pin in 0..count as u16 {
+            self.push(Record {
+                slot: pin,
+                ..plain(Op::Unpin)
+            });
+        }
+    }
+
+    /// One of these ops that the version allows.
+    pub fn op(&mut self, ops: &[Op]) -> Op {
+        let mut allowed = ops.to_vec();
+        allowed.retain(|op| self.version.allows(*op));
+        self.random.pick(&allowed)
+    }
+
     /// Leaves `left` numbers (or none) to be reserved. An observation takes the clock there: no reservation could.
     pub fn use_up(&mut self, left: u64) {
         let clock = (u64::MAX - left).max(self.table.clock());
@@ -107,6 +144,8 @@ impl History {
         let mut record = plain(op);
         if op.reads_registration() {
             (record.slot, record.id) = self.registration(faults);
+        } else if op.reads_slot() {
+            record.slot = self.pin(faults);
         }
         if op.reads_stamp() {
             record.stamp = if faults.number {
@@ -175,6 +214,38 @@ impl History {
             3 => (size * self.random.between(1, 65_535 / SLOTS as u64) as u16) | slot,
             _ => self.random.between(SLOTS as u64, 65_535) as u16,
         }
+    }
+
+    /// A pin that is taken, where there is one.
+    fn pin(&mut self, faults: Faults) -> u16 {
+        let taken = !faults.other_id;
+        let pins = (0..).zip(self.table.pins());
+        let places: Vec<u16> = pins
+            .filter(|(_, xmin)| (**xmin != 0) == taken)
+            .map(|(pin, _)| pin)
+            .collect();
+        let pin = match (places.first(), places.last()) {
+            (Some(first), Some(last)) => {
+                let any = self.random.pick(&places);
+                self.random.pick(&[*first, *last, any, any])
+            }
+            _ => self.random.below(PINS as u64) as u16,
+        };
+        if faults.slot {
+            self.pin_outside(pin)
+        } else {
+            pin
+        }
+    }
+
+    /// A pin outside the table: one that ends in the same bits, one that is a slot's number, one as a holder is printed.
+    fn pin_outside(&mut self, pin: u16) -> u16 {
+        let size = PINS as u16;
+        let slot = self.random.between(PINS as u64, SLOTS as u64 - 1) as u16;
+        let any = self.random.between(PINS as u64, 65_535) as u16;
+        let printed = FIRST_PIN as u16 + pin;
+        let outside = [size, u16::MAX, size + pin, slot, printed, any];
+        self.random.pick(&outside)
     }
 
     fn next_number(&mut self) -> u64 {
@@ -254,9 +325,16 @@ impl History {
         near.clamp(1, given.max(1))
     }
 
+    /// The xmin of some slot or of some pin.
     fn kept_xmin(&mut self) -> u64 {
-        let place = self.random.place(SLOTS);
-        self.table.slots()[place].snapshot_xmin
+        let (slot, pin) = (self.random.place(SLOTS), self.random.place(PINS));
+        let of_slot = self.table.slots()[slot].snapshot_xmin;
+        let of_pin = self.table.pins()[pin];
+        if of_pin != 0 && self.random.once_in(2) {
+            of_pin
+        } else {
+            of_slot
+        }
     }
 }
 

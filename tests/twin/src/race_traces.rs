@@ -2,9 +2,9 @@
 
 use crate::history::{History, Stride, plain};
 use crate::random::Random;
-use crate::table::SLOTS;
+use crate::table::{PINS, SLOTS};
 use crate::text;
-use crate::trace::Version::{self, Proc1, Proc2};
+use crate::trace::Version::{self, Proc1, Proc2, Proc3};
 use crate::trace::{Op, Record};
 
 pub struct RaceTrace {
@@ -23,6 +23,7 @@ pub fn all() -> Vec<RaceTrace> {
         named("begin and end", until_full(Proc1, 0, begin_and_end)),
         named("all ops", until_full(Proc1, 0, any_op)),
         named("all ops, proc-2", until_full(Proc2, 0, any_op)),
+        named("all ops, proc-3", until_full(Proc3, 0, any_op)),
         named("all ops, wide", wide()),
         named("begins refused", until_full(Proc1, SLOTS, begin_again)),
         named("snapshots of 16", until_full(Proc1, 16, snapshots)),
@@ -35,6 +36,7 @@ pub fn all() -> Vec<RaceTrace> {
             "oldest, vacuum, proc-2",
             until_full(Proc2, SLOTS / 2, oldest_and_vacuum),
         ),
+        named("pins", until_full(Proc3, 16, pinned)),
         named("unreadable at end", unreadable()),
     ]
 }
@@ -72,7 +74,7 @@ fn begin_and_end(history: &mut History, place: usize) -> Record {
 }
 
 fn any_op(history: &mut History, _: usize) -> Record {
-    let op = history.random.pick(&Op::ALL);
+    let op = history.op(&Op::ALL);
     let faults = history.faults(20);
     history.record(op, faults)
 }
@@ -94,6 +96,17 @@ fn snapshots(history: &mut History, place: usize) -> Record {
 
 fn oldest_and_vacuum(history: &mut History, place: usize) -> Record {
     let op = [Op::Oldest, Op::Vacuum][place % 2];
+    accepted(history, op)
+}
+
+/// Pins are taken until none is free, and then released and taken in turn; after each eight comes a vacuum.
+fn pinned(history: &mut History, place: usize) -> Record {
+    let (round, turn) = (place / 9, place % 9);
+    let op = match turn {
+        8 => Op::Vacuum,
+        _ if round < PINS / 8 => Op::Pin,
+        _ => [Op::Unpin, Op::Pin][turn % 2],
+    };
     accepted(history, op)
 }
 

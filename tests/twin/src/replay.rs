@@ -66,6 +66,12 @@ fn accepted(table: &mut Table, record: &Record) -> Result<Answer, Refusal> {
         Op::Vacuum => answer.holder = table.vacuum(clock, sample)?,
         Op::Stamp => answer.id = table.stamp(stamp)?,
         Op::Finish => answer.id = table.finish(slot, id, stamp)?,
+        Op::Pin => {
+            let (pin, snapshot) = table.pin(clock, sample)?;
+            answer.slot = pin as u64;
+            answer.show(snapshot);
+        }
+        Op::Unpin => table.unpin(slot)?,
     }
     Ok(answer)
 }
@@ -78,6 +84,7 @@ fn refused(refusal: Refusal) -> Answer {
     match refusal {
         Refusal::NoFreeSlot { txid } => answer.id = txid,
         Refusal::InvalidSlot { slot } => answer.slot = slot.into(),
+        Refusal::InvalidPin { pin } | Refusal::FreePin { pin } => answer.slot = pin.into(),
         Refusal::SlotOwnershipMismatch {
             slot,
             expected,

@@ -6,7 +6,7 @@ use crate::random::Random;
 use crate::text;
 use crate::trace::{LIMIT, Op, Record, Version};
 
-/// Length of the shortest record: own with every number 0.
+/// Length of the shortest record: one of an op of three letters, with every number 0.
 const SHORTEST: usize = 44;
 
 pub fn long_text(version: Version, random: &mut Random, jumps: bool) -> Vec<u8> {
@@ -16,7 +16,7 @@ pub fn long_text(version: Version, random: &mut Random, jumps: bool) -> Vec<u8> 
         1 | 2 => limit + 1,
         3 => random.between(limit - 3, limit + 3),
         4 => random.between(limit + 1, 300_000),
-        5 => return short_records(version, 1_489 - random.below(2)),
+        5 => return short_records(version, random),
         6 => return vec![random.pick(GARBAGE); LIMIT + random.place(2)],
         _ => return spoilt(version, random, jumps),
     };
@@ -40,8 +40,12 @@ fn spoilt(version: Version, random: &mut Random, jumps: bool) -> Vec<u8> {
     text
 }
 
-fn short_records(version: Version, count: u64) -> Vec<u8> {
-    text::of_records(version, &vec![plain(Op::Own); count as usize])
+/// As many records as a text can have, or one less.
+fn short_records(version: Version, random: &mut Random) -> Vec<u8> {
+    let count = 1_489 - random.place(2);
+    let mut ops = vec![Op::Own, Op::End, Op::Pin];
+    ops.retain(|op| version.allows(*op));
+    text::of_records(version, &vec![plain(random.pick(&ops)); count])
 }
 
 /// A text with good grammar of exactly `length` bytes.
@@ -49,7 +53,7 @@ fn padded(version: Version, random: &mut Random, jumps: bool, length: usize) -> 
     let own = Random::new(random.draw());
     let mut history = History::new(version, own, Stride::Wide, jumps);
     for _ in 0..random.below(200) {
-        let op = history.random.pick(&Op::ALL);
+        let op = history.op(&Op::ALL);
         let faults = history.faults(6);
         let record = history.record(op, faults);
         history.push(record);

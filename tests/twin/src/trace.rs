@@ -3,21 +3,23 @@
 /// The longest input that is read.
 pub const LIMIT: usize = 65_536;
 
-/// What the first line says: which lines a record prints.
+/// What the first line says: which ops there are, and which lines a record prints.
 #[derive(Clone, Copy, Debug, PartialEq, Eq)]
 pub enum Version {
     Proc1,
     Proc2,
+    Proc3,
 }
 
 impl Version {
-    pub const ALL: [Version; 2] = [Version::Proc1, Version::Proc2];
+    pub const ALL: [Version; 3] = [Version::Proc1, Version::Proc2, Version::Proc3];
 
     /// The first line, without its newline.
     pub fn header(self) -> &'static str {
         match self {
             Version::Proc1 => "trace=proc-1",
             Version::Proc2 => "trace=proc-2",
+            Version::Proc3 => "trace=proc-3",
         }
     }
 
@@ -29,7 +31,12 @@ impl Version {
 
     /// Whether records print a ninth line, `holder`.
     pub fn prints_holder(self) -> bool {
-        self == Version::Proc2
+        matches!(self, Version::Proc2 | Version::Proc3)
+    }
+
+    /// Whether a trace with this first line may have the op.
+    pub fn allows(self, op: Op) -> bool {
+        self == Version::Proc3 || !matches!(op, Op::Pin | Op::Unpin)
     }
 }
 
@@ -43,10 +50,12 @@ pub enum Op {
     Vacuum,
     Stamp,
     Finish,
+    Pin,
+    Unpin,
 }
 
 impl Op {
-    pub const ALL: [Op; 8] = [
+    pub const ALL: [Op; 10] = [
         Op::Begin,
         Op::End,
         Op::Snap,
@@ -55,6 +64,8 @@ impl Op {
         Op::Vacuum,
         Op::Stamp,
         Op::Finish,
+        Op::Pin,
+        Op::Unpin,
     ];
 
     pub fn name(self) -> &'static str {
@@ -67,6 +78,8 @@ impl Op {
             Op::Vacuum => "vacuum",
             Op::Stamp => "stamp",
             Op::Finish => "finish",
+            Op::Pin => "pin",
+            Op::Unpin => "unpin",
         }
     }
 
@@ -74,9 +87,14 @@ impl Op {
         Op::ALL.into_iter().find(|op| op.name().as_bytes() == name)
     }
 
-    /// Whether the op reads `slot` and `id`.
+    /// Whether the op reads `slot` and `id` as a registration.
     pub fn reads_registration(self) -> bool {
         matches!(self, Op::End | Op::Own | Op::Finish)
+    }
+
+    /// Whether the op reads `slot`: a registration's, or a pin's number.
+    pub fn reads_slot(self) -> bool {
+        self.reads_registration() || self == Op::Unpin
     }
 
     /// Whether the op reads `stamp`.
@@ -86,7 +104,19 @@ impl Op {
 
     /// Whether the op reads `clock` and `sample`.
     pub fn reads_clock(self) -> bool {
-        matches!(self, Op::Snap | Op::Own | Op::Oldest | Op::Vacuum)
+        matches!(self, Op::Snap | Op::Own | Op::Oldest | Op::Vacuum | Op::Pin)
+    }
+
+    /// Whether the op reads slot, id, stamp, clock and sample.
+    pub fn reads(self) -> [bool; 5] {
+        let clock = self.reads_clock();
+        [
+            self.reads_slot(),
+            self.reads_registration(),
+            self.reads_stamp(),
+            clock,
+            clock,
+        ]
     }
 }
 
@@ -120,15 +150,16 @@ pub fn read(input: &[u8]) -> Result<Trace, BadTrace> {
     let version = Version::from_header(lines.line()?).ok_or(lines.broken())?;
     let mut records = Vec::new();
     while !lines.is_empty() {
-        records.push(read_record(&mut lines)?);
+        records.push(read_record(version, &mut lines)?);
     }
     Ok(Trace { version, records })
 }
 
-fn read_record(lines: &mut Lines) -> Result<Record, BadTrace> {
+fn read_record(version: Version, lines: &mut Lines) -> Result<Record, BadTrace> {
     let name = lines.value(b"op=")?;
-    let op = Op::from_name(name).ok_or(lines.broken())?;
-    let slot = lines.field(b"slot=", u16::MAX.into(), op.reads_registration())?;
+    let op = Op::from_name(name).filter(|op| version.allows(*op));
+    let op = op.ok_or(lines.broken())?;
+    let slot = lines.field(b"slot=", u16::MAX.into(), op.reads_slot())?;
     Ok(Record {
         op,
         slot: slot as u16,

@@ -11,27 +11,19 @@ pub const ROOM: usize = 65_600;
 /// The most rows that the program under test takes.
 pub const MOST: usize = 1_600;
 
-/// The op that a number names: 1 to 8.
-fn op_of(number: u64) -> Option<Op> {
-    Op::ALL
-        .into_iter()
-        .zip(1..)
-        .find(|&(_, n)| n == number)
-        .map(|(op, _)| op)
+/// The op that a number names: 1 to 8, and under the latest header 9 and 10.
+fn op_of(version: Version, number: u64) -> Option<Op> {
+    let mut numbered = Op::ALL.into_iter().zip(1..);
+    let named = numbered.find(|&(_, n)| n == number);
+    named.map(|(op, _)| op).filter(|op| version.allows(*op))
 }
 
-/// The six lines of a row, or none where no text can express it.
-fn record_text(row: &Row) -> Option<String> {
+/// The six lines of a row, or none where no text with this header can express it.
+fn record_text(version: Version, row: &Row) -> Option<String> {
     let [op, slot, id, stamp, clock, sample] = *row;
-    let op = op_of(op)?;
-    let unread = |reads: bool, number: u64| !reads && number != 0;
-    if slot > 65_535
-        || unread(op.reads_registration(), slot)
-        || unread(op.reads_registration(), id)
-        || unread(op.reads_stamp(), stamp)
-        || unread(op.reads_clock(), clock)
-        || unread(op.reads_clock(), sample)
-    {
+    let op = op_of(version, op)?;
+    let mut fields = op.reads().into_iter().zip(&row[1..]);
+    if slot > 65_535 || fields.any(|(reads, number)| !reads && *number != 0) {
         return None;
     }
     let name = op.name();
@@ -42,7 +34,8 @@ fn record_text(row: &Row) -> Option<String> {
 
 /// The text of a run of rows for a buffer of `size` bytes, or the number of its refusal.
 pub fn write(version: Version, rows: &[Row], size: usize) -> Result<String, u64> {
-    let records: Option<Vec<String>> = rows.iter().map(record_text).collect();
+    let records = rows.iter().map(|row| record_text(version, row));
+    let records: Option<Vec<String>> = records.collect();
     let text = format!("{}\n{}", version.header(), records.ok_or(20u64)?.concat());
     if text.len() > trace::LIMIT || text.len() > size {
         return Err(12);
@@ -67,6 +60,7 @@ pub fn input(version: Version, rows: &[Row], size: usize) -> Vec<u8> {
     let header = match version {
         Version::Proc1 => 1,
         Version::Proc2 => 2,
+        Version::Proc3 => 3,
     };
     let numbers = [header, size as u64, rows.len() as u64]
         .into_iter()
@@ -89,49 +83,58 @@ fn number(random: &mut Random) -> u64 {
     }
 }
 
-/// A row that a text can express.
-fn good_row(random: &mut Random) -> Row {
-    let number_of_op = random.between(1, 8);
-    let op = op_of(number_of_op).expect("1 to 8 are ops");
-    let mut if_read = |reads: bool| if reads { number(random) } else { 0 };
-    let id = if_read(op.reads_registration());
-    let slot = if_read(op.reads_registration()) % 65_536;
-    let stamp = if_read(op.reads_stamp());
-    let clock = if_read(op.reads_clock());
-    let sample = if_read(op.reads_clock());
-    [number_of_op, slot, id, stamp, clock, sample]
+/// The number of an op that the header allows; ops are numbered in their order.
+fn op_number(version: Version, random: &mut Random) -> u64 {
+    let allowed = Op::ALL.into_iter().filter(|op| version.allows(*op));
+    random.between(1, allowed.count() as u64)
+}
+
+/// A row that a text with this header can express.
+fn good_row(version: Version, random: &mut Random) -> Row {
+    let number_of_op = op_number(version, random);
+    let op = op_of(version, number_of_op).expect("these are ops");
+    let [slot, id, stamp, clock, sample] = op
+        .reads()
+        .map(|reads| if reads { number(random) } else { 0 });
+    [number_of_op, slot % 65_536, id, stamp, clock, sample]
 }
 
 /// A row that may be bad: one number of a good row is another.
-fn any_row(random: &mut Random) -> Row {
-    let mut row = good_row(random);
+fn any_row(version: Version, random: &mut Random) -> Row {
+    let mut row = good_row(version, random);
     let place = random.place(6);
     row[place] = match place {
-        0 => random.pick(&[0, 9, 10, u64::MAX, 1, 8]),
+        0 => random.pick(&[0, 9, 10, 11, u64::MAX, 1, 8]),
         1 => random.pick(&[65_535, 65_536, 1, u64::MAX, 0]),
         _ => number(random),
     };
     row
 }
 
-/// Rows and a buffer's size, by a seed: most runs good, some with a bad row at some place, some too long, and buffers
-/// around the text's own length.
-pub fn generate(seed: u64) -> (Vec<Row>, usize) {
+/// A header, rows and a buffer's size, by a seed: most runs good, some with a bad row at some place, some with the ops of
+/// a later header, some too long, and buffers around the text's own length.
+pub fn generate(seed: u64) -> (Version, Vec<Row>, usize) {
     let mut random = Random::new(seed ^ 0x7772_6974_6572);
+    let version = Version::ALL[(seed % 3) as usize];
+    let ops = if random.once_in(20) {
+        Version::Proc3
+    } else {
+        version
+    };
     let long = random.once_in(8);
     let count = if long {
         random.between(600, MOST as u64)
     } else {
         random.below(30)
     };
-    let mut rows: Vec<Row> = (0..count).map(|_| good_row(&mut random)).collect();
+    let mut rows: Vec<Row> = (0..count).map(|_| good_row(ops, &mut random)).collect();
     if random.once_in(3) && !rows.is_empty() {
         for _ in 0..random.between(1, 2) {
             let place = random.place(rows.len());
-            rows[place] = any_row(&mut random);
+            rows[place] = any_row(ops, &mut random);
         }
     }
-    let length = write(Version::Proc1, &rows, usize::MAX).map_or(1_000, |text| text.len());
+    let length = write(version, &rows, usize::MAX).map_or(1_000, |text| text.len());
     let size = match random.below(6) {
         0 => length.saturating_sub(1),
         1 => length,
@@ -140,10 +143,10 @@ pub fn generate(seed: u64) -> (Vec<Row>, usize) {
         4 => random.place(ROOM + 1),
         _ => ROOM,
     };
-    (rows, size.min(ROOM))
+    (version, rows, size.min(ROOM))
 }
 
-/// Runs at the borders, each with its name.
+/// Runs at the borders, each with its name; every header is put to each of them.
 pub fn borders() -> Vec<(&'static str, Vec<Row>, usize)> {
     let least: Row = [2, 0, 0, 0, 0, 0];
     let bad: Row = [2, 0, 0, 1, 0, 0];
@@ -155,6 +158,8 @@ pub fn borders() -> Vec<(&'static str, Vec<Row>, usize)> {
     over[700] = [2, 0, 100_000_000, 0, 0, 0];
     let mut over_and_bad = over.clone();
     over_and_bad[1_488] = bad;
+    let mut pinned_at_the_end = most.clone();
+    pinned_at_the_end[1_488] = [9, 0, 0, 0, 1, 1];
     vec![
         ("no rows", vec![], ROOM),
         ("no rows, 13 bytes", vec![], 13),
@@ -175,6 +180,20 @@ pub fn borders() -> Vec<(&'static str, Vec<Row>, usize)> {
         ("zeros", vec![[0; 6]], ROOM),
         ("slot 65,535", vec![[2, 65_535, 1, 0, 0, 0]], ROOM),
         ("slot 65,536", vec![[2, 65_536, 1, 0, 0, 0]], ROOM),
+        ("a pin", vec![[9, 0, 0, 0, 9, 3]], ROOM),
+        ("a pin, exactly full", vec![[9, 0, 0, 0, 9, 3]], 57),
+        ("a pin, one byte short", vec![[9, 0, 0, 0, 9, 3]], 56),
+        ("a pin with a slot", vec![[9, 1, 0, 0, 9, 3]], ROOM),
+        ("a pin with an id", vec![[9, 0, 1, 0, 9, 3]], ROOM),
+        ("a pin with a stamp", vec![[9, 0, 0, 1, 9, 3]], ROOM),
+        ("a release", vec![[10, 63, 0, 0, 0, 0]], ROOM),
+        ("a release of 65,535", vec![[10, 65_535, 0, 0, 0, 0]], ROOM),
+        ("a release of 65,536", vec![[10, 65_536, 0, 0, 0, 0]], ROOM),
+        ("a release with an id", vec![[10, 63, 1, 0, 0, 0]], ROOM),
+        ("a release with a clock", vec![[10, 63, 0, 0, 1, 0]], ROOM),
+        ("a release with a sample", vec![[10, 63, 0, 0, 0, 1]], ROOM),
+        ("op 11", vec![[11, 0, 0, 0, 0, 0]], ROOM),
+        ("a pin after 1,488 rows", pinned_at_the_end, ROOM),
         (
             "all at the top",
             vec![[4, 65_535, u64::MAX, 0, u64::MAX, u64::MAX]],

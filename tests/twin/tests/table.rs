@@ -1,6 +1,8 @@
 //! The table's calls: what a trace's output doesn't show.
 
-use twin::table::{FARTHEST, NOBODY, Oldest, Refusal, SLOTS, Slot, Table};
+use twin::table::{
+    FARTHEST, FIRST_PIN, NOBODY, Oldest, PINS, Refusal, SLOTS, Slot, Snapshot, Table,
+};
 
 fn full() -> Table {
     let mut table = Table::fresh();
@@ -17,10 +19,11 @@ fn slot(txid: u64, snapshot_xmin: u64) -> Slot {
     }
 }
 
-/// Slots, clock, sampled clock and line.
-fn whole(table: &Table) -> (Vec<Slot>, u64, u64, u64) {
+/// Slots, pins, clock, sampled clock and line.
+fn whole(table: &Table) -> (Vec<Slot>, Vec<u64>, u64, u64, u64) {
     (
         table.slots().to_vec(),
+        table.pins().to_vec(),
         table.clock(),
         table.sampled_clock(),
         table.vacuum_line(),
@@ -30,7 +33,7 @@ fn whole(table: &Table) -> (Vec<Slot>, u64, u64, u64) {
 #[test]
 fn fresh_is_empty() {
     let empty = vec![slot(0, 0); SLOTS];
-    assert_eq!(whole(&Table::fresh()), (empty, 1, 1, 1));
+    assert_eq!(whole(&Table::fresh()), (empty, vec![0; PINS], 1, 1, 1));
 }
 
 #[test]
@@ -40,7 +43,7 @@ fn begin_fills_the_lowest_slot_and_moves_the_clock_alone() {
     assert_eq!(table.begin(9), Ok(1));
     let mut slots = vec![slot(0, 0); SLOTS];
     (slots[0], slots[1]) = (slot(5, 5), slot(9, 9));
-    assert_eq!(whole(&table), (slots, 10, 1, 1));
+    assert_eq!(whole(&table), (slots, vec![0; PINS], 10, 1, 1));
 }
 
 #[test]
@@ -49,7 +52,7 @@ fn a_full_table_uses_up_the_number() {
     let slots = table.slots().to_vec();
     table.snapshot(5_000, 7).unwrap();
     assert_eq!(table.begin(6_000), Err(Refusal::NoFreeSlot { txid: 6_000 }));
-    assert_eq!(whole(&table), (slots, 6_001, 7, 1));
+    assert_eq!(whole(&table), (slots, vec![0; PINS], 6_001, 7, 1));
 }
 
 #[test]
@@ -149,4 +152,104 @@ fn the_lowest_slot_with_the_oldest_xmin_is_named() {
     assert_eq!(table.vacuum(20, 5), Ok(NOBODY));
     assert_eq!(table.vacuum(20, 20), Ok(2));
     assert_eq!(table.vacuum_line(), 7);
+}
+
+/// What a pin answers with no id in flight.
+fn pinned(pin: usize, at: u64) -> Result<(usize, Snapshot), Refusal> {
+    let snapshot = Snapshot {
+        xmin: at,
+        xmax: at,
+        in_flight: vec![],
+    };
+    Ok((pin, snapshot))
+}
+
+/// The line is 100: a pin at 100/50 keeps 100, and the table's sample is the one given.
+#[test]
+fn a_pin_is_taken_for_the_line_and_observes_the_sample() {
+    let mut table = Table::fresh();
+    table.vacuum(100, 100).unwrap();
+    assert_eq!(table.pin(120, 50), pinned(0, 100));
+    assert_eq!(table.pin(120, 110), pinned(1, 110));
+    let mut pins = vec![0; PINS];
+    (pins[0], pins[1]) = (100, 110);
+    let empty = vec![slot(0, 0); SLOTS];
+    assert_eq!(whole(&table), (empty.clone(), pins.clone(), 120, 110, 100));
+    assert_eq!(table.pin(121, 7), pinned(2, 100));
+    pins[2] = 100;
+    assert_eq!(whole(&table), (empty, pins, 121, 7, 100));
+}
+
+#[test]
+fn refused_pins_and_releases_leave_the_table() {
+    let mut table = Table::fresh();
+    table.begin(3).unwrap();
+    for _ in 0..PINS {
+        table.pin(9, 5).unwrap();
+    }
+    let before = whole(&table);
+    assert_eq!(before.1, vec![3; PINS]);
+    assert_eq!(table.pin(8, 0), Err(Refusal::BadClock));
+    assert_eq!(table.pin(20, 0), Err(Refusal::BadSample));
+    assert_eq!(table.pin(20, 21), Err(Refusal::BadSample));
+    assert_eq!(table.pin(20, 20), Err(Refusal::NoFreePin));
+    for pin in [64, 65, 1_023, 1_024, 2_000, 65_535] {
+        assert_eq!(table.unpin(pin), Err(Refusal::InvalidPin { pin }));
+    }
+    assert_eq!(whole(&table), before);
+    table.unpin(40).unwrap();
+    let free = Refusal::FreePin { pin: 40 };
+    assert_eq!(table.unpin(40), Err(free));
+    let numbers = [Refusal::NoFreePin, Refusal::InvalidPin { pin: 64 }, free];
+    assert_eq!(numbers.map(Refusal::number), [14, 15, 16]);
+}
+
+#[test]
+fn a_release_frees_the_pin_alone() {
+    let mut table = Table::fresh();
+    table.begin(3).unwrap();
+    table.pin(9, 9).unwrap();
+    table.pin(9, 2).unwrap();
+    table.vacuum(9, 9).unwrap();
+    let (slots, mut pins, clock, sample, line) = whole(&table);
+    assert_eq!((&pins[..3], clock, sample, line), (&[3, 2, 0][..], 9, 9, 2));
+    table.unpin(0).unwrap();
+    pins[0] = 0;
+    assert_eq!(whole(&table), (slots, pins, 9, 9, 2));
+}
+
+#[test]
+fn a_slot_is_named_before_a_pin() {
+    let mut table = Table::fresh();
+    let oldest = |xmin, holder| Ok(Oldest { xmin, holder });
+    table.begin(5).unwrap();
+    table.pin(6, 6).unwrap();
+    assert_eq!(table.oldest_snapshot_xmin(6, 6), oldest(5, 0));
+    table.pin(6, 4).unwrap();
+    table.pin(6, 4).unwrap();
+    assert_eq!(table.oldest_snapshot_xmin(6, 6), oldest(4, FIRST_PIN + 1));
+    assert_eq!(table.oldest_snapshot_xmin(6, 4), oldest(4, FIRST_PIN + 1));
+    assert_eq!(table.oldest_snapshot_xmin(6, 3), oldest(3, NOBODY));
+    assert_eq!(table.vacuum(6, 6), Ok(FIRST_PIN + 1));
+    assert_eq!(table.vacuum_line(), 4);
+    table.unpin(1).unwrap();
+    assert_eq!(table.vacuum(6, 6), Ok(FIRST_PIN + 2));
+    table.unpin(2).unwrap();
+    table.end(0, 5).unwrap();
+    assert_eq!(table.vacuum(6, 6), Ok(FIRST_PIN));
+    assert_eq!(table.vacuum_line(), 5);
+}
+
+/// The table check: a pin that is taken has an xmin from the line to the clock.
+#[test]
+fn the_check_holds_pins_between_line_and_clock() {
+    let with = |pin: usize, xmin| {
+        let mut pins = [0; PINS];
+        pins[pin] = xmin;
+        Table::of([Slot::default(); SLOTS], pins, 9, 7, 4).passes()
+    };
+    for pin in [0, PINS - 1] {
+        let passing = (0..12).filter(|xmin| with(pin, *xmin));
+        assert_eq!(passing.collect::<Vec<u64>>(), [0, 4, 5, 6, 7, 8, 9]);
+    }
 }

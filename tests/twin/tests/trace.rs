@@ -1,6 +1,7 @@
 //! Reading: every cut of a good text, and the numbers at the edges.
 
-use twin::trace::{BadTrace, LIMIT, Version, read};
+use twin::trace::Version::{self, Proc1, Proc2, Proc3};
+use twin::trace::{BadTrace, LIMIT, read};
 
 const GOOD: &str = "trace=proc-1\n\
     op=begin\nslot=0\nid=0\nstamp=5\nclock=0\nsample=0\n\
@@ -54,13 +55,52 @@ fn the_length_is_tested_first() {
 }
 
 #[test]
-fn two_headers_are_known() {
+fn three_headers_are_known() {
     for version in Version::ALL {
         let text = GOOD.replace("trace=proc-1", version.header());
         let trace = read(text.as_bytes()).expect("a trace");
         assert_eq!((trace.version, trace.records.len()), (version, 2));
     }
-    for other in ["proc-0", "proc-3", "proc-12", "proc-", "proc-2 "] {
+    for other in ["proc-0", "proc-4", "proc-12", "proc-", "proc-2 "] {
         assert_eq!(line(&GOOD.replace("proc-1", other)), Some(1), "{other:?}");
+    }
+}
+
+#[test]
+fn pins_are_ops_of_the_last_header_alone() {
+    let pin = "op=pin\nslot=0\nid=0\nstamp=0\nclock=9\nsample=3\n";
+    let unpin = "op=unpin\nslot=63\nid=0\nstamp=0\nclock=0\nsample=0\n";
+    for (version, allowed) in [(Proc1, false), (Proc2, false), (Proc3, true)] {
+        let text = |records: &str| format!("{}\n{records}", version.header());
+        for op in [pin, unpin] {
+            let broken = if allowed { None } else { Some(2) };
+            assert_eq!(line(&text(op)), broken, "{op}");
+        }
+        let both = if allowed { None } else { Some(8) };
+        let end = "op=end\nslot=0\nid=0\nstamp=0\nclock=0\nsample=0\n";
+        assert_eq!(line(&text(&[end, pin, unpin].concat())), both);
+    }
+}
+
+#[test]
+fn a_pin_reads_clock_and_sample_a_release_its_slot() {
+    let fields = |op: &str, numbers: [u64; 5]| {
+        let [slot, id, stamp, clock, sample] = numbers;
+        line(&format!(
+            "trace=proc-3\nop={op}\nslot={slot}\nid={id}\nstamp={stamp}\nclock={clock}\nsample={sample}\n"
+        ))
+    };
+    for place in 0..5 {
+        let mut numbers = [0; 5];
+        numbers[place] = 1;
+        let at = |reads: [bool; 5]| (!reads[place]).then_some(place + 3);
+        assert_eq!(
+            fields("pin", numbers),
+            at([false, false, false, true, true])
+        );
+        assert_eq!(
+            fields("unpin", numbers),
+            at([true, false, false, false, false])
+        );
     }
 }

@@ -1,7 +1,7 @@
 //! The check of a wait: each rule of each event, each refusal, each pair that the order decides. Every expectation is
 //! worked out by hand from docs/SPEC.md, 16.
 
-use twin::table::{SLOTS, Slot, Table};
+use twin::table::{PINS, SLOTS, Slot, Table};
 use twin::waits::check::{Owner, Told, check};
 use twin::waits::events::{Event, Kind};
 use twin::waits::read::text_of_events;
@@ -17,7 +17,15 @@ fn table(pairs: &[(usize, u64, u64)], clock: u64, sample: u64, line: u64) -> Tab
             snapshot_xmin,
         };
     }
-    Table::of(slots, clock, sample, line)
+    Table::of(slots, [0; PINS], clock, sample, line)
+}
+
+/// The same with these pins taken.
+fn pinned(mut table: Table, pins: &[(usize, u64)]) -> Table {
+    for &(pin, xmin) in pins {
+        table.put_pin(pin, xmin);
+    }
+    table
 }
 
 /// Slots 0 and 1 hold 5 and 3.
@@ -197,6 +205,27 @@ fn the_first_bad_step_counts_from_1_and_the_entry_stands_beside_it() {
     refuses(&two(), None, &[good, good], told(22, 2));
 }
 
+/// Pins bind no event, and no event moves one.
+#[test]
+fn events_leave_the_pins() {
+    let pins = [(0, 2), (1, 6), (PINS - 1, 3)];
+    let (entry, last) = (pinned(two(), &pins), SLOTS - 1);
+    let events = [
+        Event::end(0),
+        Event::register(0, 6),
+        Event::horizon(1, 3),
+        Event::register(last as u16, 9),
+        Event::observe(20, 1),
+        Event::reserve(20),
+        Event::end(1),
+    ];
+    let end = table(&[(0, 6, 6), (last, 9, 9)], 21, 1, 2);
+    accepts(&entry, None, &events, pinned(end, &pins));
+    let both = table(&[(0, 5, 5), (1, 3, 3)], 6, 4, 2);
+    let horizon = [Event::horizon(1, 3)];
+    accepts(&entry, Some((0, 5)), &horizon, pinned(both, &pins));
+}
+
 #[test]
 fn an_entry_that_fails_the_check_is_21() {
     let bad = [
@@ -211,6 +240,9 @@ fn an_entry_that_fails_the_check_is_21() {
         table(&[(0, 5, 5)], 9, 1, 6),
         table(&[(0, 5, 5), (SLOTS - 1, 5, 1)], 6, 1, 1),
         table(&[], 0, 0, 0),
+        pinned(two(), &[(0, 1)]),
+        pinned(two(), &[(PINS - 1, 7)]),
+        pinned(two(), &[(0, 2), (40, TOP)]),
     ];
     for entry in bad {
         refuses(&entry, None, &[], told(21, 0));

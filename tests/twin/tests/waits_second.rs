@@ -8,32 +8,15 @@ use twin::waits::events::Event;
 use twin::waits::generate::generate;
 use twin::waits::read::{text_of_events, text_of_table};
 
-/// A thousand waits, each with what has to be answered; tests/waits has more.
-fn waits() -> Vec<(Wait, Vec<u8>)> {
-    let waits = (1..=1_000).map(generate);
-    waits
-        .map(|wait| (wait.clone(), check::report(&wait)))
-        .collect()
-}
-
+/// That the comparison sees every fault is for tests/waits, which has more waits.
 #[test]
 fn both_readings_agree() {
-    for (seed, (wait, expected)) in (1..).zip(waits()) {
-        assert!(report(&wait, WaitFault::None) == expected, "seed {seed}");
+    for seed in 1..=500 {
+        let wait = generate(seed);
+        let second = report(&wait, WaitFault::None);
+        assert!(second == check::report(&wait), "seed {seed}");
     }
-}
-
-#[test]
-fn every_fault_shows() {
-    let (faults, waits) = (WaitFault::all(), waits());
-    assert!(faults.len() > 150, "{} faults", faults.len());
-    let shows = |fault| {
-        let mut waits = waits.iter();
-        waits.any(|(wait, expected)| report(wait, fault) != *expected)
-    };
-    for fault in faults {
-        assert!(shows(fault), "{} shows on no seed", fault.name());
-    }
+    assert!(WaitFault::all().len() > 150);
 }
 
 /// The comparison itself, on checkers that put their report into a buffer.

@@ -1,6 +1,6 @@
 //! The texts of a wait and of a table: every cut of a good one, and the numbers at the edges.
 
-use twin::table::{SLOTS, Table};
+use twin::table::{PINS, SLOTS, Table};
 use twin::trace::LIMIT;
 use twin::waits::check::{Wait, report};
 use twin::waits::events::{Event, Kind};
@@ -96,11 +96,13 @@ fn a_table_is_read_back() {
     let mut reached = Table::fresh();
     reached.begin(5).unwrap();
     reached.begin(9).unwrap();
+    reached.pin(20, 7).unwrap();
     reached.vacuum(20, 4).unwrap();
     let text = text_of_table(&reached);
     assert!(text.starts_with("table=proc-1\ntxid=5\nxmin=5\ntxid=9\nxmin=9\ntxid=0\n"));
-    assert!(text.ends_with("txid=0\nxmin=0\nclock=20\nsample=4\nline=4\n"));
-    assert_eq!(text.matches('\n').count(), 2 * SLOTS + 4);
+    assert!(text.contains("txid=0\nxmin=0\npin=5\npin=0\n"));
+    assert!(text.ends_with("pin=0\nclock=20\nsample=4\nline=4\n"));
+    assert_eq!(text.matches('\n').count(), 2 * SLOTS + PINS + 4);
     assert_eq!(table(text.as_bytes()), Ok(reached));
 }
 
@@ -115,7 +117,7 @@ fn every_cut_of_a_table_breaks_at_its_last_line_or_the_missing_one() {
     for tail in ["\n", "x", "line=1\n"] {
         let longer = [&text, tail].concat();
         let broken = table(longer.as_bytes()).unwrap_err();
-        assert_eq!(broken.line, 2 * SLOTS + 5);
+        assert_eq!(broken.line, 2 * SLOTS + PINS + 5);
     }
 }
 
@@ -125,7 +127,10 @@ fn a_table_has_any_numbers() {
     let last = text.replacen("clock=1", "clock=18446744073709551615", 1);
     assert!(table(last.as_bytes()).is_ok());
     let over = text.replacen("clock=1", "clock=18446744073709551616", 1);
-    assert_eq!(table(over.as_bytes()).unwrap_err().line, 2 * SLOTS + 2);
+    assert_eq!(
+        table(over.as_bytes()).unwrap_err().line,
+        2 * SLOTS + PINS + 2
+    );
 }
 
 #[test]

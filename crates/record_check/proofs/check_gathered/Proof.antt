@@ -9,9 +9,9 @@ check-columns-requires c κs = search needs
 
 returns : tie.Need-returns
 returns c =
-    let lent = c .before .before .before in
-    let s = lent .before .before .before in
-    by-length (s .args .t1) _ (s .good .0) (s .args .clock) (s .args .sample) (s .args .line) _ (c .check-columns .ensures)
+    let lent = c .before .before .before .before .before in
+    let s = lent .before .before .before .before in
+    by-length (s .args .t1) _ (s .good .0) (s .args .t2) _ (c .check-columns .ensures)
 
 pub check-gathered-spec : {M : Type 1} → statement M
 check-gathered-spec = tie.close (tie.spec check-columns-requires returns)

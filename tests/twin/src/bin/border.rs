@@ -488,10 +488,10 @@ impl Border {
 }
 
 /// Stored texts, and what has to be said of each.
-const REASONS: [(&str, &str); 22] = [
+const REASONS: [(&str, &str); 27] = [
     (
         "all-lines-crlf",
-        "Line 1, where `trace=proc-1` or `trace=proc-2` has to stand, is `trace=proc-1\\r`: it ends in a carriage return",
+        "Line 1, where `trace=proc-1`, `trace=proc-2` or `trace=proc-3` has to stand, is `trace=proc-1\\r`: it ends in a carriage return",
     ),
     (
         "number-crlf",
@@ -530,7 +530,7 @@ const REASONS: [(&str, &str); 22] = [
     ("blank-line-between", "it is empty"),
     (
         "text-empty",
-        "It is empty: line 1 has to be `trace=proc-1` or `trace=proc-2`",
+        "It is empty: line 1 has to be `trace=proc-1`, `trace=proc-2` or `trace=proc-3`",
     ),
     (
         "incomplete-after-id",
@@ -541,6 +541,20 @@ const REASONS: [(&str, &str); 22] = [
         "it is cut short, or its newline is missing",
     ),
     ("header-other", "no such version is known"),
+    (
+        "op-pin",
+        "is `op=pin`: this op stands under `trace=proc-3` alone",
+    ),
+    (
+        "proc-2-unpin",
+        "is `op=unpin`: this op stands under `trace=proc-3` alone",
+    ),
+    (
+        "op-pins",
+        "no op has this name; they are begin, end, snap, own, oldest, vacuum, stamp, finish, pin, unpin",
+    ),
+    ("unread-pin-slot", "pin reads no slot, so it has to be 0"),
+    ("unread-unpin-id", "unpin reads no id, so it has to be 0"),
 ];
 
 /// How a run on a text ends where nothing fails.

@@ -108,8 +108,7 @@ fn main() -> ExitCode {
         }
     }
     for seed in from..from + count {
-        let (rows, size) = writer::generate(seed);
-        let version = Version::ALL[(seed % 2) as usize];
+        let (version, rows, size) = writer::generate(seed);
         counts.rows(
             &of_rows,
             &format!("rows of seed {seed}"),

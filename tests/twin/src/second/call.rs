@@ -10,15 +10,18 @@ const SLOTS: u128 = table::SLOTS as u128;
 /// A reserved number may lie so far above the clock.
 const REACH: u128 = 4_294_967_296;
 const NOBODY: u128 = 65_535;
+pub(super) const PINS: u128 = 64;
 
 /// A taken slot: txid and snapshot_xmin.
 type Taken = (u128, u128);
 
 pub struct Second {
-    taken: BTreeMap<u128, Taken>,
-    clock: u128,
-    line: u128,
-    fault: Fault,
+    pub(super) taken: BTreeMap<u128, Taken>,
+    /// The pins that are taken, and their xmins.
+    pub(super) pins: BTreeMap<u128, u128>,
+    pub(super) clock: u128,
+    pub(super) line: u128,
+    pub(super) fault: Fault,
     pub accepted: usize,
 }
 
@@ -26,6 +29,7 @@ impl Second {
     pub fn fresh(fault: Fault) -> Self {
         Second {
             taken: BTreeMap::new(),
+            pins: BTreeMap::new(),
             clock: 1,
             line: 1,
             fault,
@@ -73,6 +77,7 @@ impl Second {
         let [slot, id, number, clock, sample] = *numbers;
         let held = self.taken.get(&slot).map_or(0, |taken| taken.0);
         match check {
+            14..=16 => self.pin_holds(check, slot),
             1 => self.taken.len() == table::SLOTS,
             2 => slot >= self.limit(),
             3 => held != id,
@@ -122,6 +127,7 @@ impl Second {
             }
             8 if fault.is("refused-observation-moves-clock") => self.clock = clock,
             13 if fault.is("refused-jump-moves-clock") => self.clock = number + 1,
+            14 if fault.is("refused-pin-moves-clock") => self.clock = clock,
             _ => {}
         }
         self.refused(refusal, numbers)
@@ -136,6 +142,10 @@ impl Second {
             2 => (unless("refusal-2-no-slot", slot), 0, 0),
             3 if self.fault.is("refusal-3-swapped") => (slot, held, id),
             3 => (slot, id, unless("refusal-3-no-seen", held)),
+            14 if self.fault.is("refusal-14-shows-64") => (PINS, 0, 0),
+            15 => (unless("refusal-15-no-slot", slot), 0, 0),
+            16 if self.fault.is("refusal-16-as-id") => (0, slot, 0),
+            16 => (unless("refusal-16-no-slot", slot), 0, 0),
             _ => (0, 0, 0),
         };
         shown([refusal.into(), slot, id, seen, 0, 0])
@@ -143,8 +153,8 @@ impl Second {
 
     fn accept(&mut self, op: Op, numbers: &[u128; 5]) -> Printed {
         let [slot, id, number, clock, sample] = *numbers;
-        if matches!(op, Op::Snap | Op::Own | Op::Oldest | Op::Vacuum) {
-            self.observe(clock, sample);
+        if matches!(op, Op::Snap | Op::Own | Op::Oldest | Op::Vacuum | Op::Pin) {
+            self.observe(op, clock, sample);
         }
         match op {
             Op::Begin => self.begin(number),
@@ -160,15 +170,21 @@ impl Second {
                 if self.fault.is("end-moves-clock") {
                     self.clock = (self.clock + 1).min(TOP);
                 }
+                if self.fault.is("end-releases-pin") {
+                    self.pins.remove(&slot);
+                }
                 shown([0; 6])
             }
             Op::Finish => self.finish(slot, number),
+            Op::Pin => self.pin(clock, sample),
+            Op::Unpin => self.unpin(slot),
         }
     }
 
-    fn observe(&mut self, clock: u128, sample: u128) {
+    fn observe(&mut self, op: Op, clock: u128, sample: u128) {
         self.clock = match self.fault {
             _ if self.fault.is("clock-not-observed") => self.clock,
+            _ if op == Op::Pin && self.fault.is("pin-keeps-clock") => self.clock,
             _ if self.fault.is("clock-takes-sample") => sample,
             _ => clock,
         };
@@ -209,9 +225,11 @@ impl Second {
         shown([0, shown_slot, number, 0, 0, 0])
     }
 
-    fn snap(&mut self, owner: Option<Taken>, clock: u128, sample: u128) -> Printed {
+    pub(super) fn snap(&mut self, owner: Option<Taken>, clock: u128, sample: u128) -> Printed {
         let mut list: Vec<u128> = self.taken.values().map(|taken| taken.0).collect();
-        let least = list.iter().copied().min().unwrap_or(sample);
+        let pinned = self.pins.values().copied();
+        let pinned = pinned.filter(|_| self.fault.is("snap-takes-pins"));
+        let least = list.iter().copied().chain(pinned).min().unwrap_or(sample);
         let after = list.iter().copied().max().map_or(sample, |id| id + 1);
         let fault = self.fault;
         let xmin = match fault {
@@ -264,7 +282,9 @@ impl Second {
                 taken.1
             }
         };
-        let least = self.taken.values().map(kept).min().unwrap_or(sample);
+        let mut all: Vec<u128> = self.taken.values().map(kept).collect();
+        all.extend(self.pins_asked(op));
+        let least = all.iter().copied().min().unwrap_or(sample);
         let oldest = if fault.is("oldest-is-sample") {
             sample
         } else {
@@ -300,6 +320,12 @@ impl Second {
                 taken.1 == sought
             }
         };
+        if let Some(pin) = self
+            .pin_holder(sought)
+            .filter(|_| fault.is("holder-prefers-pins"))
+        {
+            return pin;
+        }
         let mut slots = self.taken.iter().filter(|(_, taken)| holds(taken));
         let found = if fault.is("holder-highest") {
             slots.next_back()
@@ -315,13 +341,13 @@ impl Second {
             Some((_, taken)) if fault.is("holder-is-id") => taken.0,
             Some(_) if fault.is("holder-not-at-sample") && oldest == sample => nobody,
             Some((slot, _)) => *slot,
-            None => nobody,
+            None => self.pin_holder(sought).unwrap_or(nobody),
         }
     }
 }
 
 /// An answer without a list; the line is filled in later.
-fn shown(numbers: [u128; 6]) -> Printed {
+pub(super) fn shown(numbers: [u128; 6]) -> Printed {
     let mut all = [0; 7];
     all[..6].copy_from_slice(&numbers);
     Printed {

@@ -68,6 +68,49 @@ const CALLS: &[&str] = &[
     "ids-32-bits",
 ];
 
+/// Faults in what the calls do with pins.
+const PINS: &[&str] = &[
+    "pin-highest",
+    "pin-after-the-last",
+    "pin-64-taken",
+    "pin-63-never-taken",
+    "pin-overwrites-when-full",
+    "pin-for-the-sample-alone",
+    "pin-stores-for-the-sample-alone",
+    "pin-shows-for-the-sample-alone",
+    "pin-xmax-of-the-sample",
+    "pin-for-the-line-alone",
+    "pin-for-the-clock",
+    "pin-stores-its-sample",
+    "pin-stores-xmax",
+    "pin-stores-nothing",
+    "pin-stores-in-slots-too",
+    "pin-raises-line",
+    "pin-keeps-clock",
+    "refused-pin-moves-clock",
+    "unpin-keeps-pin",
+    "unpin-releases-all",
+    "unpin-releases-the-lowest",
+    "unpin-moves-line",
+    "unpin-moves-clock",
+    "unpin-empties-slot",
+    "unpin-by-low-bits",
+    "unpin-to-64",
+    "unpin-63-refused",
+    "unpin-up-to-the-slots",
+    "end-releases-pin",
+    "oldest-without-pins",
+    "vacuum-without-pins",
+    "oldest-takes-free-pins",
+    "snap-takes-pins",
+    "holder-without-pins",
+    "holder-prefers-pins",
+    "holder-highest-pin",
+    "holder-is-the-pin-alone",
+    "holder-pin-from-1",
+    "holder-after-the-slots",
+];
+
 /// Faults in what is printed.
 const PRINT: &[&str] = &[
     "records-one-more",
@@ -91,6 +134,16 @@ const PRINT: &[&str] = &[
     "refusal-2-no-slot",
     "refusal-3-swapped",
     "refusal-3-no-seen",
+    "pin-not-shown",
+    "pin-shown-as-id",
+    "pin-shown-as-seen",
+    "pin-shown-as-holder",
+    "pin-lists-none",
+    "unpin-shows-pin",
+    "refusal-14-shows-64",
+    "refusal-15-no-slot",
+    "refusal-16-no-slot",
+    "refusal-16-as-id",
 ];
 
 /// Faults in reading the text.
@@ -123,11 +176,21 @@ const TEXT: &[&str] = &[
 ];
 
 /// Faults in the versions of a trace; a wait has one version.
-const VERSIONS: &[&str] = &["proc-2-refused", "proc-3-accepted"];
+const VERSIONS: &[&str] = &[
+    "proc-2-refused",
+    "proc-3-refused",
+    "proc-4-accepted",
+    "pins-under-proc-1",
+    "pins-under-proc-2",
+    "pins-nowhere",
+    "holder-not-under-proc-3",
+];
+
+const NAMED: [&[&str]; 5] = [CALLS, PINS, PRINT, TEXT, VERSIONS];
 
 impl Fault {
     pub fn all() -> Vec<Fault> {
-        let names = [CALLS, PRINT, TEXT, VERSIONS].concat();
+        let names = NAMED.concat();
         let mut faults: Vec<Fault> = names.into_iter().map(Fault::Named).collect();
         for op in Op::ALL {
             let order = grounds::order(op);
@@ -136,8 +199,13 @@ impl Fault {
                 faults.push(Fault::Order(op, pair[0], pair[1]));
             }
         }
-        // A begin on a full table has nothing else to do than to refuse.
-        faults.retain(|fault| *fault != Fault::Skip(Op::Begin, 1));
+        faults.push(Fault::Order(Op::Pin, 7, 14));
+        for op in [Op::Pin, Op::Unpin] {
+            faults.extend((1..=5).map(|place| Fault::Field(op.name(), place)));
+        }
+        // A begin on a full table has nothing else to do than to refuse, nor has a pin where none is free.
+        let none = [Fault::Skip(Op::Begin, 1), Fault::Skip(Op::Pin, 14)];
+        faults.retain(|fault| !none.contains(fault));
         faults
     }
 
@@ -165,9 +233,7 @@ impl Fault {
 
     pub fn is(self, name: &'static str) -> bool {
         debug_assert!(
-            [CALLS, PRINT, TEXT, VERSIONS]
-                .iter()
-                .any(|list| list.contains(&name)),
+            NAMED.iter().any(|list| list.contains(&name)),
             "no such fault: {name}"
         );
         self == Fault::Named(name)

@@ -5,6 +5,7 @@
 
 mod call;
 mod faults;
+mod pins;
 mod read;
 pub mod waits;
 
@@ -18,7 +19,10 @@ use std::fmt::Write;
 /// The output for a trace, with a fault.
 pub fn output(input: &[u8], fault: Fault) -> String {
     let (records, broken) = read::items(input, &TRACE, fault);
-    let nine = input.starts_with(b"trace=proc-2");
+    let nine = match fault {
+        _ if fault.is("holder-not-under-proc-3") => input.starts_with(b"trace=proc-2"),
+        _ => !input.starts_with(b"trace=proc-1"),
+    };
     let mut out = String::new();
     let mut table = Second::fresh(fault);
     let runs = broken.is_none() || fault.is("runs-before-reading");

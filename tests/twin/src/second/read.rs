@@ -4,8 +4,8 @@ use super::Fault;
 
 /// What stands in such a text.
 pub struct Grammar {
-    /// The first line, one of these.
-    pub headers: &'static [&'static str],
+    /// The first line, one of these, and how many of the items may follow it.
+    pub headers: &'static [(&'static str, usize)],
     pub keys: [&'static str; 6],
     /// What an item may be, and which of its five numbers it then reads.
     pub items: &'static [(&'static str, [bool; 5])],
@@ -15,7 +15,11 @@ pub struct Grammar {
 
 /// The trace's, with the ops in their order.
 pub const TRACE: Grammar = Grammar {
-    headers: &["trace=proc-1", "trace=proc-2"],
+    headers: &[
+        ("trace=proc-1", 8),
+        ("trace=proc-2", 8),
+        ("trace=proc-3", 10),
+    ],
     keys: ["op=", "slot=", "id=", "stamp=", "clock=", "sample="],
     items: &[
         ("begin", [false, false, true, false, false]),
@@ -26,6 +30,8 @@ pub const TRACE: Grammar = Grammar {
         ("vacuum", [false, false, false, true, true]),
         ("stamp", [false, false, true, false, false]),
         ("finish", [true, true, true, false, false]),
+        ("pin", [false, false, false, true, true]),
+        ("unpin", [true, false, false, false, false]),
     ],
     most: 1_489,
 };
@@ -45,15 +51,20 @@ pub fn items(input: &[u8], grammar: &Grammar, fault: Fault) -> (Vec<Line6>, Opti
     (items, broken.map(|line| line.saturating_sub(shift)))
 }
 
-/// Whether it is one of the first lines, without a newline.
-fn is_header(line: &[u8], grammar: &Grammar, fault: Fault) -> bool {
+/// How many of the items may follow the first line, without a newline, if it is one.
+fn allowed(line: &[u8], grammar: &Grammar, fault: Fault) -> Option<usize> {
+    let all = grammar.items.len();
+    let named = |(header, _): &&(&str, usize)| line == header.as_bytes();
+    let known = grammar.headers.iter().find(named).map(|header| header.1);
     match line {
-        b"trace=proc-2" if fault.is("proc-2-refused") => false,
-        b"trace=proc-3" if fault.is("proc-3-accepted") => true,
-        _ => grammar
-            .headers
-            .iter()
-            .any(|header| line == header.as_bytes()),
+        b"trace=proc-2" if fault.is("proc-2-refused") => None,
+        b"trace=proc-3" if fault.is("proc-3-refused") => None,
+        b"trace=proc-4" if fault.is("proc-4-accepted") => Some(all),
+        b"trace=proc-1" if fault.is("pins-under-proc-1") => Some(all),
+        b"trace=proc-2" if fault.is("pins-under-proc-2") => Some(all),
+        b"trace=proc-3" if fault.is("pins-nowhere") => Some(8),
+        _ if fault.is("header-unread") => known.or(Some(all)),
+        _ => known,
     }
 }
 
@@ -67,9 +78,12 @@ fn broken_line(
         return Some(0);
     }
     let (lines, rest) = split(input, fault);
-    let header = lines.first().map(Vec::as_slice);
-    if header.is_some_and(|line| !is_header(line, grammar, fault)) && !fault.is("header-unread") {
-        return Some(1);
+    let mut most = 0;
+    if let Some(header) = lines.first() {
+        let Some(allowed) = allowed(header, grammar, fault) else {
+            return Some(1);
+        };
+        most = allowed;
     }
     let mut item = 0;
     let mut numbers = [0; 5];
@@ -77,8 +91,8 @@ fn broken_line(
         let field = (place - 1) % 6;
         if field == 0 {
             match item_of(line, grammar, fault) {
-                Some(known) => item = known,
-                None => return Some(place + 1 + usize::from(fault.is("unknown-op-at-next"))),
+                Some(known) if known < most => item = known,
+                _ => return Some(place + 1 + usize::from(fault.is("unknown-op-at-next"))),
             }
             continue;
         }
@@ -102,7 +116,7 @@ fn too_long(input: &[u8], grammar: &Grammar, fault: Fault) -> bool {
         _ if fault.is("limit-65537") => 65_537,
         _ => 65_536,
     };
-    let headed = |header: &&str| input.starts_with(format!("{header}\n").as_bytes());
+    let headed = |header: &(&str, _)| input.starts_with(format!("{}\n", header.0).as_bytes());
     let header_first = fault.is("limit-after-header") && !grammar.headers.iter().any(headed);
     input.len() > limit && !header_first
 }

@@ -5,11 +5,11 @@ use super::events::Kind;
 use super::grounds::{self, Found};
 use super::{cells_of_texts, read, ways};
 use crate::coverage::Coverage;
-use crate::table::{SLOTS, Table};
+use crate::table::{PINS, SLOTS, Table};
 
 const ORDER: [u64; 6] = [9, 21, 2, 4, 3, 22];
 
-const CONDITIONS: [&str; 10] = [
+const CONDITIONS: [&str; 12] = [
     "sample 0",
     "sample above clock",
     "line 0",
@@ -20,9 +20,11 @@ const CONDITIONS: [&str; 10] = [
     "txid from clock",
     "txid below line",
     "txid twice",
+    "pin below line",
+    "pin above clock",
 ];
 
-const PASSING: [&str; 8] = [
+const PASSING: [&str; 14] = [
     "all slots empty",
     "all slots taken",
     "an xmin above the least id",
@@ -31,6 +33,12 @@ const PASSING: [&str; 8] = [
     "the sample at the clock",
     "the line at an id",
     "clock 2^64 - 1",
+    "all pins free",
+    "all pins taken",
+    "a pin at the line",
+    "a pin at the clock",
+    "a pin above the least id",
+    "the last pin alone is taken",
 ];
 
 const ANSWERS: [&str; 15] = [
@@ -129,6 +137,7 @@ fn count_entry(entry: &Table, coverage: &mut Coverage) {
     let least = check::least_active(entry);
     let (clock, line) = (entry.clock(), entry.vacuum_line());
     let taken: Vec<_> = entry.slots().iter().filter(|slot| slot.txid != 0).collect();
+    let pins: Vec<u64> = entry.pins().iter().copied().filter(|x| *x != 0).collect();
     let xmins = || taken.iter().map(|slot| slot.snapshot_xmin);
     let found = [
         taken.is_empty(),
@@ -139,6 +148,12 @@ fn count_entry(entry: &Table, coverage: &mut Coverage) {
         entry.sampled_clock() == clock,
         taken.iter().any(|slot| slot.txid == line),
         clock == u64::MAX,
+        pins.is_empty(),
+        pins.len() == PINS,
+        pins.contains(&line),
+        pins.contains(&clock),
+        least.is_some_and(|least| pins.iter().any(|xmin| *xmin > least)),
+        pins.len() == 1 && entry.pins()[PINS - 1] != 0,
     ];
     for (name, found) in PASSING.iter().zip(found) {
         coverage.hit_if(found, &format!("entry: {name}"));

@@ -5,12 +5,12 @@ use super::{read, sized};
 use crate::cells_of_texts::LOOKS;
 use crate::coverage::Coverage;
 use crate::damage_fields::UNREAD_NUMBERS;
-use crate::table::SLOTS;
+use crate::table::{PINS, SLOTS};
 use crate::text::lines;
 use crate::trace::LIMIT;
 
 const KEYS: [&str; 6] = ["event", "slot", "id", "xmin", "clock", "sample"];
-const TABLE_KEYS: [&str; 5] = ["txid", "xmin", "clock", "sample", "line"];
+const TABLE_KEYS: [&str; 6] = ["txid", "xmin", "pin", "clock", "sample", "line"];
 
 const WHOLE: [&str; 11] = [
     "wait: at the header",
@@ -133,16 +133,18 @@ pub fn count_table(text: &[u8], coverage: &mut Coverage) {
     let list = lines(text);
     let line = list.get(broken.line - 1).cloned().unwrap_or_default();
     let slots_end = 1 + 2 * SLOTS;
+    let pins_end = slots_end + PINS;
     match broken.line {
         1 => coverage.hit("table: at the header"),
-        number if number > slots_end + 3 => {
+        number if number > pins_end + 3 => {
             coverage.hit("table: a line too many");
             coverage.hit_if(text.len() > LIMIT, "table: far too long");
         }
-        number if number > slots_end => {
-            let key = TABLE_KEYS[number - slots_end + 1];
+        number if number > pins_end => {
+            let key = TABLE_KEYS[number - pins_end + 2];
             count_line("table", key, &line, coverage);
         }
+        number if number > slots_end => count_line("table", "pin", &line, coverage),
         number => count_line("table", TABLE_KEYS[number % 2], &line, coverage),
     }
 }

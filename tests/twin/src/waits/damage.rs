@@ -4,6 +4,7 @@ use super::events::Kind;
 use super::read::{TABLE_HEADER, WAIT_HEADER};
 use crate::damage::{self, Damage};
 use crate::random::Random;
+use crate::table::PINS;
 use crate::text::lines as lines_of;
 use crate::{damage_fields as fields, damage_lines as lines};
 
@@ -26,11 +27,13 @@ const ANY_TEXT: [Damage; 14] = [
 ];
 
 /// Damage to what a wait says; one named twice comes twice as often.
-const WAIT: [Damage; 16] = [
+const WAIT: [Damage; 18] = [
     lines::truncate_at_line,
     lines::truncate_at_line,
     lines::truncate_before_newline,
     lines::truncate_before_newline,
+    wait_header,
+    wait_header,
     wait_header,
     wait_key,
     unknown_kind,
@@ -135,6 +138,8 @@ fn table_key(text: &mut Vec<u8>, random: &mut Random) {
     let keys = [
         "txid=0\n",
         "xmin=0\n",
+        "pin=0\n",
+        "pins=0\n",
         "clock=1\n",
         "sample=1\n",
         "line=1\n",
@@ -196,17 +201,27 @@ fn lone_text(text: &mut Vec<u8>, random: &mut Random) {
 }
 
 fn table_tail(text: &mut Vec<u8>, random: &mut Random) {
-    let tails = ["\n", " ", "x", "txid=0\n", "line=1\n", "table=proc-1\n"];
+    let tails = [
+        "\n",
+        " ",
+        "x",
+        "txid=0\n",
+        "pin=0\n",
+        "line=1\n",
+        "table=proc-1\n",
+    ];
     text.extend(random.pick(&tails).bytes());
     if random.once_in(12) {
         text.extend([b'x'; 70_000]);
     }
 }
 
-/// The text up to one of its last lines, with or without its newline.
+/// The text up to one of its last lines or a line about the pins, with or without its newline.
 fn table_cut(text: &mut Vec<u8>, random: &mut Random) {
     let mut list = lines_of(text);
-    let kept = list.len().saturating_sub(random.between(1, 5) as usize);
+    let few = random.between(1, 5) as usize;
+    let pins = PINS - 1 + random.between(1, 8) as usize;
+    let kept = list.len().saturating_sub(random.pick(&[few, few, pins]));
     list.truncate(kept);
     *text = list.concat();
     if random.once_in(2) {
@@ -214,18 +229,23 @@ fn table_cut(text: &mut Vec<u8>, random: &mut Random) {
     }
 }
 
-/// Changes a line of the first slots, of the last ones or of the counters, sometimes any; never the first line.
+/// Changes a line of the first slots, of the last ones or the first pins, of the last pins or of the counters, sometimes
+/// any; never the first line.
 fn at_an_edge(text: &mut Vec<u8>, random: &mut Random, change: impl FnOnce(&mut Vec<u8>)) {
     let mut list = lines_of(text);
     let few = list.len().saturating_sub(1).min(5);
     if few == 0 {
         return;
     }
-    let place = match random.below(5) {
+    // Where the pins begin, if the text is whole.
+    let pins = list.len().saturating_sub(PINS + 3).max(1);
+    let place = match random.below(6) {
         0 => 1 + random.place(few),
         1 => 1 + random.place(list.len() - 1),
+        2 => (pins - 2).max(1) + random.place(few),
         _ => list.len() - 1 - random.place(few),
     };
+    let place = place.min(list.len() - 1);
     change(&mut list[place]);
     *text = list.concat();
 }

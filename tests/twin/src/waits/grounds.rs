@@ -20,6 +20,7 @@ pub fn entry(table: &Table) -> Vec<&'static str> {
     let count = ids.len();
     ids.sort();
     ids.dedup();
+    let pins = table.pins().iter().copied().filter(|xmin| *xmin != 0);
     let conditions = [
         ("sample 0", sample == 0),
         ("sample above clock", sample > clock),
@@ -34,6 +35,8 @@ pub fn entry(table: &Table) -> Vec<&'static str> {
         ("txid from clock", any(&|txid, _| txid >= clock)),
         ("txid below line", any(&|txid, _| txid < line)),
         ("txid twice", ids.len() < count),
+        ("pin below line", pins.clone().any(|xmin| xmin < line)),
+        ("pin above clock", pins.clone().any(|xmin| xmin > clock)),
     ];
     named(&conditions)
 }

@@ -1,7 +1,7 @@
 //! The texts of a wait and of a table: read, or the first line that breaks a rule; and written.
 
 use super::events::{Event, Kind};
-use crate::table::{SLOTS, Slot, Table};
+use crate::table::{PINS, SLOTS, Slot, Table};
 use crate::trace::{BadTrace, LIMIT, Lines};
 use std::fmt::Write;
 
@@ -44,7 +44,7 @@ fn event(lines: &mut Lines) -> Result<Event, BadTrace> {
     })
 }
 
-/// The table that a text tells: every slot in order, then clock, sample and line, and nothing more.
+/// The table that a text tells: every slot in order, then every pin, then clock, sample and line, and nothing more.
 pub fn table(text: &[u8]) -> Result<Table, BadTrace> {
     let mut lines = Lines::of(text);
     header(&mut lines, b"table=proc-1")?;
@@ -54,9 +54,13 @@ pub fn table(text: &[u8]) -> Result<Table, BadTrace> {
         slot.txid = number(b"txid=")?;
         slot.snapshot_xmin = number(b"xmin=")?;
     }
+    let mut pins = [0; PINS];
+    for pin in &mut pins {
+        *pin = number(b"pin=")?;
+    }
     let (clock, sample, line) = (number(b"clock=")?, number(b"sample=")?, number(b"line=")?);
     if lines.is_empty() {
-        return Ok(Table::of(slots, clock, sample, line));
+        return Ok(Table::of(slots, pins, clock, sample, line));
     }
     let after = lines.broken().line + 1;
     Err(BadTrace { line: after })
@@ -88,6 +92,9 @@ pub fn text_of_table(table: &Table) -> String {
             snapshot_xmin,
         } = slot;
         writeln!(text, "txid={txid}\nxmin={snapshot_xmin}").expect("a String takes every byte");
+    }
+    for pin in table.pins() {
+        writeln!(text, "pin={pin}").expect("a String takes every byte");
     }
     let (clock, sample) = (table.clock(), table.sampled_clock());
     let line = table.vacuum_line();

@@ -2,7 +2,7 @@
 
 use crate::generate;
 use crate::random::Random;
-use crate::table::{SLOTS, Slot, Table};
+use crate::table::{PINS, SLOTS, Slot, Table};
 
 /// A table that passes the check.
 pub fn good(random: &mut Random) -> Table {
@@ -17,6 +17,7 @@ pub fn good(random: &mut Random) -> Table {
 /// A table in the making.
 struct Draft {
     slots: [Slot; SLOTS],
+    pins: [u64; PINS],
     clock: u64,
     sample: u64,
     line: u64,
@@ -26,8 +27,11 @@ impl Draft {
     fn of(table: &Table) -> Draft {
         let mut slots = [Slot::default(); SLOTS];
         slots.copy_from_slice(table.slots());
+        let mut pins = [0; PINS];
+        pins.copy_from_slice(table.pins());
         Draft {
             slots,
+            pins,
             clock: table.clock(),
             sample: table.sampled_clock(),
             line: table.vacuum_line(),
@@ -35,7 +39,8 @@ impl Draft {
     }
 
     fn table(&self) -> Table {
-        Table::of(self.slots, self.clock, self.sample, self.line)
+        let Draft { slots, pins, .. } = *self;
+        Table::of(slots, pins, self.clock, self.sample, self.line)
     }
 
     /// Places of the slots that are taken, or of those that are not.
@@ -45,13 +50,14 @@ impl Draft {
     }
 }
 
-/// All slots empty, and the counters at their edges.
+/// All slots empty, and the counters at their edges; pins at theirs.
 fn vacated(random: &mut Random) -> Table {
     let clock = random.pick(&[1, 2, 5, 1 << 32, u64::MAX - 1, u64::MAX]);
     let sample = random.pick(&[1, clock, clock.div_ceil(2)]);
     let line = random.pick(&[1, clock, clock.div_ceil(2)]);
     let draft = Draft {
         slots: [Slot::default(); SLOTS],
+        pins: pins(line, clock, random),
         clock,
         sample,
         line,
@@ -84,11 +90,30 @@ fn written(random: &mut Random) -> Table {
     let sample = random.pick(&[1, clock, line, id.max(1)]);
     let draft = Draft {
         slots,
+        pins: pins(line, clock, random),
         clock,
         sample,
         line,
     };
     draft.table()
+}
+
+/// None taken, all, some, or one; each from the line to the clock, often at an edge.
+fn pins(line: u64, clock: u64, random: &mut Random) -> [u64; PINS] {
+    let free_of_ten = random.pick(&[0, 1, 5, 9, 10, 10]);
+    let mut pins = [0; PINS];
+    for pin in &mut pins {
+        let any = random.between(line, clock);
+        let xmin = random.pick(&[line, clock, any]);
+        if random.below(10) >= free_of_ten {
+            *pin = xmin;
+        }
+    }
+    if random.once_in(8) {
+        pins = [0; PINS];
+        pins[random.pick(&EDGES)] = random.pick(&[line, clock]);
+    }
+    pins
 }
 
 /// So many different places, in no order; often the last one.
@@ -119,6 +144,7 @@ const DAMAGE: &[Damage] = &[
     |draft, random| {
         if random.once_in(2) {
             draft.slots = [Slot::default(); SLOTS];
+            draft.pins = [0; PINS];
         }
         draft.clock = draft.clock.min(u64::MAX - 1);
         draft.sample = draft.sample.min(draft.clock);
@@ -153,6 +179,17 @@ const DAMAGE: &[Damage] = &[
     },
     twice,
     |draft, random| {
+        let below = random.pick(&[1, draft.line.saturating_sub(1)]);
+        if below < draft.line && below > 0 {
+            draft.pins[random.pick(&EDGES)] = below;
+        }
+    },
+    |draft, random| {
+        draft.clock = draft.clock.min(u64::MAX - 1);
+        draft.sample = draft.sample.min(draft.clock);
+        draft.pins[random.pick(&EDGES)] = random.pick(&[draft.clock + 1, u64::MAX]);
+    },
+    |draft, random| {
         let any = [0, 1, draft.clock, u64::MAX, random.draw()];
         draft.clock = random.pick(&any);
         draft.sample = random.pick(&any);
@@ -164,12 +201,16 @@ const DAMAGE: &[Damage] = &[
                 txid: u64::MAX,
                 snapshot_xmin: u64::MAX,
             }; SLOTS],
+            pins: [u64::MAX; PINS],
             clock: u64::MAX,
             sample: u64::MAX,
             line: u64::MAX,
         }
     },
 ];
+
+/// The first pins, the last one, and one between.
+const EDGES: [usize; 4] = [0, 1, 40, PINS - 1];
 
 /// Changes a slot that is taken, or one that is not, if there is one.
 fn at(draft: &mut Draft, random: &mut Random, taken: bool, change: impl FnOnce(&mut Slot)) {

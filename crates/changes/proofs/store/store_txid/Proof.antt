@@ -28,6 +28,9 @@ store-at-requires-2 c κs = search needs
 enum-told-2 : tie.Need-enum-told-2
 enum-told-2 c = search needs
 
+enum-told-3 : tie.Need-enum-told-3
+enum-told-3 c = search needs
+
 returns : tie.Need-returns
 unfolding storedTxid
 returns c = rw (c .enum-told .given .1)
@@ -44,6 +47,10 @@ returns-4 : tie.Need-returns-4
 unfolding storedTxid
 returns-4 c = rw (c .enum-told2 .given .1)
 
+returns-5 : tie.Need-returns-5
+unfolding storedTxid
+returns-5 c = rw (c .enum-told3 .given .1)
+
 pub store-txid-spec : {M : Type 1} → statement M
 store-txid-spec =
     tie.close
@@ -56,7 +63,9 @@ store-txid-spec =
     cast-store-at-2
     store-at-requires-2
     enum-told-2
+    enum-told-3
     returns
     returns-2
     returns-3
-    returns-4)
+    returns-4
+    returns-5)

@@ -34,6 +34,9 @@ cast-store-at-3 c = search needs
 store-at-requires-3 : tie.Need-store-at-requires-3
 store-at-requires-3 c κs = search needs
 
+enum-told-2 : tie.Need-enum-told-2
+enum-told-2 c = search needs
+
 returns : tie.Need-returns
 unfolding storedXmin
 returns c = rw (c .enum-told .given .1)
@@ -50,6 +53,10 @@ returns-4 : tie.Need-returns-4
 unfolding storedXmin
 returns-4 c = rw (c .before .before .before .before .change3 .given .1) (c .store-at3 .ensures)
 
+returns-5 : tie.Need-returns-5
+unfolding storedXmin
+returns-5 c = rw (c .enum-told2 .given .1)
+
 pub store-xmin-spec : {M : Type 1} → statement M
 store-xmin-spec =
     tie.close
@@ -64,7 +71,9 @@ store-xmin-spec =
     enum-known-change-3
     cast-store-at-3
     store-at-requires-3
+    enum-told-2
     returns
     returns-2
     returns-3
-    returns-4)
+    returns-4
+    returns-5)

@@ -15,11 +15,11 @@ enum-known-verdict c = search needs
 enum-told : tie.Need-enum-told
 enum-told c = search needs
 
-oldest-retained-requires : tie.Need-oldest-retained-requires
-oldest-retained-requires c κs = search needs
+oldest-of-requires : tie.Need-oldest-of-requires
+oldest-of-requires c κs = search needs
 
-lowest-holder-requires : tie.Need-lowest-holder-requires
-lowest-holder-requires c κs = search needs
+holder-of-requires : tie.Need-holder-of-requires
+holder-of-requires c κs = search needs
 
 observed-requires : tie.Need-observed-requires
 observed-requires c κs = search needs
@@ -37,7 +37,7 @@ returns-2 c =
     let scanned = named .before in
     let arm = scanned .before in
     let passed = sym (arm .before .before .observation-test .ensures) ∙ arm .enum-told .given .1 in
-    rw (c .observed .ensures, named .lowest-holder .ensures, scanned .oldest-retained .ensures) (accepted-decides _ _ _ passed)
+    rw (c .observed .ensures, named .holder-of .ensures, scanned .oldest-of .ensures) (accepted-decides _ _ _ passed)
 
 pub decide-oldest-spec : {M : Type 1} → statement M
 decide-oldest-spec =
@@ -46,8 +46,8 @@ decide-oldest-spec =
     observation-test-requires
     enum-known-verdict
     enum-told
-    oldest-retained-requires
-    lowest-holder-requires
+    oldest-of-requires
+    holder-of-requires
     observed-requires
     returns
     returns-2)

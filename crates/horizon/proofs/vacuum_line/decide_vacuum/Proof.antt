@@ -15,14 +15,14 @@ enum-known-verdict c = search needs
 enum-told : tie.Need-enum-told
 enum-told c = search needs
 
-oldest-retained-requires : tie.Need-oldest-retained-requires
-oldest-retained-requires c κs = search needs
+oldest-of-requires : tie.Need-oldest-of-requires
+oldest-of-requires c κs = search needs
 
 greater-requires : tie.Need-greater-requires
 greater-requires c κs = search needs
 
-lowest-holder-requires : tie.Need-lowest-holder-requires
-lowest-holder-requires c κs = search needs
+holder-of-requires : tie.Need-holder-of-requires
+holder-of-requires c κs = search needs
 
 returns : tie.Need-returns
 unfolding refusal
@@ -37,7 +37,7 @@ returns-2 c =
     let scanned = raised .before in
     let arm = scanned .before in
     let passed = sym (arm .before .before .observation-test .ensures) ∙ arm .enum-told .given .1 in
-    rw (c .lowest-holder .ensures, raised .greater .ensures, scanned .oldest-retained .ensures) (accepted-decides _ _ _ passed)
+    rw (c .holder-of .ensures, raised .greater .ensures, scanned .oldest-of .ensures) (accepted-decides _ _ _ passed)
 
 pub decide-vacuum-spec : {M : Type 1} → statement M
 decide-vacuum-spec =
@@ -46,8 +46,8 @@ decide-vacuum-spec =
     observation-test-requires
     enum-known-verdict
     enum-told
-    oldest-retained-requires
+    oldest-of-requires
     greater-requires
-    lowest-holder-requires
+    holder-of-requires
     returns
     returns-2)

@@ -94,6 +94,24 @@ enum-told-10 c = search needs
 bare-number-requires-10 : tie.Need-bare-number-requires-10
 bare-number-requires-10 c κs = search needs
 
+enum-known-r-5 : tie.Need-enum-known-r-5
+enum-known-r-5 c = search needs
+
+cast-numbers-3 : tie.Need-cast-numbers-3
+cast-numbers-3 c = search needs
+
+numbers-requires-5 : tie.Need-numbers-requires-5
+numbers-requires-5 c κs = search needs
+
+enum-known-r-6 : tie.Need-enum-known-r-6
+enum-known-r-6 c = search needs
+
+cast-numbers-4 : tie.Need-cast-numbers-4
+cast-numbers-4 c = search needs
+
+numbers-requires-6 : tie.Need-numbers-requires-6
+numbers-requires-6 c κs = search needs
+
 enum-told-11 : tie.Need-enum-told-11
 enum-told-11 c = search needs
 
@@ -106,11 +124,17 @@ enum-told-12 c = search needs
 bare-number-requires-12 : tie.Need-bare-number-requires-12
 bare-number-requires-12 c κs = search needs
 
-enum-known-r-5 : tie.Need-enum-known-r-5
-enum-known-r-5 c = search needs
+enum-told-13 : tie.Need-enum-told-13
+enum-told-13 c = search needs
 
-numbers-requires-5 : tie.Need-numbers-requires-5
-numbers-requires-5 c κs = search needs
+bare-number-requires-13 : tie.Need-bare-number-requires-13
+bare-number-requires-13 c κs = search needs
+
+enum-known-r-7 : tie.Need-enum-known-r-7
+enum-known-r-7 c = search needs
+
+numbers-requires-7 : tie.Need-numbers-requires-7
+numbers-requires-7 c κs = search needs
 
 returns : tie.Need-returns
 unfolding told
@@ -170,15 +194,27 @@ returns-14 c = rw (c .before .enum-told10 .given .1) (c .bare-number10 .ensures)
 
 returns-15 : tie.Need-returns-15
 unfolding told
-returns-15 c = rw (c .before .enum-told11 .given .1) (c .bare-number11 .ensures)
+returns-15 c = rw (c .before .before .before .r5 .given .1) (c .numbers5 .ensures)
 
 returns-16 : tie.Need-returns-16
 unfolding told
-returns-16 c = rw (c .before .enum-told12 .given .1) (c .bare-number12 .ensures)
+returns-16 c = rw (c .before .before .before .r6 .given .1) (c .numbers6 .ensures)
 
 returns-17 : tie.Need-returns-17
 unfolding told
-returns-17 c = rw (c .before .before .r5 .given .1) (c .numbers5 .ensures)
+returns-17 c = rw (c .before .enum-told11 .given .1) (c .bare-number11 .ensures)
+
+returns-18 : tie.Need-returns-18
+unfolding told
+returns-18 c = rw (c .before .enum-told12 .given .1) (c .bare-number12 .ensures)
+
+returns-19 : tie.Need-returns-19
+unfolding told
+returns-19 c = rw (c .before .enum-told13 .given .1) (c .bare-number13 .ensures)
+
+returns-20 : tie.Need-returns-20
+unfolding told
+returns-20 c = rw (c .before .before .r7 .given .1) (c .numbers7 .ensures)
 
 pub tell-spec : {M : Type 1} → statement M
 tell-spec =
@@ -214,12 +250,20 @@ tell-spec =
     bare-number-requires-9
     enum-told-10
     bare-number-requires-10
+    enum-known-r-5
+    cast-numbers-3
+    numbers-requires-5
+    enum-known-r-6
+    cast-numbers-4
+    numbers-requires-6
     enum-told-11
     bare-number-requires-11
     enum-told-12
     bare-number-requires-12
-    enum-known-r-5
-    numbers-requires-5
+    enum-told-13
+    bare-number-requires-13
+    enum-known-r-7
+    numbers-requires-7
     returns
     returns-2
     returns-3
@@ -236,4 +280,7 @@ tell-spec =
     returns-14
     returns-15
     returns-16
-    returns-17)
+    returns-17
+    returns-18
+    returns-19
+    returns-20)

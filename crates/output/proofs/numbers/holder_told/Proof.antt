@@ -22,6 +22,9 @@ enum-told-3 c = search needs
 enum-told-4 : tie.Need-enum-told-4
 enum-told-4 c = search needs
 
+enum-told-5 : tie.Need-enum-told-5
+enum-told-5 c = search needs
+
 returns : tie.Need-returns
 unfolding holderTold
 returns c = rw (c .before .answer .given .1)
@@ -46,6 +49,10 @@ returns-6 : tie.Need-returns-6
 unfolding holderTold
 returns-6 c = rw (c .enum-told4 .given .1)
 
+returns-7 : tie.Need-returns-7
+unfolding holderTold
+returns-7 c = rw (c .enum-told5 .given .1)
+
 pub holder-told-spec : {M : Type 1} → statement M
 holder-told-spec =
     tie.close
@@ -56,9 +63,11 @@ holder-told-spec =
     enum-told-2
     enum-told-3
     enum-told-4
+    enum-told-5
     returns
     returns-2
     returns-3
     returns-4
     returns-5
-    returns-6)
+    returns-6
+    returns-7)

@@ -43,6 +43,15 @@ enum-known-answer-3 c = search needs
 tell-requires : tie.Need-tell-requires
 tell-requires c κs = search needs
 
+enum-known-answer-4 : tie.Need-enum-known-answer-4
+enum-known-answer-4 c = search needs
+
+cast-accepted-with-2 : tie.Need-cast-accepted-with-2
+cast-accepted-with-2 c = search needs
+
+accepted-with-requires-6 : tie.Need-accepted-with-requires-6
+accepted-with-requires-6 c κs = search needs
+
 returns : tie.Need-returns
 unfolding tellsOf
 returns c = rw (c .before .before .before .answer .given .1) (c .accepted-with .ensures)
@@ -67,6 +76,10 @@ returns-6 : tie.Need-returns-6
 unfolding tellsOf
 returns-6 c = rw (c .before .before .answer3 .given .1) (c .tell .ensures)
 
+returns-7 : tie.Need-returns-7
+unfolding tellsOf
+returns-7 c = rw (c .before .before .before .answer4 .given .1) (c .accepted-with6 .ensures)
+
 pub tells-of-spec : {M : Type 1} → statement M
 tells-of-spec =
     tie.close
@@ -84,9 +97,13 @@ tells-of-spec =
     accepted-with-requires-5
     enum-known-answer-3
     tell-requires
+    enum-known-answer-4
+    cast-accepted-with-2
+    accepted-with-requires-6
     returns
     returns-2
     returns-3
     returns-4
     returns-5
-    returns-6)
+    returns-6
+    returns-7)

@@ -22,6 +22,9 @@ enum-told-4 c = search needs
 enum-told-5 : tie.Need-enum-told-5
 enum-told-5 c = search needs
 
+enum-told-6 : tie.Need-enum-told-6
+enum-told-6 c = search needs
+
 returns : tie.Need-returns
 unfolding xminTold
 returns c = rw (c .before .answer .given .1)
@@ -46,6 +49,10 @@ returns-6 : tie.Need-returns-6
 unfolding xminTold
 returns-6 c = rw (c .enum-told5 .given .1)
 
+returns-7 : tie.Need-returns-7
+unfolding xminTold
+returns-7 c = rw (c .enum-told6 .given .1)
+
 pub xmin-told-spec : {M : Type 1} → statement M
 xmin-told-spec =
     tie.close
@@ -56,9 +63,11 @@ xmin-told-spec =
     enum-told-3
     enum-told-4
     enum-told-5
+    enum-told-6
     returns
     returns-2
     returns-3
     returns-4
     returns-5
-    returns-6)
+    returns-6
+    returns-7)

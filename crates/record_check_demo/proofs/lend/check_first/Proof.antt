@@ -20,8 +20,10 @@ use Rattle.hand_proofs.proofs.Words.{no-more, from, stop}
 use Rattle.hand_proofs.proofs.Words.{hands, calls-as, lands, spreads, gathers, cuts, joins, run, lends, returns}
 use Rattle.record_check.specs.Run.{runPasses}
 use Rattle.record_check.specs.declared.Slot.{Slot}
-use Rattle.record_check.proofs.Types.{count, slot}
+use Rattle.record_check.specs.declared.Rest.{Rest}
+use Rattle.record_check.proofs.Types.{count, slot, the-rest}
 use Rattle.record_check.proofs.Slot as T
+use Rattle.record_check.proofs.Rest as R
 use Rattle.record_check.proofs.check_run as g
 use Rattle.record_check_demo.proofs.lend.check_first as f
 
@@ -47,15 +49,15 @@ module _ {M : Type 1} {𝓤 : URA M} {H : Heap 𝓤} (w : World 𝓤 H) where
   abbrev records : Plain w (Array T.the-row room)
   records = row-of w (slot w) room
 
-  module _ (check : Callee w Check g.Symbol.name) (ys : List Slot) (k clock sample line : ℕ) where
+  module _ (check : Callee w Check g.Symbol.name) (ys : List Slot) (k : ℕ) (rest : Rest) where
     abbrev y : Call w P
     y = (
       (
         tt,
         tt,
         tt,
-        (ys, (k, (clock, (sample, (line, tt))))),
-        (records .vals ys, (vint w64 k ∷ [], (vint w64 clock ∷ [], (vint w64 sample ∷ [], (vint w64 line ∷ [], tt))))),
+        (ys, (k, (rest, tt))),
+        (records .vals ys, (vint w64 k ∷ [], (the-rest w .vals rest, tt))),
       ),
       tt,
     )
@@ -65,7 +67,7 @@ module _ {M : Type 1} {𝓤 : URA M} {H : Heap 𝓤} (w : World 𝓤 H) where
 
     -- the clause, as it stands in both contracts
     abbrev Says : Bool → SProp 𝓤
-    Says r = asked 𝓤 H (w .atoms) (w .run) (f.⟦kinds·SLOTS⟧-code tt) tt (λ n. fact 𝓤 (r ≡ runPasses n front clock sample line))
+    Says r = asked 𝓤 H (w .atoms) (w .run) (f.⟦kinds·SLOTS⟧-code tt) tt (λ n. fact 𝓤 (r ≡ runPasses n front rest))
 
     -- what `check_run` is passed: a reference to the first records, in block b, at the lifetime α
     abbrev to : ℕ → ℕ → ℕ → Call w Check
@@ -74,36 +76,35 @@ module _ {M : Type 1} {𝓤 : URA M} {H : Heap 𝓤} (w : World 𝓤 H) where
         (α ∷ [], tt),
         (fullShare, tt),
         tt,
-        (run w (slot w) front b γ, (clock, (sample, (line, tt)))),
-        (sliceVal (b, 0) (length front) ∷ [], (vint w64 clock ∷ [], (vint w64 sample ∷ [], (vint w64 line ∷ [], tt)))),
+        (run w (slot w) front b γ, (rest, tt)),
+        (sliceVal (b, 0) (length front) ∷ [], (the-rest w .vals rest, tt)),
       ),
       tt,
     )
 
-    walk : Is (Array T.the-row room) ys (records .vals ys) → k < 2 ^ 64 → clock < 2 ^ 64 → sample < 2 ^ 64 → line < 2 ^ 64 → k ≤ length ys
+    walk : Is (Array T.the-row room) ys (records .vals ys) → k < 2 ^ 64 → Is R.the-row rest (the-rest w .vals rest) → k ≤ length ys
         → Walk w P f.Code.function y
-    walk is k-fits clock-fits sample-fits line-fits there = λ l₀ l₁ l₂ l₃ l₄ l₅ l₆ l₇ l₈.
-        -- [the tokens; what the arguments own; _0; ..; _8; ..]
+    walk is k-fits rest-is there = λ l₀ l₁ l₂ l₃ l₄ l₅ l₆.
+        -- [the tokens; what the arguments own; _0; ..; _6; ..]
         sets ! 2 (of-opd ! (local ! 2 refl)) refl (records .lawful .typed ys (records .vals ys) is .0) $
         sets ! 2 (addr ! (from ! (stop !))) refl (tt, tt) $
         sets ! 2 (agg ! (and-then ! (local ! 2 refl) (and-then ! (local ! 2 refl) (no-more !)))) refl
         (tt, (tt, (record { fits = k-fits }, tt))) $
-        rewrite ! 10 (λ (m : ℕ). ‵ (fat fullShare run-type l₈ 0 (sliceVal (l₆, 0) m))) (sym (length-take-le k ys there)) refl $
-        -- the first records of _6 are lent; the others stay in its place
-        move ! (8 ∷ []) $ spreads w (slot w) ! tt room ys l₆ _ is $ cuts w (slot w) ! ys k l₆ $ move ! (1 ∷ []) $ back ! 9 $
-        lends w (slot w) front l₆ ! tt front-room (λ α γ.
+        rewrite ! 8 (λ (m : ℕ). ‵ (fat fullShare run-type l₆ 0 (sliceVal (l₄, 0) m))) (sym (length-take-le k ys there)) refl $
+        -- the first records of _4 are lent; the others stay in its place
+        move ! (6 ∷ []) $ spreads w (slot w) ! tt room ys l₄ _ is $ cuts w (slot w) ! ys k l₄ $ move ! (1 ∷ []) $ back ! 7 $
+        lends w (slot w) front l₄ ! tt front-room (λ α γ.
         -- [the token; what the lent records own; what gives them back; the tokens; what the arguments own; _0; ..]
-        hands w ! Check (to l₆ α γ) refl
-        (made w (u64 ∷ u64 ∷ u64 ∷ []) (word w, (word w, (word w, tt))) (to l₆ α γ .0 .3 .1) (to l₆ α γ .0 .4 .1)
-        ((refl, clock-fits), ((refl, sample-fits), ((refl, line-fits), tt)))) $
-        calls-as w ! Check check (to l₆ α γ) (id⊢ 𝓤 (emp 𝓤)) Says (λ r ws. id⊢ 𝓤 _)
-        (locals ! 4 (refl, (refl, (refl, (refl, tt))))) (λ v r ris.
+        hands w ! Check (to l₄ α γ) refl
+        (made w (R.the-row ∷ []) (the-rest w, tt) (to l₄ α γ .0 .3 .1) (to l₄ α γ .0 .4 .1) (rest-is, tt)) $
+        calls-as w ! Check check (to l₄ α γ) (id⊢ 𝓤 (emp 𝓤)) Says (λ r ws. id⊢ 𝓤 _)
+        (locals ! 4 (refl, (refl, tt))) (λ v r ris.
         drop ! $ lands ! 5 refl (truth w .lawful .typed r (v ∷ []) ris .0) $
         -- [the token; the clause; what gives them back; the tokens; what the arguments own; _0; ..]
-        move ! (0 ∷ 2 ∷ []) $ returns w (slot w) front l₆ ! tt α $
-        move ! (0 ∷ 10 ∷ []) $ joins w (slot w) ! ys k l₆ $ gathers w (slot w) ! room ys l₆ (is .1 .0 .1) (λ u _. back ! 9 $
+        move ! (0 ∷ 2 ∷ []) $ returns w (slot w) front l₄ ! tt α $
+        move ! (0 ∷ 8 ∷ []) $ joins w (slot w) ! ys k l₄ $ gathers w (slot w) ! room ys l₄ (is .1 .0 .1) (λ u _. back ! 7 $
         leaves ! 3 refl refl $ keep ! (1 ∷ 0 ∷ []) $ owned w ! (truth w) r v ris $
-        by ! (ends-as w P y v r (tt, (tt, (tt, (tt, (tt, tt)))))))))
+        by ! (ends-as w P y v r (tt, (tt, (tt, tt)))))))
       where
         front-room : Room T.the-row (length front)
         front-room =
@@ -112,10 +113,10 @@ module _ {M : Type 1} {𝓤 : URA M} {H : Heap 𝓤} (w : World 𝓤 H) where
 
   meets : Callee w Check g.Symbol.name → Proved w P f.Code.function
   meets check =
-      walks-if w P f.Code.function (by-value w records (λ κs x f. refl), (number w, (number w, (number w, (number w, tt))))) (λ κs a t. t)
+      walks-if w P f.Code.function
+      (by-value w records (λ κs x f. refl), (number w, (by-value w (the-rest w) (λ κs x f. refl), tt))) (λ κs a t. t)
       (λ κs a g. a .1 .0 ≤ length (a .0)) (λ κs a g. id⊢ 𝓤 _)
-      (λ κs qs bounds a g are typed there. walk check (a .0) (a .1 .0) (a .1 .1 .0) (a .1 .1 .1 .0) (a .1 .1 .1 .1 .0)
-      (are .0) (are .1 .0 .1) (are .1 .1 .0 .1) (are .1 .1 .1 .0 .1) (are .1 .1 .1 .1 .0 .1) there)
+      (λ κs qs bounds a g are typed there. walk check (a .0) (a .1 .0) (a .1 .1 .0) (are .0) (are .1 .0 .1) (are .1 .1 .0) there)
 
 pub check-first-spec : {M : Type 1} → f.Statement.statement M
 unfolding f.Code.routine

@@ -28,6 +28,12 @@ try-number-requires-7 c κs = search needs
 try-number-requires-8 : tie.Need-try-number-requires-8
 try-number-requires-8 c κs = search needs
 
+try-number-requires-9 : tie.Need-try-number-requires-9
+try-number-requires-9 c κs = search needs
+
+try-number-requires-10 : tie.Need-try-number-requires-10
+try-number-requires-10 c κs = search needs
+
 returns : tie.Need-returns
 unfolding opNumbered
 returns c =
@@ -38,15 +44,19 @@ returns c =
     let vacuum = oldest .before in
     let stamp = vacuum .before in
     let finish = stamp .before in
+    let pin = finish .before in
+    let unpin = pin .before in
     rw (
-      c .try-number8 .ensures,
-      end .try-number7 .ensures,
-      snap .try-number6 .ensures,
-      own .try-number5 .ensures,
-      oldest .try-number4 .ensures,
-      vacuum .try-number3 .ensures,
-      stamp .try-number2 .ensures,
-      finish .try-number .ensures,
+      c .try-number10 .ensures,
+      end .try-number9 .ensures,
+      snap .try-number8 .ensures,
+      own .try-number7 .ensures,
+      oldest .try-number6 .ensures,
+      vacuum .try-number5 .ensures,
+      stamp .try-number4 .ensures,
+      finish .try-number3 .ensures,
+      pin .try-number2 .ensures,
+      unpin .try-number .ensures,
     )
 
 pub op-of-spec : {M : Type 1} → statement M
@@ -61,4 +71,6 @@ op-of-spec =
     try-number-requires-6
     try-number-requires-7
     try-number-requires-8
+    try-number-requires-9
+    try-number-requires-10
     returns)

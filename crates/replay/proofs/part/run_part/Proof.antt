@@ -4,7 +4,7 @@ use Prim.Native.Nat.{_-_}
 use mathlib.Core.Path.{_≡_, refl, sym, ap, _∙_}
 use native.Mathlib.Omega.{arith}
 use lib.ListN.{length, length-map}
-use Rattle.model.proofs.Stores.{stored-txid-long, stored-xmin-long, stored-applied}
+use Rattle.model.proofs.Stores.{stored-txid-long, stored-xmin-long, stored-pin-long, stored-applied}
 use Rattle.trace.specs.Trace.{Boundary}
 use Rattle.trace.specs.Record.{anyForm}
 use Rattle.trace.proofs.Shape.{any-facts}
@@ -20,13 +20,14 @@ Inv-loop version s from buf₀ t₀ at₀ filled₀ buf t at filled =
     (length buf ≡ length buf₀)
     × (length (t .txids) ≡ length (t₀ .txids))
     × (length (t .«snapshot_xmins») ≡ length (t₀ .«snapshot_xmins»))
+    × (length (t .pins) ≡ length (t₀ .pins))
     × (Boundary s from → Running version (length (t₀ .txids)) s from t₀ buf₀ buf t at filled)
 
 abbrev μ-loop : tie.MeasureT-loop
 μ-loop version s from buf₀ t₀ at₀ filled₀ buf t at filled = length s - at
 
 loop-holds : tie.Need-loop-holds Inv-loop μ-loop
-loop-holds c = (refl, refl, refl, λ h. running-start _ _ _ _ _ _ refl h)
+loop-holds c = (refl, refl, refl, refl, λ h. running-start _ _ _ _ _ _ refl h)
 
 next-record-requires : tie.Need-next-record-requires Inv-loop μ-loop
 next-record-requires c κs = search needs
@@ -46,7 +47,7 @@ returns c =
     let asked = c .before .before in
     let l = asked .before .before .loop in
     let broken = sym (asked .next-record .ensures) ∙ c .enum-told .given .1 in
-    absurd (none-broken anyForm any-facts _ _ _ (l .inv .3 h .boundary) (asked .before .loop-test .taken) (record-is _ _ broken))
+    absurd (none-broken anyForm any-facts _ _ _ (l .inv .4 h .boundary) (asked .before .loop-test .taken) (record-is _ _ broken))
 
 run-record-requires : tie.Need-run-record-requires Inv-loop μ-loop
 run-record-requires c κs = search needs
@@ -60,15 +61,15 @@ enum-told-2 c = search needs
 same-length-2 : tie.Need-same-length-2 Inv-loop μ-loop
 same-length-2 c =
     let ran = c .before .before .before .before .before in
-    let read = ran .before .before .before .before .before in
+    let read = ran .before .before .before .before .before .before .before in
     let found = read .before .before .before .before in
-    ran .run-record .kept .1 .1 .1 .1 .1 .0 ∙ found .before .before .before .before .loop .inv .0
+    ran .run-record .kept .1 .1 .1 .1 .1 .1 .0 ∙ found .before .before .before .before .loop .inv .0
 
 returns-2 : tie.Need-returns-2 Inv-loop μ-loop
 returns-2 c =
     λ h.
     let ran = c .before .before .before .before .before in
-    let read = ran .before .before .before .before .before in
+    let read = ran .before .before .before .before .before .before .before in
     let found = read .before .before .before .before in
     let looped = found .before .before .before .before in
     let l = looped .loop in
@@ -76,7 +77,7 @@ returns-2 c =
     let q = sym (found .before .before .next-record .ensures) ∙ found .found .given .1 in
     let o = ran .run-record .ensures in
     let there = ran-there (l .inv .1 ∙ size) (o .0) (o .1) in
-    running-full _ _ _ _ _ _ (rw size at (l .inv .3 h)) _ _ q there (c .enum-told2 .given .1)
+    running-full _ _ _ _ _ _ (rw size at (l .inv .4 h)) _ _ q there (c .enum-told2 .given .1)
 
 store-txid-requires : tie.Need-store-txid-requires Inv-loop μ-loop
 store-txid-requires c κs = search needs
@@ -84,12 +85,16 @@ store-txid-requires c κs = search needs
 store-xmin-requires : tie.Need-store-xmin-requires Inv-loop μ-loop
 store-xmin-requires c κs = search needs
 
+store-pin-requires : tie.Need-store-pin-requires Inv-loop μ-loop
+store-pin-requires c κs = search needs
+
 loop-less : tie.Need-loop-less Inv-loop μ-loop
 loop-less c =
     let stored = c .before .before .before .before in
-    let put = stored .before .before .before .before .before in
+    let slots = stored .before .before in
+    let put = slots .before .before .before .before .before in
     let ran = put .before .before .before .before .before in
-    let read = ran .before .before .before .before .before in
+    let read = ran .before .before .before .before .before .before .before in
     let found = read .before .before .before .before in
     let looped = found .before .before .before .before in
     let l = looped .loop in
@@ -100,32 +105,38 @@ loop-less c =
 loop-again : tie.Need-loop-again Inv-loop μ-loop
 loop-again c =
     let stored = c .before .before .before .before in
-    let put = stored .before .before .before .before .before in
+    let slots = stored .before .before in
+    let put = slots .before .before .before .before .before in
     let ran = put .before .before .before .before .before in
-    let read = ran .before .before .before .before .before in
+    let read = ran .before .before .before .before .before .before .before in
     let found = read .before .before .before .before in
     let looped = found .before .before .before .before in
     let l = looped .loop in
     let s = looped .before .before .before in
-    let kept = ran .run-record .kept .1 .1 .1 .1 .1 .0 in
-    let one = stored .before .before .store-txid .ensures in
-    let two = stored .store-xmin .ensures in
+    let kept = ran .run-record .kept .1 .1 .1 .1 .1 .1 .0 in
+    let one = slots .before .before .store-txid .ensures in
+    let two = slots .store-xmin .ensures in
+    let three = stored .store-pin .ensures in
     let size = simp length-map at (s .good .1 .1 .1 .0 .1 .1 .0 .1 .0 .1) in
     let size′ = simp length-map at (s .good .1 .1 .1 .0 .1 .1 .1 .0 .1 .0 .1) in
+    let size″ = simp length-map at (s .good .1 .1 .1 .0 .1 .1 .1 .1 .0 .1 .0 .1) in
     let txids = l .inv .1 ∙ size in
     let xmins = l .inv .2 ∙ size′ in
+    let pins = l .inv .3 ∙ size″ in
     let long = ap length one ∙ stored-txid-long _ _ txids _ in
-    let long′ = ap length two ∙ stored-xmin-long _ _ xmins _ in (
+    let long′ = ap length two ∙ stored-xmin-long _ _ xmins _ in
+    let long″ = ap length three ∙ stored-pin-long _ pins _ in (
       kept ∙ l .inv .0,
       long ∙ l .inv .1,
       long′ ∙ l .inv .2,
+      long″ ∙ l .inv .3,
       λ h.
           let q = sym (found .before .before .next-record .ensures) ∙ found .found .given .1 in
           let o = ran .run-record .ensures in
           let there = ran-there txids (o .0) (o .1) in
-          let made = stored-applied _ (l .t) (ran .run-record .result .change) txids xmins one two in
+          let made = stored-applied _ (l .t) (ran .run-record .result .change) txids xmins pins one two three in
           rw size
-          (running-more _ _ _ _ _ _ (rw size at (l .inv .3 h)) _ _ q there (put .put .given .1) kept made (long ∙ txids)),
+          (running-more _ _ _ _ _ _ (rw size at (l .inv .4 h)) _ _ q there (put .put .given .1) kept made (long ∙ txids)),
     )
 
 same-length-3 : tie.Need-same-length-3 Inv-loop μ-loop
@@ -137,7 +148,7 @@ returns-3 c =
     let l = c .before .loop in
     let s = c .before .before .before .before in
     let size = simp length-map at (s .good .1 .1 .1 .0 .1 .1 .0 .1 .0 .1) in
-    running-over _ _ _ _ _ _ (rw size at (l .inv .3 h)) (c .loop-test .left)
+    running-over _ _ _ _ _ _ (rw size at (l .inv .4 h)) (c .loop-test .left)
 
 pub run-part-spec : {M : Type 1} → statement M
 run-part-spec =
@@ -158,6 +169,7 @@ run-part-spec =
     returns-2
     store-txid-requires
     store-xmin-requires
+    store-pin-requires
     loop-less
     loop-again
     same-length-3

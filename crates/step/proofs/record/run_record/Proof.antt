@@ -3,7 +3,7 @@
 use mathlib.Core.Path.{refl, _∙_}
 use borrow.Author.Tests.{lt-leb}
 use Rattle.model.specs.Calls.{shownAccepted}
-use Rattle.model.proofs.Lent.{lent-decides, lent-stamps}
+use Rattle.model.proofs.Lent.{slots-show, lent-decides, lent-stamps, lent-pins, lent-releases}
 use Rattle.step.specs.Named.{callOf}
 use Rattle.step.specs.Step.{ran, ranLeft}
 use Rattle.step.proofs.Prints.{plain-ran, plain-left, listing-ran, listing-left}
@@ -81,6 +81,21 @@ decide-finish-requires c κs = search needs
 put-plain-requires-6 : tie.Need-put-plain-requires-6
 put-plain-requires-6 c κs = search needs
 
+enum-told-9 : tie.Need-enum-told-9
+enum-told-9 c = search needs
+
+run-pin-requires : tie.Need-run-pin-requires
+run-pin-requires c κs = search needs
+
+enum-told-10 : tie.Need-enum-told-10
+enum-told-10 c = search needs
+
+decide-unpin-requires : tie.Need-decide-unpin-requires
+decide-unpin-requires c κs = search needs
+
+put-plain-requires-7 : tie.Need-put-plain-requires-7
+put-plain-requires-7 c κs = search needs
+
 same-length : tie.Need-same-length
 same-length c = search needs
 
@@ -119,8 +134,9 @@ returns-4 c =
     let told = run .before .before in
     let op = told .enum-told3 .given .1 in
     let few = told .before .before .if1 .left in
+    let e = slots-show _ _ _ few refl in
     let o = run .run-snap .ensures in
-    rw op (o .0 ∙ listing-ran _ _ _ _ few _ _ refl refl, o .1 ∙ listing-left _ _ _ _ few _ _ refl refl)
+    rw op (o .0 ∙ listing-ran _ _ _ _ few _ _ e, o .1 ∙ listing-left _ _ _ _ few _ _ e)
 
 same-length-4 : tie.Need-same-length-4
 same-length-4 c = search needs
@@ -132,8 +148,9 @@ returns-5 c =
     let told = run .before .before in
     let op = told .enum-told4 .given .1 in
     let few = told .before .before .if1 .left in
+    let e = slots-show _ _ _ few refl in
     let o = run .run-own .ensures in
-    rw op (o .0 ∙ listing-ran _ _ _ _ few _ _ refl refl, o .1 ∙ listing-left _ _ _ _ few _ _ refl refl)
+    rw op (o .0 ∙ listing-ran _ _ _ _ few _ _ e, o .1 ∙ listing-left _ _ _ _ few _ _ e)
 
 same-length-5 : tie.Need-same-length-5
 same-length-5 c = search needs
@@ -191,6 +208,34 @@ returns-9 c =
     let o = put .put-plain6 .ensures in
     rw op (o .0 ∙ plain-ran _ _ _ _ few _ _ e refl, o .1 ∙ plain-left _ _ _ _ few _ _ e refl)
 
+same-length-9 : tie.Need-same-length-9
+same-length-9 c = search needs
+
+returns-10 : tie.Need-returns-10
+unfolding callOf shownAccepted
+returns-10 c =
+    let run = c .before .before in
+    let told = run .before .before in
+    let op = told .enum-told9 .given .1 in
+    let few = told .before .before .if1 .left in
+    let e = lent-pins _ _ _ _ few in
+    let o = run .run-pin .ensures in
+    rw op (o .0 ∙ listing-ran _ _ _ _ few _ _ e, o .1 ∙ listing-left _ _ _ _ few _ _ e)
+
+same-length-10 : tie.Need-same-length-10
+same-length-10 c = search needs
+
+returns-11 : tie.Need-returns-11
+unfolding callOf shownAccepted
+returns-11 c =
+    let put = c .before .before in
+    let d = put .before .before in
+    let op = d .before .enum-told10 .given .1 in
+    let few = d .before .before .before .if1 .left in
+    let e = d .decide-unpin .ensures ∙ lent-releases _ _ _ in
+    let o = put .put-plain7 .ensures in
+    rw op (o .0 ∙ plain-ran _ _ _ _ few _ _ e refl, o .1 ∙ plain-left _ _ _ _ few _ _ e refl)
+
 pub run-record-spec : {M : Type 1} → statement M
 run-record-spec =
     tie.close
@@ -218,6 +263,11 @@ run-record-spec =
     enum-told-8
     decide-finish-requires
     put-plain-requires-6
+    enum-told-9
+    run-pin-requires
+    enum-told-10
+    decide-unpin-requires
+    put-plain-requires-7
     same-length
     returns-2
     same-length-2
@@ -233,4 +283,8 @@ run-record-spec =
     same-length-7
     returns-8
     same-length-8
-    returns-9)
+    returns-9
+    same-length-9
+    returns-10
+    same-length-10
+    returns-11)

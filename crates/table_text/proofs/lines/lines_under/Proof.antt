@@ -2,23 +2,23 @@
 use Prim.Native.Nat.{_-_, _≤_}
 use mathlib.Core.Path.{_∙_}
 use lib.ListN.{length}
-use Rattle.table_text.proofs.Walk.{Left, left-start, slot-room, left-next, counter-room, left-over}
+use Rattle.table_text.proofs.Walk.{Left, under, left-start, slot-room, left-next, pins-room, left-over}
 use native.Mathlib.Omega.{arith}
 use borrow.Author.Needs.{needs}
 use Rattle.table_text.proofs.lines.lines_under.Statement.{statement}
 use Rattle.table_text.proofs.lines.lines_under.Tie as tie
 
 abbrev Inv-loop : tie.InvT-loop
-Inv-loop buf₀ at txids xmins counters past₀ i₀ buf past i =
-    (i ≤ length txids) × Left txids xmins counters buf₀ at buf past i
+Inv-loop buf₀ at txids xmins pins counters past₀ i₀ buf past i =
+    (i ≤ length txids) × Left (under txids xmins pins counters) buf₀ at buf past i
 
 abbrev μ-loop : tie.MeasureT-loop
-μ-loop buf₀ at txids xmins counters past₀ i₀ buf past i = length txids - i
+μ-loop buf₀ at txids xmins pins counters past₀ i₀ buf past i = length txids - i
 
 loop-holds : tie.Need-loop-holds Inv-loop μ-loop
 loop-holds c =
-    let a = c .before .before .before .args in
-    (omega arith, left-start (a .txids .now) (a .xmins .now) (a .counters) (a .buf .now) (a .at))
+    let a = c .before .before .before .before .args in
+    (omega arith, left-start (a .txids .now) (a .xmins .now) (a .pins .now) (a .counters) (a .buf .now) (a .at))
 
 mul-txid : tie.Need-mul-txid Inv-loop μ-loop
 mul-txid c = search needs
@@ -36,9 +36,9 @@ slot-lines-requires : tie.Need-slot-lines-requires Inv-loop μ-loop
 slot-lines-requires c κs =
     let looped = c .before .before .before .before in
     let l = looped .loop in
-    let s = looped .before .before .before .before in
+    let s = looped .before .before .before .before .before in
     let a = s .args in
-    slot-room (a .txids .now) (a .xmins .now) (a .counters) (a .buf .now) (a .at) (s .pre .1) (l .buf) (l .past) (l .i) (omega arith)
+    slot-room (a .txids .now) (a .xmins .now) (a .pins .now) (a .counters) (a .buf .now) (a .at) (s .pre .1) (l .buf) (l .past) (l .i) (omega arith)
     (omega arith) (l .inv .1)
 
 add-i : tie.Need-add-i Inv-loop μ-loop
@@ -52,36 +52,36 @@ loop-again c =
     let put = c .before .before in
     let looped = put .before .before .before .before .before in
     let l = looped .loop in
-    let s = looped .before .before .before .before in
+    let s = looped .before .before .before .before .before in
     let a = s .args in (
       omega arith,
-      left-next (a .txids .now) (a .xmins .now) (a .counters) (a .buf .now) (a .at) (s .pre .1) (l .buf) (l .past) (l .i) (omega arith)
+      left-next (a .txids .now) (a .xmins .now) (a .pins .now) (a .counters) (a .buf .now) (a .at) (s .pre .1) (l .buf) (l .past) (l .i) (omega arith)
           (omega arith) (l .inv .1) (put .slot-lines .ensures),
     )
 
-counter-lines-requires : tie.Need-counter-lines-requires Inv-loop μ-loop
-counter-lines-requires c κs =
+pin-lines-requires : tie.Need-pin-lines-requires Inv-loop μ-loop
+pin-lines-requires c κs =
     let looped = c .before .before in
     let l = looped .loop in
-    let s = looped .before .before .before .before in
+    let s = looped .before .before .before .before .before in
     let a = s .args in
-    counter-room (a .txids .now) (a .xmins .now) (a .counters) (a .buf .now) (a .at) (s .pre .1) (l .buf) (l .past) (l .i) (omega arith)
+    pins-room (a .txids .now) (a .xmins .now) (a .pins .now) (a .counters) (a .buf .now) (a .at) (s .pre .1) (l .buf) (l .past) (l .i) (omega arith)
     (omega arith) (l .inv .1)
 
 same-length : tie.Need-same-length Inv-loop μ-loop
 same-length c =
     let put = c .before .before in
-    put .counter-lines .ensures .size ∙ put .before .before .before .loop .inv .1 .size
+    put .pin-lines .ensures .size ∙ put .before .before .before .loop .inv .1 .size
 
 returns : tie.Need-returns Inv-loop μ-loop
 returns c =
     let put = c .before .before in
     let looped = put .before .before .before in
     let l = looped .loop in
-    let s = looped .before .before .before .before in
+    let s = looped .before .before .before .before .before in
     let a = s .args in
-    left-over (a .txids .now) (a .xmins .now) (a .counters) (a .buf .now) (a .at) (s .pre .1) (l .buf) (l .past) (l .i) (omega arith)
-    (omega arith) (l .inv .1) (put .counter-lines .ensures)
+    left-over (a .txids .now) (a .xmins .now) (a .pins .now) (a .counters) (a .buf .now) (a .at) (s .pre .1) (l .buf) (l .past) (l .i) (omega arith)
+    (omega arith) (l .inv .1) (put .pin-lines .ensures)
 
 pub lines-under-spec : {M : Type 1} → statement M
 lines-under-spec =
@@ -98,6 +98,6 @@ lines-under-spec =
     add-i
     loop-less
     loop-again
-    counter-lines-requires
+    pin-lines-requires
     same-length
     returns)

@@ -10,16 +10,16 @@ use Rattle.table_text.proofs.measure.length_under.Statement.{statement}
 use Rattle.table_text.proofs.measure.length_under.Tie as tie
 
 abbrev Inv-loop : tie.InvT-loop
-Inv-loop txids xmins counters total₀ i₀ total i =
-    (i ≤ length txids) × (total ≤ 52 * i) × (length (linesUnder txids xmins counters) ≡ total + length (under txids xmins counters i))
+Inv-loop txids xmins pins counters total₀ i₀ total i =
+    (i ≤ length txids) × (total ≤ 52 * i) × (length (linesUnder txids xmins pins counters) ≡ total + length (under txids xmins pins counters i))
 
 abbrev μ-loop : tie.MeasureT-loop
-μ-loop txids xmins counters total₀ i₀ total i = length txids - i
+μ-loop txids xmins pins counters total₀ i₀ total i = length txids - i
 
 loop-holds : tie.Need-loop-holds Inv-loop μ-loop
 loop-holds c =
-    let a = c .before .before .args in
-    (omega arith, omega arith, none-counted (a .txids .now) (a .xmins .now) (a .counters))
+    let a = c .before .before .before .args in
+    (omega arith, omega arith, none-counted (a .txids .now) (a .xmins .now) (a .pins .now) (a .counters))
 
 mul-txid : tie.Need-mul-txid Inv-loop μ-loop
 mul-txid c = search needs
@@ -51,24 +51,24 @@ loop-again : tie.Need-loop-again Inv-loop μ-loop
 loop-again c =
     let looped = c .before .before .before .before in
     let l = looped .loop in
-    let a = looped .before .before .before .args in
+    let a = looped .before .before .before .before .args in
     let more = c .slot-length .ensures in
-    let here = here-length (a .txids .now) (a .xmins .now) (a .counters) (l .i) (omega arith) (omega arith) in
+    let here = here-length (a .txids .now) (a .xmins .now) (a .pins .now) (a .counters) (l .i) (omega arith) (omega arith) in
     (omega arith, omega (arith, l .inv .1, more .1), omega (arith, l .inv .2, more .0, here))
 
-counter-length-requires : tie.Need-counter-length-requires Inv-loop μ-loop
-counter-length-requires c κs = search needs
+pins-length-requires : tie.Need-pins-length-requires Inv-loop μ-loop
+pins-length-requires c κs = search needs
 
 add-result : tie.Need-add-result Inv-loop μ-loop
 add-result c =
-    omega (arith, c .before .before .loop .inv .1, c .counter-length .ensures .1)
+    omega (arith, c .before .before .loop .inv .1, c .pins-length .ensures .1)
 
 returns : tie.Need-returns Inv-loop μ-loop
 returns c =
     let l = c .before .before .loop in
-    let a = c .before .before .before .before .before .args in
-    let more = c .counter-length .ensures in
-    let over = ap length (under-over (a .txids .now) (a .xmins .now) (a .counters) (l .i) (omega arith) (omega arith)) in
+    let a = c .before .before .before .before .before .before .args in
+    let more = c .pins-length .ensures in
+    let over = ap length (under-over (a .txids .now) (a .xmins .now) (a .pins .now) (a .counters) (l .i) (omega arith) (omega arith)) in
     (omega (arith, l .inv .2, more .0, over), omega (arith, l .inv .1, more .1))
 
 pub length-under-spec : {M : Type 1} → statement M
@@ -87,6 +87,6 @@ length-under-spec =
     add-i
     loop-less
     loop-again
-    counter-length-requires
+    pins-length-requires
     add-result
     returns)

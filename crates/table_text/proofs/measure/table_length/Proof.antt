@@ -13,7 +13,7 @@ add-result c = search needs
 
 returns : tie.Need-returns
 returns c =
-    let a = c .before .before .before .before .before .before .before .args in
+    let a = c .before .before .before .before .before .before .before .before .before .args in
     omega (arith, table-length (a .t1), c .length-under .ensures .0)
 
 pub table-length-spec : {M : Type 1} → statement M

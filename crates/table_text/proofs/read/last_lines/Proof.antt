@@ -1,4 +1,4 @@
--- The three lines one after the other, then the end. A place `x-read` is where the line x was read (crate's proofs/Reading.antt).
+-- The three lines after the pins one after the other, then the end. A place `x-read` is where the line x was read (crate's proofs/Reading.antt).
 use mathlib.Core.Path.{sym, _∙_}
 use Rattle.table_text.proofs.Reading.{clock-broken, sample-broken, line-broken, more-stands, all-read}
 use borrow.Author.Needs.{needs}
@@ -23,7 +23,7 @@ no-table-requires c κs = search needs
 returns : tie.Need-returns
 returns c =
     let asked = c .before .before .before in
-    c .no-table .ensures ∙ clock-broken _ _ _ _ _ _ (sym (asked .field-at .ensures) ∙ c .before .enum-told .given .1)
+    c .no-table .ensures ∙ clock-broken _ _ _ _ _ _ _ (sym (asked .field-at .ensures) ∙ c .before .enum-told .given .1)
 
 slice-aggregate-field-at-2 : tie.Need-slice-aggregate-field-at-2
 slice-aggregate-field-at-2 c = search needs
@@ -48,7 +48,7 @@ returns-2 c =
     let told = c .before in
     let clock-read = told .before .before .before .before .before in
     c .no-table2 .ensures
-    ∙ sample-broken _ _ _ _ _ _
+    ∙ sample-broken _ _ _ _ _ _ _
     (sym (clock-read .before .before .field-at .ensures) ∙ clock-read .clock .given .1)
     (sym (told .before .before .field-at2 .ensures) ∙ told .enum-told2 .given .1)
 
@@ -76,7 +76,7 @@ returns-3 c =
     let sample-read = told .before .before .before .before .before in
     let clock-read = sample-read .before .before .before .before .before in
     c .no-table3 .ensures
-    ∙ line-broken _ _ _ _ _ _
+    ∙ line-broken _ _ _ _ _ _ _
     (sym (clock-read .before .before .field-at .ensures) ∙ clock-read .clock .given .1)
     (sym (sample-read .before .before .field-at2 .ensures) ∙ sample-read .sampled-clock .given .1)
     (sym (told .before .before .field-at3 .ensures) ∙ told .enum-told3 .given .1)
@@ -93,7 +93,7 @@ returns-4 c =
     let sample-read = line-read .before .before .before .before .before in
     let clock-read = sample-read .before .before .before .before .before in
     c .no-table4 .ensures
-    ∙ more-stands _ _ _ _ _ _
+    ∙ more-stands _ _ _ _ _ _ _
     (sym (clock-read .before .before .field-at .ensures) ∙ clock-read .clock .given .1)
     (sym (sample-read .before .before .field-at2 .ensures) ∙ sample-read .sampled-clock .given .1)
     (sym (line-read .before .before .field-at3 .ensures) ∙ line-read .vacuum-line .given .1)
@@ -104,7 +104,7 @@ returns-5 c =
     let line-read = c .before .before in
     let sample-read = line-read .before .before .before .before .before in
     let clock-read = sample-read .before .before .before .before .before in
-    all-read _ _ _ _ _ _
+    all-read _ _ _ _ _ _ _
     (sym (clock-read .before .before .field-at .ensures) ∙ clock-read .clock .given .1)
     (sym (sample-read .before .before .field-at2 .ensures) ∙ sample-read .sampled-clock .given .1)
     (sym (line-read .before .before .field-at3 .ensures) ∙ line-read .vacuum-line .given .1)

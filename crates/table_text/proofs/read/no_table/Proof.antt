@@ -10,9 +10,12 @@ zeros-requires c κs = search needs
 zeros-requires-2 : tie.Need-zeros-requires-2
 zeros-requires-2 c κs = search needs
 
+free-pins-requires : tie.Need-free-pins-requires
+free-pins-requires c κs = search needs
+
 returns : tie.Need-returns
 unfolding brokenAt
 returns c = cc
 
 pub no-table-spec : {M : Type 1} → statement M
-no-table-spec = tie.close (tie.spec zeros-requires zeros-requires-2 returns)
+no-table-spec = tie.close (tie.spec zeros-requires zeros-requires-2 free-pins-requires returns)

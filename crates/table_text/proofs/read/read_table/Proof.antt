@@ -134,8 +134,8 @@ loop-again c =
     let xmin = sym (xmin-read .before .before .field-at2 .ensures) ∙ xmin-read .xmin .given .1 in
     reading-next _ _ _ _ _ _ (looped .loop .inv) found (omega arith) txid xmin
 
-last-lines-requires : tie.Need-last-lines-requires Inv-loop μ-loop
-last-lines-requires c κs = search needs
+pin-lines-requires : tie.Need-pin-lines-requires Inv-loop μ-loop
+pin-lines-requires c κs = search needs
 
 returns-4 : tie.Need-returns-4 Inv-loop μ-loop
 returns-4 c =
@@ -143,7 +143,7 @@ returns-4 c =
     let size = zeros-size (looped .before .before .zeros .ensures) in
     let head = looped .before .before .before in
     let found = sym (head .before .headed .ensures) ∙ not-false _ (head .if1 .left) in
-    c .last-lines .ensures ∙ reading-over _ _ _ _ _ _ (rw size at (looped .loop .inv)) found (omega arith)
+    c .pin-lines .ensures ∙ reading-over _ _ _ _ _ _ (rw size at (looped .loop .inv)) found (omega arith)
 
 pub read-table-spec : {M : Type 1} → statement M
 read-table-spec =
@@ -180,5 +180,5 @@ read-table-spec =
     add-i
     loop-less
     loop-again
-    last-lines-requires
+    pin-lines-requires
     returns-4)

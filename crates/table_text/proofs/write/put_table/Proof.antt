@@ -33,7 +33,7 @@ first-line-requires c κs =
 
 lines-under-requires : tie.Need-lines-under-requires
 lines-under-requires c κs =
-    let put = c .before .before .before .before .before .before .before .before in
+    let put = c .before .before .before .before .before .before .before .before .before .before in
     let s = put .before .before .before .before .before .before .before in
     let a = s .args in
     let txids = simp length-map at (s .good .1 .1 .0 .1 .1 .0 .1 .0 .1) in
@@ -47,7 +47,7 @@ same-length c = search needs
 returns-3 : tie.Need-returns-3
 returns-3 c =
     let put = c .before .before in
-    let first = put .before .before .before .before .before .before .before .before .before in
+    let first = put .before .before .before .before .before .before .before .before .before .before .before in
     let s = first .before .before .before .before .before .before .before in
     let a = s .args in
     let size = first .before .before .before .before .before .table-length .ensures in

@@ -54,6 +54,18 @@ slice-aggregate-try-name-8 c = search needs
 try-name-requires-8 : tie.Need-try-name-requires-8
 try-name-requires-8 c κs = search needs
 
+slice-aggregate-try-name-9 : tie.Need-slice-aggregate-try-name-9
+slice-aggregate-try-name-9 c = search needs
+
+try-name-requires-9 : tie.Need-try-name-requires-9
+try-name-requires-9 c κs = search needs
+
+slice-aggregate-try-name-10 : tie.Need-slice-aggregate-try-name-10
+slice-aggregate-try-name-10 c = search needs
+
+try-name-requires-10 : tie.Need-try-name-requires-10
+try-name-requires-10 c κs = search needs
+
 returns : tie.Need-returns
 returns c =
     let end = c .before .before in
@@ -63,15 +75,19 @@ returns c =
     let vacuum = oldest .before .before in
     let stamp = vacuum .before .before in
     let finish = stamp .before .before in
+    let pin = finish .before .before in
+    let unpin = pin .before .before in
     rw (
-      c .try-name8 .ensures,
-      end .try-name7 .ensures,
-      snap .try-name6 .ensures,
-      own .try-name5 .ensures,
-      oldest .try-name4 .ensures,
-      vacuum .try-name3 .ensures,
-      stamp .try-name2 .ensures,
-      finish .try-name .ensures,
+      c .try-name10 .ensures,
+      end .try-name9 .ensures,
+      snap .try-name8 .ensures,
+      own .try-name7 .ensures,
+      oldest .try-name6 .ensures,
+      vacuum .try-name5 .ensures,
+      stamp .try-name4 .ensures,
+      finish .try-name3 .ensures,
+      pin .try-name2 .ensures,
+      unpin .try-name .ensures,
     ) (first-tried Is Unknown opName ops _ _)
 
 pub name-at-spec : {M : Type 1} → statement M
@@ -94,4 +110,8 @@ name-at-spec =
     try-name-requires-7
     slice-aggregate-try-name-8
     try-name-requires-8
+    slice-aggregate-try-name-9
+    try-name-requires-9
+    slice-aggregate-try-name-10
+    try-name-requires-10
     returns)

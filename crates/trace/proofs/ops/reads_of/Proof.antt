@@ -51,6 +51,18 @@ enum-told-8 c = search needs
 reads-requires-8 : tie.Need-reads-requires-8
 reads-requires-8 c κs = search needs
 
+enum-told-9 : tie.Need-enum-told-9
+enum-told-9 c = search needs
+
+reads-requires-9 : tie.Need-reads-requires-9
+reads-requires-9 c κs = search needs
+
+enum-told-10 : tie.Need-enum-told-10
+enum-told-10 c = search needs
+
+reads-requires-10 : tie.Need-reads-requires-10
+reads-requires-10 c κs = search needs
+
 returns : tie.Need-returns
 returns c = rw (c .before .enum-told .given .1) (c .reads .ensures)
 
@@ -75,6 +87,12 @@ returns-7 c = rw (c .before .enum-told7 .given .1) (c .reads7 .ensures)
 returns-8 : tie.Need-returns-8
 returns-8 c = rw (c .before .enum-told8 .given .1) (c .reads8 .ensures)
 
+returns-9 : tie.Need-returns-9
+returns-9 c = rw (c .before .enum-told9 .given .1) (c .reads9 .ensures)
+
+returns-10 : tie.Need-returns-10
+returns-10 c = rw (c .before .enum-told10 .given .1) (c .reads10 .ensures)
+
 pub reads-of-spec : {M : Type 1} → statement M
 reads-of-spec =
     tie.close
@@ -95,6 +113,10 @@ reads-of-spec =
     reads-requires-7
     enum-told-8
     reads-requires-8
+    enum-told-9
+    reads-requires-9
+    enum-told-10
+    reads-requires-10
     returns
     returns-2
     returns-3
@@ -102,4 +124,6 @@ reads-of-spec =
     returns-5
     returns-6
     returns-7
-    returns-8)
+    returns-8
+    returns-9
+    returns-10)

@@ -10,16 +10,17 @@ use Rattle.grammar.proofs.Laws.{head-is, no-head}
 use Rattle.trace.specs.Version.{headerOf, headerAt}
 use Rattle.trace.specs.Trace.{traceGrammar}
 use Rattle.trace.specs.declared.Version.{Version}
-use Rattle.trace.specs.declared.Version.the-variants.{Proc1, Proc2}
+use Rattle.trace.specs.declared.Version.the-variants.{Proc1, Proc2, Proc3}
 use Rattle.trace.proofs.Shape.{trace-grammar}
 use borrow.Author.Needs.{needs}
 use Rattle.trace.proofs.versions.header_at.Statement.{statement}
 use Rattle.trace.proofs.versions.header_at.Tie as tie
 
-neither : (s : List ℕ) → starts (headerOf Proc1) (drop 0 s) ≡ false → starts (headerOf Proc2) (drop 0 s) ≡ false
-    → (v : Version) → starts (headerOf v) (drop 0 s) ≡ false
-neither s p q Proc1 = p
-neither s p q Proc2 = q
+none : (s : List ℕ) → starts (headerOf Proc1) (drop 0 s) ≡ false → starts (headerOf Proc2) (drop 0 s) ≡ false
+    → starts (headerOf Proc3) (drop 0 s) ≡ false → (v : Version) → starts (headerOf v) (drop 0 s) ≡ false
+none s p q r Proc1 = p
+none s p q r Proc2 = q
+none s p q r Proc3 = r
 
 slice-aggregate-bytes-at : tie.Need-slice-aggregate-bytes-at
 slice-aggregate-bytes-at c = search needs
@@ -41,12 +42,24 @@ returns-2 : tie.Need-returns-2
 unfolding headerAt nameLine
 returns-2 c = rw (head-is traceGrammar trace-grammar _ Proc2 (sym (c .before .bytes-at2 .ensures) ∙ c .if2 .taken))
 
+slice-aggregate-bytes-at-3 : tie.Need-slice-aggregate-bytes-at-3
+slice-aggregate-bytes-at-3 c = search needs
+
+bytes-at-requires-3 : tie.Need-bytes-at-requires-3
+bytes-at-requires-3 c κs = search needs
+
 returns-3 : tie.Need-returns-3
 unfolding headerAt nameLine
-returns-3 c =
-    let first = c .before .before .before in
+returns-3 c = rw (head-is traceGrammar trace-grammar _ Proc3 (sym (c .before .bytes-at3 .ensures) ∙ c .if3 .taken))
+
+returns-4 : tie.Need-returns-4
+unfolding headerAt nameLine
+returns-4 c =
+    let second = c .before .before .before in
+    let first = second .before .before .before in
     let one = sym (first .before .bytes-at .ensures) ∙ first .if1 .left in
-    rw (no-head traceGrammar trace-grammar _ (neither _ one (sym (c .before .bytes-at2 .ensures) ∙ c .if2 .left)))
+    let two = sym (second .before .bytes-at2 .ensures) ∙ second .if2 .left in
+    rw (no-head traceGrammar trace-grammar _ (none _ one two (sym (c .before .bytes-at3 .ensures) ∙ c .if3 .left)))
 
 pub header-at-spec : {M : Type 1} → statement M
 header-at-spec =
@@ -58,4 +71,7 @@ header-at-spec =
     slice-aggregate-bytes-at-2
     bytes-at-requires-2
     returns-2
-    returns-3)
+    slice-aggregate-bytes-at-3
+    bytes-at-requires-3
+    returns-3
+    returns-4)

@@ -1,7 +1,7 @@
 -- The header is the line of `trace=proc-` and a number (crate's proofs/Texts.antt).
 use mathlib.Core.Path.{_∙_}
 use Rattle.text.proofs.Placed.{placed-same}
-use Rattle.trace.specs.declared.Version.the-variants.{Proc1, Proc2}
+use Rattle.trace.specs.declared.Version.the-variants.{Proc1, Proc2, Proc3}
 use Rattle.trace_writer.proofs.Texts.{header-line, header-room}
 use borrow.Author.Needs.{needs}
 use Rattle.trace_writer.proofs.lines.header.Statement.{statement}
@@ -31,6 +31,18 @@ line-requires-2 c κs =
     let s = arm .before .before .before in
     header-room Proc2 (s .args .buf .now) (rw (arm .enum-told2 .given .1) at (s .pre))
 
+enum-told-3 : tie.Need-enum-told-3
+enum-told-3 c = search needs
+
+slice-aggregate-line-3 : tie.Need-slice-aggregate-line-3
+slice-aggregate-line-3 c = search needs
+
+line-requires-3 : tie.Need-line-requires-3
+line-requires-3 c κs =
+    let arm = c .before .before in
+    let s = arm .before .before .before in
+    header-room Proc3 (s .args .buf .now) (rw (arm .enum-told3 .given .1) at (s .pre))
+
 same-length : tie.Need-same-length
 same-length c = search needs
 
@@ -47,6 +59,14 @@ returns-2 c =
     let put = c .before .before in
     rw (put .before .before .before .enum-told2 .given .1) (placed-same (header-line Proc2) (put .line2 .ensures))
 
+same-length-3 : tie.Need-same-length-3
+same-length-3 c = search needs
+
+returns-3 : tie.Need-returns-3
+returns-3 c =
+    let put = c .before .before in
+    rw (put .before .before .before .enum-told3 .given .1) (placed-same (header-line Proc3) (put .line3 .ensures))
+
 pub header-spec : {M : Type 1} → statement M
 header-spec =
     tie.close
@@ -57,7 +77,12 @@ header-spec =
     enum-told-2
     slice-aggregate-line-2
     line-requires-2
+    enum-told-3
+    slice-aggregate-line-3
+    line-requires-3
     same-length
     returns
     same-length-2
-    returns-2)
+    returns-2
+    same-length-3
+    returns-3)

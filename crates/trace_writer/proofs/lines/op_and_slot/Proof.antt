@@ -1,5 +1,5 @@
 -- An arm for each op: its line and the slot's are one key and one number (crate's proofs/Texts.antt).
-use Rattle.trace.specs.declared.Op.the-variants.{Begin, End, Snap, Own, Oldest, Vacuum, Stamp, Finish}
+use Rattle.trace.specs.declared.Op.the-variants.{Begin, End, Snap, Own, Oldest, Vacuum, Stamp, Finish, Pin, Unpin}
 use Rattle.trace_writer.proofs.Texts.{two-room, two-placed}
 use borrow.Author.Needs.{needs}
 use Rattle.trace_writer.proofs.lines.op_and_slot.Statement.{statement}
@@ -101,6 +101,30 @@ line-requires-8 c κs =
     let s = told .before .before .before in
     two-room (s .args .op) Finish (s .args .slot) (s .args .at) _ (told .enum-told8 .given .1) (s .pre)
 
+enum-told-9 : tie.Need-enum-told-9
+enum-told-9 c = search needs
+
+slice-aggregate-line-9 : tie.Need-slice-aggregate-line-9
+slice-aggregate-line-9 c = search needs
+
+line-requires-9 : tie.Need-line-requires-9
+line-requires-9 c κs =
+    let told = c .before .before in
+    let s = told .before .before .before in
+    two-room (s .args .op) Pin (s .args .slot) (s .args .at) _ (told .enum-told9 .given .1) (s .pre)
+
+enum-told-10 : tie.Need-enum-told-10
+enum-told-10 c = search needs
+
+slice-aggregate-line-10 : tie.Need-slice-aggregate-line-10
+slice-aggregate-line-10 c = search needs
+
+line-requires-10 : tie.Need-line-requires-10
+line-requires-10 c κs =
+    let told = c .before .before in
+    let s = told .before .before .before in
+    two-room (s .args .op) Unpin (s .args .slot) (s .args .at) _ (told .enum-told10 .given .1) (s .pre)
+
 same-length : tie.Need-same-length
 same-length c = search needs
 
@@ -181,6 +205,26 @@ returns-8 c =
     let s = told .before .before .before in
     two-placed (s .args .op) Finish (s .args .slot) (told .enum-told8 .given .1) (line .line8 .ensures)
 
+same-length-9 : tie.Need-same-length-9
+same-length-9 c = search needs
+
+returns-9 : tie.Need-returns-9
+returns-9 c =
+    let line = c .before .before in
+    let told = line .before .before .before in
+    let s = told .before .before .before in
+    two-placed (s .args .op) Pin (s .args .slot) (told .enum-told9 .given .1) (line .line9 .ensures)
+
+same-length-10 : tie.Need-same-length-10
+same-length-10 c = search needs
+
+returns-10 : tie.Need-returns-10
+returns-10 c =
+    let line = c .before .before in
+    let told = line .before .before .before in
+    let s = told .before .before .before in
+    two-placed (s .args .op) Unpin (s .args .slot) (told .enum-told10 .given .1) (line .line10 .ensures)
+
 pub op-and-slot-spec : {M : Type 1} → statement M
 op-and-slot-spec =
     tie.close
@@ -209,6 +253,12 @@ op-and-slot-spec =
     enum-told-8
     slice-aggregate-line-8
     line-requires-8
+    enum-told-9
+    slice-aggregate-line-9
+    line-requires-9
+    enum-told-10
+    slice-aggregate-line-10
+    line-requires-10
     same-length
     returns
     same-length-2
@@ -224,4 +274,8 @@ op-and-slot-spec =
     same-length-7
     returns-7
     same-length-8
-    returns-8)
+    returns-8
+    same-length-9
+    returns-9
+    same-length-10
+    returns-10)

@@ -25,7 +25,7 @@ enum-told-2 c = search needs
 
 run-steps-requires : tie.Need-run-steps-requires
 run-steps-requires c κs =
-    let lent = c .before .before .before .before .before .before .before in
+    let lent = c .before .before .before .before .before .before .before .before .before in
     let whole = lent .before .before in
     whole-opens _ _ (sym (whole .before .before .read-wait .ensures) ∙ whole .enum-told .given .1)
 
@@ -37,7 +37,7 @@ returns c =
 returns-2 : tie.Need-returns-2
 returns-2 c =
     let tested = c .before .before .before in
-    let lent = tested .before .before .before .before .before in
+    let lent = tested .before .before .before .before .before .before .before in
     let whole = lent .before .before in
     let read = sym (whole .before .before .read-wait .ensures) ∙ whole .enum-told .given .1 in
     wait-refused _ _ _ _ _ _ read (sym (tested .entry-test .ensures) ∙ c .before .entry .given .1)
@@ -45,7 +45,7 @@ returns-2 c =
 returns-3 : tie.Need-returns-3
 returns-3 c =
     let tested = c .before .before .before in
-    let lent = tested .before .before .before .before .before in
+    let lent = tested .before .before .before .before .before .before .before in
     let whole = lent .before .before in
     let read = sym (whole .before .before .read-wait .ensures) ∙ whole .enum-told .given .1 in
     c .run-steps .ensures ∙ wait-stepped _ _ _ _ _ read (sym (tested .entry-test .ensures) ∙ c .before .enum-told2 .given .1)

@@ -2,7 +2,7 @@
 use mathlib.Core.Path.{sym, _∙_}
 use borrow.Author.Tests.{eq-eqb, ne-eqb, le-leb, lt-leb}
 use Rattle.wait.specs.Steps.{horizonRule}
-use Rattle.wait.proofs.Kept.{retained-self}
+use Rattle.model.proofs.Tally.{retained-self}
 use borrow.Author.Needs.{needs}
 use Rattle.wait.proofs.rules.may_set_horizon.Statement.{statement}
 use Rattle.wait.proofs.rules.may_set_horizon.Tie as tie

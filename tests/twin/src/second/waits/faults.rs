@@ -73,6 +73,10 @@ const STEPS: &[&str] = &[
     "slot-low-bits",
     "slot-after-last-inside",
     "last-slot-outside",
+    "pins-released",
+    "end-releases-pin",
+    "register-takes-pin",
+    "horizon-to-pins",
     "steps-on-entry",
     "first-event-only",
     "last-event-unchecked",
@@ -90,6 +94,12 @@ const CHECK: &[&str] = &[
     "check-line-to-xmin",
     "check-xmin-to-least",
     "check-ids-rise",
+    "check-pin-above-line",
+    "check-pin-below-clock",
+    "check-pin-to-sample",
+    "check-pin-to-least",
+    "check-pins-free",
+    "check-pins-taken",
 ];
 
 /// Faults in the answer.

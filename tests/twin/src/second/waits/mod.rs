@@ -1,6 +1,6 @@
 //! The second reading of a wait: all grounds for a refusal first, and then the order chooses among them.
 //!
-//! A table is one list of numbers here, as its text has them: each slot's two, then clock, sample and line.
+//! A table is one list of numbers here, as its text has them: each slot's two, then the pins, then clock, sample and line.
 
 mod faults;
 mod passes;

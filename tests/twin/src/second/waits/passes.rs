@@ -1,10 +1,11 @@
-//! The table check of the second reading: ten ways to fail it, one by one.
+//! The table check of the second reading: twelve ways to fail it, one by one.
 
 use super::WaitFault;
+use super::read::PINS;
 use crate::table::SLOTS;
 
 /// What a table that passes has nowhere.
-pub const CONDITIONS: [&str; 10] = [
+pub const CONDITIONS: [&str; 12] = [
     "sample-0",
     "sample-above-clock",
     "line-0",
@@ -15,6 +16,8 @@ pub const CONDITIONS: [&str; 10] = [
     "txid-from-clock",
     "txid-below-line",
     "txid-twice",
+    "pin-below-line",
+    "pin-above-clock",
 ];
 
 pub fn passes(numbers: &[u128], fault: WaitFault) -> bool {
@@ -32,8 +35,13 @@ fn taken(numbers: &[u128]) -> impl Iterator<Item = (u128, u128)> {
     pairs(numbers).filter(|pair| pair.0 > 0)
 }
 
+fn pins(numbers: &[u128]) -> impl Iterator<Item = u128> {
+    let pins = &numbers[2 * SLOTS..2 * SLOTS + PINS];
+    pins.iter().copied().filter(|xmin| *xmin > 0)
+}
+
 fn counters(numbers: &[u128]) -> [u128; 3] {
-    [0, 1, 2].map(|place| numbers[2 * SLOTS + place])
+    [0, 1, 2].map(|place| numbers[2 * SLOTS + PINS + place])
 }
 
 fn has(numbers: &[u128], condition: &str, fault: WaitFault) -> bool {
@@ -49,6 +57,8 @@ fn has(numbers: &[u128], condition: &str, fault: WaitFault) -> bool {
         "xmin-above-txid" => taken.any(|(txid, xmin)| xmin > txid),
         "txid-from-clock" => taken.any(|(txid, _)| txid >= clock),
         "txid-below-line" => taken.any(|(txid, _)| txid < line),
+        "pin-below-line" => pins(numbers).any(|xmin| xmin < line),
+        "pin-above-clock" => pins(numbers).any(|xmin| xmin > clock),
         _ => twice(numbers, fault),
     }
 }
@@ -77,6 +87,14 @@ fn stricter(numbers: &[u128], fault: WaitFault) -> bool {
         _ if fault.is("check-line-below-txid") => any(&|txid, _| txid == line),
         _ if fault.is("check-line-to-xmin") => any(&|_, xmin| xmin < line),
         _ if fault.is("check-xmin-to-least") => any(&|_, xmin| Some(xmin) > least),
+        _ if fault.is("check-pin-above-line") => pins(numbers).any(|xmin| xmin == line),
+        _ if fault.is("check-pin-below-clock") => pins(numbers).any(|xmin| xmin == clock),
+        _ if fault.is("check-pin-to-sample") => pins(numbers).any(|xmin| xmin > sample),
+        _ if fault.is("check-pin-to-least") => {
+            pins(numbers).any(|xmin| Some(xmin) > least.or(Some(xmin)))
+        }
+        _ if fault.is("check-pins-free") => pins(numbers).next().is_some(),
+        _ if fault.is("check-pins-taken") => pins(numbers).count() < PINS,
         _ if fault.is("check-ids-rise") => !taken(numbers).map(|pair| pair.0).is_sorted(),
         _ => false,
     }

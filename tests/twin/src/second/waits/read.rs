@@ -4,9 +4,12 @@ use super::super::read::{self, Grammar, Line6};
 use super::WaitFault;
 use crate::table::SLOTS;
 
+/// How many pins stand between the slots and the counters.
+pub const PINS: usize = 64;
+
 /// The wait's, with the events in their order.
 const WAIT: Grammar = Grammar {
-    headers: &["wait=proc-1"],
+    headers: &[("wait=proc-1", 5)],
     keys: ["event=", "slot=", "id=", "xmin=", "clock=", "sample="],
     items: &[
         ("register", [true, true, false, false, false]),
@@ -20,7 +23,7 @@ const WAIT: Grammar = Grammar {
 
 /// The same with a trace's header.
 const TRACE_HEADED: Grammar = Grammar {
-    headers: &["trace=proc-1"],
+    headers: &[("trace=proc-1", 5)],
     ..WAIT
 };
 
@@ -34,12 +37,13 @@ pub fn events(input: &[u8], fault: WaitFault) -> (Vec<Line6>, Option<usize>) {
 /// The keys of a table's text after its first line, each with its sign.
 pub fn keys(slots: usize) -> Vec<&'static str> {
     let mut keys = ["txid=", "xmin="].repeat(slots);
+    keys.extend(["pin="; PINS]);
     keys.extend(["clock=", "sample=", "line="]);
     keys
 }
 
 pub fn fresh() -> Vec<u128> {
-    let mut numbers = vec![0; 2 * SLOTS];
+    let mut numbers = vec![0; 2 * SLOTS + PINS];
     numbers.extend([1; 3]);
     numbers
 }

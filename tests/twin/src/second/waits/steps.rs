@@ -2,6 +2,7 @@
 
 use super::super::read::Line6;
 use super::WaitFault;
+use super::read::PINS;
 use crate::table;
 use crate::waits::check::Owner;
 use std::collections::BTreeMap;
@@ -56,6 +57,8 @@ const RESERVE: usize = 3;
 #[derive(Clone)]
 struct Steps {
     taken: BTreeMap<u128, (u128, u128)>,
+    /// As they were; a fault alone moves them.
+    pins: Vec<u128>,
     clock: u128,
     sample: u128,
     line: u128,
@@ -68,11 +71,13 @@ impl Steps {
         let pairs = entry[..2 * table::SLOTS].chunks(2);
         let pairs = (0..).zip(pairs.map(|pair| (pair[0], pair[1])));
         let nobody = fault.is("nobody-is-slot-0").then_some(0);
+        let (pins, counters) = entry[2 * table::SLOTS..].split_at(PINS);
         Steps {
             taken: pairs.filter(|(_, pair)| pair.0 > 0).collect(),
-            clock: entry[2 * table::SLOTS],
-            sample: entry[2 * table::SLOTS + 1],
-            line: entry[2 * table::SLOTS + 2],
+            pins: pins.to_vec(),
+            clock: counters[0],
+            sample: counters[1],
+            line: counters[2],
             owner: owner.map(|owner| owner.0.into()).or(nobody),
             fault,
         }
@@ -90,7 +95,12 @@ impl Steps {
                 None => {}
             }
         }
-        numbers[2 * table::SLOTS..].copy_from_slice(&[self.clock, self.sample, self.line]);
+        numbers.truncate(2 * table::SLOTS);
+        numbers.extend(&self.pins);
+        numbers.extend([self.clock, self.sample, self.line]);
+        if self.fault.is("pins-released") {
+            numbers[2 * table::SLOTS..][..PINS].fill(0);
+        }
         numbers
     }
 
@@ -168,6 +178,10 @@ impl Steps {
                 self.taken.values().map(|pair| pair.1).min().unwrap_or(own)
             }
             _ if fault.is("horizon-to-sample") => least.min(self.sample),
+            _ if fault.is("horizon-to-pins") => {
+                let pins = self.pins.iter().copied().filter(|xmin| *xmin > 0);
+                pins.min().unwrap_or(least).min(least)
+            }
             _ if fault.is("horizon-below-least") => least - 1,
             _ if fault.is("horizon-unbounded") => TOP,
             _ => least,
@@ -218,6 +232,11 @@ impl Steps {
         if fault.is("register-moves-sample") {
             self.sample = self.clock;
         }
+        if let Some(free) = self.pins.iter().position(|xmin| *xmin == 0)
+            && fault.is("register-takes-pin")
+        {
+            self.pins[free] = id;
+        }
     }
 
     fn end(&mut self, slot: u128) {
@@ -226,6 +245,11 @@ impl Steps {
         }
         if self.fault.is("end-moves-clock") {
             self.clock = (self.clock + 1).min(TOP);
+        }
+        if let Some(pin) = self.pins.get_mut(slot as usize)
+            && self.fault.is("end-releases-pin")
+        {
+            *pin = 0;
         }
         if self.fault.is("end-raises-line") {
             let least = self.taken.values().map(|pair| pair.1).min();
