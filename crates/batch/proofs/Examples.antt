@@ -7,8 +7,9 @@ use mathlib.Core.List.{List, [], _∷_, _++_}
 use mathlib.Core.Option.{some}
 use Rattle.kinds.specs.Kinds.{freePins, number, slot, txid}
 use Rattle.settled.specs.declared.Snapshot.{Snapshot}
-use Rattle.settled.specs.Settled.{listed, settledIn}
-use Rattle.settled.specs.Usable.{usableIn}
+use Rattle.listed.specs.Listed.{listed}
+use Rattle.settled.specs.Settled.{settledIn}
+use Rattle.usable.specs.Usable.{usableIn}
 use Rattle.model.specs.Tally.{active, retained, holderFrom, lowestEmpty, minimum, maximum, snapshotOf}
 use Rattle.model.specs.Tables.{freshTable}
 use Rattle.model.specs.Calls.{Call, begin, end, own, vacuum, refusal, changeAccepted, changeOf, after, shownAccepted, shown}

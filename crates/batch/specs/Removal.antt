@@ -6,7 +6,7 @@ use mathlib.Core.List.{List, [], _++_}
 use lib.ListN.{length, getD}
 use Rattle.settled.specs.declared.Snapshot.{Snapshot}
 use Rattle.settled.specs.Settled.{settledIn}
-use Rattle.settled.specs.Usable.{usableIn}
+use Rattle.usable.specs.Usable.{usableIn}
 use Rattle.model.specs.Calls.{Call, shown}
 use Rattle.model.specs.Deeds.{takesSnapshot}
 use Rattle.model.specs.History.{reached, Accepts}

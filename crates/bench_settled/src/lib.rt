@@ -1,13 +1,13 @@
 // The settled test asked over and over, lent and by value, and the usable test lent: what bench/settled times. It promises nothing
 // but safety.
-mod usable;
+mod lent_usable;
 
 use kinds::SLOTS;
 use kinds::Txid;
+pub use lent_usable::bench_usable_lent;
 use settled::Settled;
 use settled::Snapshot;
 use std::num::wrapping_add_u64;
-pub use usable::bench_usable_lent;
 ghost use mathlib.Core.Path.{_≡_};
 
 // How many slots the measured snapshots have.

@@ -11,7 +11,7 @@ ghost use Rattle.events.specs.Event.{eventAfter, eventAt};
 fn event_after(s: &[u8], at: usize, kind: Kind) -> EventAt
     ensures { λ r. ⌜ r ≡ eventAfter (now (s .entry)) kind at ⌝ }
 {
-    let fields = text::fields_at(s, at, b"xmin=", crate::names::reads_of(kind));
+    let fields = five_lines::fields_at(s, at, b"xmin=", crate::names::reads_of(kind));
     match fields {
         Fields::Are(v, e) => EventAt::Is(
             Event {

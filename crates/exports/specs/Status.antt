@@ -9,8 +9,8 @@ use Rattle.kinds.specs.Kinds.{slot, txid}
 use Rattle.trace.specs.Trace.{traceOf}
 use Rattle.text.specs.declared.Put.{Put}
 use Rattle.text.specs.declared.Put.the-variants.{Past, NoRoom}
-use Rattle.wait.specs.declared.Owner.{Owner}
-use Rattle.wait.specs.declared.Owner.the-variants.{Holds}
+use Rattle.wait_rules.specs.declared.Owner.{Owner}
+use Rattle.wait_rules.specs.declared.Owner.the-variants.{Holds}
 use Rattle.text.specs.Write.{spliced}
 use Rattle.replay.specs.Into.{Into, whole, cut, textIn, intoOf}
 use Rattle.replay.specs.Sent.{isTrace}

@@ -5,7 +5,7 @@ use text::Put;
 use wait::Owner;
 ghost use mathlib.Core.Path.{_≡_};
 ghost use Rattle.text.specs.Write.{putAt, written};
-ghost use Rattle.wait.specs.declared.Owner.the-variants.{Nobody};
+ghost use Rattle.wait_rules.specs.declared.Owner.the-variants.{Nobody};
 ghost use Rattle.wait_report.specs.Report.{reportOf};
 ghost use Rattle.exports.specs.Status.{reported, holder};
 

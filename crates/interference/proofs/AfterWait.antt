@@ -20,7 +20,7 @@ use Rattle.upstream.proofs.Yes.{from-yes}
 use Rattle.upstream.proofs.Pairs.{slotsOf, slots-length}
 use Rattle.upstream.proofs.Always.{still-well-formed}
 use Rattle.upstream.proofs.Begin.{begin-meets}
-use Rattle.wait.specs.declared.Owner.{Owner}
+use Rattle.wait_rules.specs.declared.Owner.{Owner}
 use Rattle.wait.specs.Waits.{waitOf}
 use Rattle.wait.proofs.Waits.{heard, end-passes}
 use Rattle.interference.specs.Interference.{Extends, WaitEvent, Valid, eventsToldBy, historyTold}

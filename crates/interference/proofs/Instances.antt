@@ -5,7 +5,7 @@ use mathlib.Core.Path.{_≡_, refl}
 use mathlib.Core.List.{List, [], _∷_, _++_}
 use Rattle.kinds.specs.Kinds.{freePins, number, slot, txid}
 use Rattle.kinds.specs.declared.refusal.Verdict.the-variants.{Pass}
-use Rattle.settled.specs.Settled.{listed}
+use Rattle.listed.specs.Listed.{listed}
 use Rattle.model.specs.declared.Table.{Table}
 use Rattle.model.specs.Tally.{active, minimum, lowestEmpty}
 use Rattle.model.specs.Tables.{counted, lent, freshTable}
@@ -25,9 +25,9 @@ use Rattle.upstream.specs.States.{stateOf}
 use Rattle.upstream.specs.Relations.{HistoryOf}
 use Rattle.upstream.proofs.Fresh.{from-fresh}
 use Rattle.events.specs.Wait.{header}
-use Rattle.wait.specs.declared.Owner.{Owner}
-use Rattle.wait.specs.declared.Owner.the-variants.{Nobody, Holds}
-use Rattle.wait.specs.Steps.{registerRule, endRule, ruleOf, eventTest, changeBy, eventChange}
+use Rattle.wait_rules.specs.declared.Owner.{Owner}
+use Rattle.wait_rules.specs.declared.Owner.the-variants.{Nobody, Holds}
+use Rattle.wait_rules.specs.Steps.{registerRule, endRule, ruleOf, eventTest, changeBy, eventChange}
 use Rattle.wait.specs.Waits.{holderTest, stepsFrom, ended, verdictOn, waitOf}
 use Rattle.wait.proofs.Told.{Tells, begin-told, full-told, end-told, own-told, stamp-told, finish-told, snap-told, oldest-told}
 use Rattle.wait.proofs.Told.{registers, ends, retains, reservesNumber, observesClock}

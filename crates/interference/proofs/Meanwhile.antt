@@ -30,9 +30,9 @@ use Rattle.upstream.proofs.Always.{refusal-unseen, spent-unseen}
 use Rattle.grammar.specs.Texts.{Whole}
 use Rattle.events.specs.Wait.{Wait1, eventsOf}
 use Rattle.events.specs.declared.Event.{Event}
-use Rattle.wait.specs.declared.Owner.{Owner}
-use Rattle.wait.specs.declared.Owner.the-variants.{Nobody, Holds}
-use Rattle.wait.specs.Steps.{notOwned, ruleOf, eventTest, eventAfter, eventChange, changeBy as changeByEvent}
+use Rattle.wait_rules.specs.declared.Owner.{Owner}
+use Rattle.wait_rules.specs.declared.Owner.the-variants.{Nobody, Holds}
+use Rattle.wait_rules.specs.Steps.{notOwned, ruleOf, eventTest, eventAfter, eventChange, changeBy as changeByEvent}
 use Rattle.wait.specs.Waits.{holderTest, stepsFrom, ended, waitOf}
 use Rattle.wait.proofs.Waits.{stays-ended, line-ended, pins-ended, accepts}
 use Rattle.wait.proofs.Told.{Tells, begin-told, full-told, end-told, own-told, stamp-told, finish-told, snap-told, oldest-told}

@@ -12,8 +12,8 @@ use Rattle.model.specs.History.{Accepts}
 use Rattle.upstream.specs.States.{stateOf}
 use Rattle.upstream.proofs.Yes.{beside}
 use Rattle.events.specs.declared.Event.{Event}
-use Rattle.wait.specs.declared.Owner.{Owner}
-use Rattle.wait.specs.Steps.{changeBy, eventChange}
+use Rattle.wait_rules.specs.declared.Owner.{Owner}
+use Rattle.wait_rules.specs.Steps.{changeBy, eventChange}
 use Rattle.wait.specs.Waits.{ended}
 use Rattle.wait.proofs.Waits.{line-ended}
 use Rattle.wait.proofs.Told.{Tells, observesClock}

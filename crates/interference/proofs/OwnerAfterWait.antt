@@ -22,8 +22,8 @@ use Rattle.upstream.proofs.Pairs.{slotsOf, txid-at, slots-length}
 use Rattle.upstream.proofs.Runs.{observation-strict}
 use Rattle.upstream.proofs.End.{end-meets}
 use Rattle.upstream.proofs.Snapshots.{create-transaction-snapshot-meets}
-use Rattle.wait.specs.declared.Owner.{Owner}
-use Rattle.wait.specs.declared.Owner.the-variants.{Holds}
+use Rattle.wait_rules.specs.declared.Owner.{Owner}
+use Rattle.wait_rules.specs.declared.Owner.the-variants.{Holds}
 use Rattle.wait.specs.Waits.{waitOf}
 use Rattle.wait.proofs.Waits.{heard, owner-unharmed}
 use Rattle.interference.specs.Interference.{LiveOwner, historyTold}

@@ -30,12 +30,12 @@ use Rattle.events.specs.Wait.{Wait1, eventsOf}
 use Rattle.events.specs.declared.Kind.{Kind}
 use Rattle.events.specs.declared.Kind.the-variants as kind
 use Rattle.events.specs.declared.Event.{Event}
-use Rattle.wait.specs.declared.Owner.{Owner}
-use Rattle.wait.specs.declared.Owner.the-variants.{Nobody, Holds}
-use Rattle.wait.specs.Steps.{notOwned, mayName, isEmpty, leastActive, registerRule, endRule, horizonRule, ruleOf, eventTest}
-use Rattle.wait.specs.Steps.{changeBy, eventChange, eventAfter}
+use Rattle.wait_rules.specs.declared.Owner.{Owner}
+use Rattle.wait_rules.specs.declared.Owner.the-variants.{Nobody, Holds}
+use Rattle.wait_rules.specs.Steps.{notOwned, mayName, isEmpty, leastActive, registerRule, endRule, horizonRule, ruleOf, eventTest}
+use Rattle.wait_rules.specs.Steps.{changeBy, eventChange, eventAfter}
 use Rattle.wait.specs.Waits.{stepsFrom, ended, waitOf}
-use Rattle.wait.proofs.Steps.{passed-pass, good-event}
+use Rattle.wait_rules.proofs.Steps.{passed-pass, good-event}
 use Rattle.wait.proofs.Waits.{accepts, heard}
 use Rattle.interference.specs.Interference.{WaitEvent, Register, End, Horizon, WaitStep, Names, Allowed, Valid, none, also}
 use Rattle.interference.specs.Interference.{eventBy, historyBy, eventsToldBy, historyAfter}

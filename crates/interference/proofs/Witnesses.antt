@@ -6,7 +6,7 @@ use mathlib.Core.Logic.{_≢_}
 use mathlib.Core.Bool.{false}
 use mathlib.Core.List.{List, [], _∷_}
 use Rattle.kinds.specs.Kinds.{freePins}
-use Rattle.settled.specs.Settled.{listed}
+use Rattle.listed.specs.Listed.{listed}
 use Rattle.model.specs.declared.Table.{Table}
 use Rattle.model.specs.Tally.{active, minimum, retained}
 use Rattle.model.specs.Tables.{counted, lent}
@@ -17,8 +17,8 @@ use Rattle.upstream.specs.Relations.{TableOf}
 use Rattle.upstream.proofs.Yes.{from-yes}
 use Rattle.events.specs.declared.Kind.the-variants as kind
 use Rattle.events.specs.declared.Event.{Event}
-use Rattle.wait.specs.declared.Owner.the-variants.{Nobody}
-use Rattle.wait.specs.Steps.{registerRule, horizonRule, ruleOf, eventTest, changeBy, eventChange, eventAfter}
+use Rattle.wait_rules.specs.declared.Owner.the-variants.{Nobody}
+use Rattle.wait_rules.specs.Steps.{registerRule, horizonRule, ruleOf, eventTest, changeBy, eventChange, eventAfter}
 use Rattle.wait.specs.Waits.{ended}
 use Rattle.wait.proofs.Told.{registers, retains}
 use Rattle.interference.specs.Interference.{Register, End, Horizon, Observe, WaitStep}

@@ -11,8 +11,8 @@ use Rattle.events.specs.Wait.{Header, eventsOf}
 use Rattle.events.specs.declared.Kind.{Kind}
 use Rattle.events.specs.declared.Kind.the-variants as kind
 use Rattle.events.specs.declared.Event.{Event}
-use Rattle.wait.specs.declared.Owner.{Owner}
-use Rattle.wait.specs.declared.Owner.the-variants.{Nobody, Holds}
+use Rattle.wait_rules.specs.declared.Owner.{Owner}
+use Rattle.wait_rules.specs.declared.Owner.the-variants.{Nobody, Holds}
 
 -- `live_owner`: the registration of slot i holds it
 pub record LiveOwner (s : State) (i id : ℕ) : Type 0 where

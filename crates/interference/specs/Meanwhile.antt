@@ -6,8 +6,8 @@ use mathlib.Core.List.{List, [], _∷_}
 use Rattle.model.specs.declared.Table.{Table}
 use Rattle.model.specs.Calls.{Call, begin, end, snap, own, oldest, vacuum, stamp, finish, pin, unpin, after}
 use Rattle.model.specs.History.{Accepts}
-use Rattle.wait.specs.declared.Owner.{Owner}
-use Rattle.wait.specs.Steps.{notOwned}
+use Rattle.wait_rules.specs.declared.Owner.{Owner}
+use Rattle.wait_rules.specs.Steps.{notOwned}
 
 -- not of the owner's slot; a begin enters an empty one, which no owner holds
 abbrev pub Elsewhere : Owner → Call → Type 0

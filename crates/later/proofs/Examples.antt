@@ -7,8 +7,9 @@ use Rattle.kinds.specs.Kinds.{freePins, number, slot, txid}
 use Rattle.kinds.specs.Refusals.{consumed}
 use Rattle.kinds.specs.declared.refusal.Refusal.the-variants.{NoFreeSlot, InvalidSlot, SlotOwnershipMismatch}
 use Rattle.settled.specs.declared.Snapshot.{Snapshot}
-use Rattle.settled.specs.Settled.{listed, settledIn}
-use Rattle.settled.specs.Usable.{usableIn}
+use Rattle.listed.specs.Listed.{listed}
+use Rattle.settled.specs.Settled.{settledIn}
+use Rattle.usable.specs.Usable.{usableIn}
 use Rattle.settled.specs.Snapshots.{noSnapshot}
 use Rattle.model.specs.declared.answer.Answer.the-variants.{Begun, Done, Stamped, Refused}
 use Rattle.model.specs.Tally.{active, retained, holderFrom, lowestEmpty, minimum, maximum, snapshotOf}

@@ -15,9 +15,9 @@ use Rattle.kinds.specs.Kinds.{saturatingNext}
 use Rattle.kinds.specs.declared.refusal.Refusal.{Refusal}
 use Rattle.kinds.specs.declared.refusal.Verdict.{Verdict}
 use Rattle.kinds.specs.declared.refusal.Verdict.the-variants.{Pass, Refuse}
-use Rattle.settled.specs.Settled.{listed}
+use Rattle.listed.specs.Listed.{listed}
 use Rattle.settled.specs.Snapshots.{noSnapshot}
-use Rattle.settled.proofs.Listed.{listed-none, listed-cases}
+use Rattle.listed.proofs.Listed.{listed-none, listed-cases}
 use Rattle.model.specs.declared.Table.{Table}
 use Rattle.model.specs.Tables.{freshTable, txidAt, clockOf}
 use Rattle.model.specs.Tally.{active, maximum, snapshotOf}

@@ -6,8 +6,9 @@ use mathlib.Core.Bool.{true, false}
 use mathlib.Core.List.{List, [], _∷_, _++_}
 use Rattle.kinds.specs.Refusals.{consumed}
 use Rattle.settled.specs.declared.Snapshot.{Snapshot}
-use Rattle.settled.specs.Settled.{listed, settledIn}
-use Rattle.settled.specs.Usable.{usableIn}
+use Rattle.listed.specs.Listed.{listed}
+use Rattle.settled.specs.Settled.{settledIn}
+use Rattle.usable.specs.Usable.{usableIn}
 use Rattle.model.specs.declared.answer.Answer.{Answer}
 use Rattle.model.specs.declared.answer.Answer.the-variants.{Begun, Done, Pinned, Oldest, Line, Stamped, Refused}
 use Rattle.model.specs.Tables.{clockOf}

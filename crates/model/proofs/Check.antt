@@ -10,8 +10,8 @@ use lib.Dec.{ltb, leb, eqb}
 use lib.ListN.{length, getD}
 use borrow.Author.Tests.{ltb-true, leb-true, eqb-true, eqb-false, lt-ltb, le-leb, eq-eqb, ne-eqb, not-true}
 use Rattle.kinds.specs.Kinds.{pinCount}
-use Rattle.settled.specs.Settled.{listed}
-use Rattle.settled.proofs.Listed.{place-listed, listed-place}
+use Rattle.listed.specs.Listed.{listed}
+use Rattle.listed.proofs.Listed.{place-listed, listed-place}
 use Rattle.model.specs.declared.Table.{Table}
 use Rattle.model.specs.Tables.{freshTable, clockOf, sampleOf, lineOf}
 use Rattle.model.specs.Calls.{Call, after}

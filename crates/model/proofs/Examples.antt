@@ -10,7 +10,8 @@ use Rattle.kinds.specs.declared.told.Told.{Told}
 use Rattle.kinds.specs.declared.refusal.Refusal.the-variants.{NoFreeSlot, SlotOwnershipMismatch, BadReservation, InvalidPin}
 use Rattle.kinds.specs.declared.refusal.Verdict.the-variants.{Refuse}
 use Rattle.settled.specs.declared.Snapshot.{Snapshot}
-use Rattle.settled.specs.Settled.{listed, settledIn}
+use Rattle.listed.specs.Listed.{listed}
+use Rattle.settled.specs.Settled.{settledIn}
 use Rattle.kinds.specs.Refusals.{told, consumed}
 use Rattle.model.specs.Tally.{active, retained, holderFrom, holderOf, noHolder, lowestEmpty, minimum, maximum, snapshotOf}
 use Rattle.model.specs.declared.answer.Answer.the-variants.{Begun, Done, Pinned, Oldest, Line, Stamped, Refused}

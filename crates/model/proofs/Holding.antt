@@ -11,8 +11,8 @@ use native.Mathlib.Omega.{arith}
 use lib.Dec.{eqb}
 use lib.ListN.{length, getD}
 use borrow.Author.Tests.{eqb-true, eqb-false, eq-eqb, ne-eqb}
-use Rattle.settled.specs.Settled.{listed}
-use Rattle.settled.proofs.Listed.{listed-none, listed-head, listed-tail, listed-cases}
+use Rattle.listed.specs.Listed.{listed}
+use Rattle.listed.proofs.Listed.{listed-none, listed-head, listed-tail, listed-cases}
 use Rattle.model.specs.Tally.{consUnless, retained, minimum, holds, holderFrom}
 
 -- a slot is a holder exactly if it is taken and retains x

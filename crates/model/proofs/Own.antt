@@ -12,10 +12,11 @@ use Rattle.kinds.specs.declared.SlotNo.{SlotNo}
 use Rattle.kinds.specs.declared.Txid.{Txid}
 use Rattle.settled.specs.declared.Snapshot.{Snapshot}
 use Rattle.settled.specs.declared.Settled.the-variants.{No}
-use Rattle.settled.specs.declared.usable.Usable.the-variants.{Yes}
-use Rattle.settled.specs.Settled.{listed, settledIn, paperSettled, settledTest}
-use Rattle.settled.specs.Usable.{usableIn, paperUsable, usableTest}
-use Rattle.settled.proofs.Wider.{own-is-usable}
+use Rattle.usable.specs.declared.Usable.the-variants.{Yes}
+use Rattle.listed.specs.Listed.{listed}
+use Rattle.settled.specs.Settled.{settledIn, paperSettled, settledTest}
+use Rattle.usable.specs.Usable.{usableIn, paperUsable, usableTest}
+use Rattle.usable.proofs.Wider.{own-is-usable}
 use Rattle.model.specs.declared.Table.{Table}
 use Rattle.model.specs.Tally.{active, places, snapshotOf}
 use Rattle.model.specs.Calls.{Call, own, shown, shownAccepted}

@@ -11,8 +11,8 @@ use Rattle.kinds.specs.declared.Stamp.{Stamp}
 use Rattle.kinds.specs.declared.SlotNo.{SlotNo}
 use Rattle.kinds.specs.declared.Txid.{Txid}
 use Rattle.kinds.specs.declared.refusal.Refusal.{Refusal}
-use Rattle.settled.specs.Settled.{listed}
-use Rattle.settled.proofs.Listed.{listed-none, listed-head, listed-cases}
+use Rattle.listed.specs.Listed.{listed}
+use Rattle.listed.proofs.Listed.{listed-none, listed-head, listed-cases}
 use Rattle.kinds.specs.Refusals.{consumed}
 use Rattle.model.specs.declared.Table.{Table}
 use Rattle.model.specs.Tables.{freshTable, clockOf}

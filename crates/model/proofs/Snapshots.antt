@@ -12,8 +12,9 @@ use lib.ListN.{length, getD}
 use borrow.Author.Tests.{lt-ltb, ne-eqb}
 use Rattle.kinds.specs.Kinds.{top, saturatingNext}
 use Rattle.settled.specs.declared.Snapshot.{Snapshot}
-use Rattle.settled.specs.Settled.{listed, settledIn}
-use Rattle.settled.proofs.Listed.{listed-place}
+use Rattle.listed.specs.Listed.{listed}
+use Rattle.settled.specs.Settled.{settledIn}
+use Rattle.listed.proofs.Listed.{listed-place}
 use Rattle.model.specs.Tally.{active, maximum, xmaxOf, snapshotOf}
 use Rattle.model.proofs.Tally.{maximum-member, taken-active, active-taken, used-places}
 

@@ -9,8 +9,8 @@ use Rattle.kinds.specs.declared.Stamp.{Stamp}
 use Rattle.kinds.specs.declared.SlotNo.{SlotNo}
 use Rattle.kinds.specs.declared.Txid.{Txid}
 use Rattle.kinds.specs.Kinds.{slot, txid}
-use Rattle.settled.specs.Settled.{listed}
-use Rattle.settled.proofs.Listed.{listed-head, listed-append}
+use Rattle.listed.specs.Listed.{listed}
+use Rattle.listed.proofs.Listed.{listed-head, listed-append}
 use Rattle.model.specs.Tables.{freshTable, txidAt}
 use Rattle.model.specs.Calls.{Call, begin}
 use Rattle.model.specs.History.{reached, Accepts, IsRegistered}

@@ -11,8 +11,8 @@ use lib.Dec.{eqb}
 use lib.ListN.{length, getD, set, take, replicate}
 use lib.Seq.{take-append-seam}
 use borrow.Author.Tests.{eqb-true, eqb-false, eq-eqb, ne-eqb}
-use Rattle.settled.specs.Settled.{listed}
-use Rattle.settled.proofs.Listed.{listed-none, listed-head, listed-tail, listed-cases}
+use Rattle.listed.specs.Listed.{listed}
+use Rattle.listed.proofs.Listed.{listed-none, listed-head, listed-tail, listed-cases}
 use Rattle.model.specs.Tally.{consUnless, active, retained, holderFrom, lowestEmpty, minimum, maximum, places}
 
 -- the smallest is at most the number and each member, and at least what they all are

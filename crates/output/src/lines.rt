@@ -18,7 +18,7 @@ fn line(buf: &mut [u8], at: usize, key: &[u8], n: u64) -> usize
     requires { ⌜ at + (length (now key) + 21) ≤ length (now buf) ⌝ }
     ensures { λ r. ⌜ Wrote (now (buf .entry)) at (lineText (now (key .entry)) n) (now (buf .exit)) r (length (now (key .entry)) + 21) ⌝ }
 {
-    let put = text::put_line(buf, at, key, n);
+    let put = text_writer::put_line(buf, at, key, n);
     match put {
         Put::Past(end) => end,
         Put::NoRoom => at,

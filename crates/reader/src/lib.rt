@@ -38,7 +38,7 @@ fn place_past(found: RecordAt, at: usize) -> usize
 pub fn next<'a>(r: Reader<'a>) -> Step<'a>
     ensures { λ s. ⌜ s ≡ stepOf (r .entry) ⌝ }
 {
-    let found = trace::record_at(r.text, r.at);
+    let found = trace_lines::record_at(r.text, r.at);
     let at = place_past(found, r.at);
     Step {
         found,

@@ -19,11 +19,11 @@ pub fn put_broken(buf: &mut [u8], line: usize) -> Replayed
         return Replayed::NoRoom(0);
     }
     let told = kinds::tell(Refusal::BadTrace(line as u64));
-    let first = text::put_line(buf, 0, b"answer=", told.number);
+    let first = text_writer::put_line(buf, 0, b"answer=", told.number);
     let Put::Past(at) = first else {
         return Replayed::NoRoom(0);
     };
-    let second = text::put_line(buf, at, b"at=", told.at);
+    let second = text_writer::put_line(buf, at, b"at=", told.at);
     let Put::Past(end) = second else {
         return Replayed::NoRoom(0);
     };
@@ -34,7 +34,7 @@ pub fn put_broken(buf: &mut [u8], line: usize) -> Replayed
 pub fn put_records(buf: &mut [u8], filled: usize, count: usize) -> Replayed
     ensures { λ r. ⌜ EndFits count filled (now (buf .entry)) (now (buf .exit)) r ⌝ }
 {
-    let put = text::put_line(buf, filled, b"records=", count as u64);
+    let put = text_writer::put_line(buf, filled, b"records=", count as u64);
     match put {
         Put::Past(end) => Replayed::Written(end),
         Put::NoRoom => Replayed::NoRoom(filled),
@@ -46,7 +46,7 @@ pub fn put_records(buf: &mut [u8], filled: usize, count: usize) -> Replayed
 pub fn replay_into(s: &[u8], out: &mut [u8]) -> Replayed
     ensures { λ r. do ⌜ IntoFits (← ⟦kinds::SLOTS⟧ .entry) (now (s .entry)) (now (out .entry)) (now (out .exit)) r ⌝ }
 {
-    let reading = trace::read_trace(s);
+    let reading = trace_lines::read_trace(s);
     match reading {
         Reading::Broken(line) => put_broken(out, line),
         Reading::Whole(version, count) => {

@@ -102,7 +102,7 @@ fn run_to(s: &[u8], version: Version, count: usize, to: i32) -> Sent
 pub fn replay_to(s: &[u8], to: i32) -> Sent
     ensures { λ r. do ⌜ SentFits (← ⟦kinds::SLOTS⟧ .entry) (now (s .entry)) to r ⌝ }
 {
-    let reading = trace::read_trace(s);
+    let reading = trace_lines::read_trace(s);
     match reading {
         Reading::Broken(line) => broken_to(s, line, to),
         Reading::Whole(version, count) => run_to(s, version, count, to),

@@ -15,12 +15,12 @@ use Rattle.trace.specs.Trace.{traceOf}
 use Rattle.trace.specs.declared.Version.{Version}
 use Rattle.trace.specs.declared.Record.{Record}
 use Rattle.trace_writer.specs.Writing.{wroteOf, leftOf}
-use Rattle.trace_writer.specs.Reading.{rowsOf, inFront, readBy, readOf, rowsLeft}
+use Rattle.rows_reader.specs.Reading.{rowsOf, inFront, readBy, readOf, rowsLeft}
 use Rattle.trace_writer.specs.declared.Wrote.{Wrote}
 use Rattle.trace_writer.specs.declared.Wrote.the-variants as wrote
-use Rattle.trace_writer.specs.declared.RowsRead.{RowsRead}
-use Rattle.trace_writer.specs.declared.RowsRead.the-variants.{Rows, Refused}
-use Rattle.trace_writer.proofs.Filling.{rows-many}
+use Rattle.rows_reader.specs.declared.RowsRead.{RowsRead}
+use Rattle.rows_reader.specs.declared.RowsRead.the-variants.{Rows, Refused}
+use Rattle.rows_reader.proofs.Filling.{rows-many}
 use Rattle.trace_writer.proofs.Laws.{again-wrote, again-left, most-records}
 use Rattle.rewrite.specs.Again.{againOf, againLeft}
 

@@ -6,7 +6,7 @@ use Prim.Native.Nat.{ℕ, _+_, _<_, _≤_}
 use lib.ListN.{length, drop, getD, drop-of-length-le}
 use borrow.Author.Tests.{eq-eqb, ne-eqb}
 use Rattle.kinds.proofs.Lists.{from}
-use Rattle.settled.specs.Settled.{listed}
+use Rattle.listed.specs.Listed.{listed}
 use Rattle.model.specs.Check.{slotPasses, slotsPass, differ, pinPasses, pinsPass}
 
 module _ (l : List ℕ) (i : ℕ) where

@@ -1,7 +1,7 @@
 // The part of the check that holds slots against each other.
 ghost use mathlib.Core.Path.{_≡_};
 ghost use lib.ListN.{drop};
-ghost use Rattle.settled.specs.Settled.{listed};
+ghost use Rattle.listed.specs.Listed.{listed};
 ghost use Rattle.model.specs.Check.{differ};
 
 // Whether x stands at place `from` or later.

@@ -1,4 +1,3 @@
-pub mod Walk
 pub mod Reading
 pub mod Laws
 mod Examples

@@ -1,15 +1,13 @@
--- A table of which some slots, or pins, were read, or written: what is left of it.
+-- A table of which some slots, or pins, were read: what is left of it.
 use Prim.Native.Nat.{ℕ}
 use mathlib.Core.Bool.{cond}
-use mathlib.Core.List.{List, [], _∷_, _++_}
+use mathlib.Core.List.{List, _++_}
 use lib.Dec.{eqb}
 use lib.ListN.{length, take, drop}
-use Rattle.model.specs.declared.Counters.{Counters}
 use Rattle.model.specs.declared.Table.{Table}
 use Rattle.model.specs.Tables.{lent}
-use Rattle.text.specs.Keys.{txidKey, xminKey, clockKey, sampleKey, lineKey}
-use Rattle.text.specs.Line.{Lines, Read, Breaks, lineText}
-use Rattle.table_text.specs.TableText.{pinKey, countersFrom, tableFrom, brokenAt, whole, pastLast}
+use Rattle.text.specs.Line.{Lines, Read, Breaks}
+use Rattle.table_text.specs.TableText.{countersFrom, tableFrom, brokenAt, whole, pastLast}
 use Rattle.table_text.specs.declared.TableRead.{TableRead}
 
 -- slots in front of a table's
@@ -26,14 +24,3 @@ abbrev pub pinsRead : ℕ → List ℕ → List ℕ → List ℕ → List ℕ �
 pinsRead n s xs ys pins m (Read ns e) =
     cond (eqb e (length s)) (whole (lent xs ys (pins ++ take m ns) (countersFrom (drop m ns)))) (brokenAt n (pastLast n))
 pinsRead n s xs ys pins m (Breaks k) = brokenAt n k
-
--- the two lines of a slot, the three after all pins, and those after all slots
-unfoldable pub slotLines : ℕ → ℕ → List ℕ
-slotLines x y = lineText txidKey x ++ lineText xminKey y
-
-unfoldable pub counterLines : Counters → List ℕ
-counterLines c = lineText clockKey (c .clock) ++ lineText sampleKey (c .«sampled_clock») ++ lineText lineKey (c .«vacuum_line»)
-
-unfoldable pub pinLines : List ℕ → Counters → List ℕ
-pinLines [] c = counterLines c
-pinLines (x ∷ pins) c = lineText pinKey x ++ pinLines pins c

@@ -1,13 +1,8 @@
-// The text of a table: read, measured, and written.
-mod lines;
-mod measure;
+// The text of a table, and reading it. Crate table_writer writes it.
 mod read;
-mod write;
 
-pub use measure::table_length;
 use model::Table;
 pub use read::read_table;
-pub use write::put_table;
 
 // What a text is read as: a table, and 0; or the first line that breaks a rule, from 1, beside a table of zeros.
 pub struct TableRead {

@@ -1,13 +1,9 @@
-// Numbers and fixed byte strings of a text: read at a place, and written at a place.
-mod five_lines;
+// Numbers and fixed byte strings of a text: what they are, and reading them at a place. Crate text_writer writes them,
+// crate five_lines reads five of them.
 mod read;
-mod write;
 
-pub use five_lines::fields_at;
 pub use read::bytes_at;
 pub use read::field_at;
-pub use write::digits_in;
-pub use write::put_line;
 
 // What stands at a place: a number, with the place past its newline, or none.
 pub enum Number {

@@ -14,9 +14,9 @@ use Rattle.kinds.specs.Verdicts.{then, zeroTest}
 use Rattle.kinds.proofs.Unique.{told-unique, told-positive}
 use Rattle.kinds.proofs.Verdicts.{then-pass, not-refused}
 use Rattle.settled.specs.declared.Snapshot.{Snapshot}
-use Rattle.settled.specs.declared.usable.Usable.the-variants.{Yes, No, Refused as Unanswered}
+use Rattle.usable.specs.declared.Usable.the-variants.{Yes, No, Refused as Unanswered}
 use Rattle.settled.specs.Settled.{countTest}
-use Rattle.settled.specs.Usable.{UsableAnswer, paperUsable, usableIn, usableBy, usableTest}
+use Rattle.usable.specs.Usable.{UsableAnswer, paperUsable, usableIn, usableBy, usableTest}
 use Rattle.tiles.specs.declared.Choice.{Choice}
 use Rattle.tiles.specs.declared.Choice.the-variants.{Newer, Older, Refused}
 use Rattle.tiles.specs.Tiles.{lengthTest, fitted, chosen, choice}

@@ -6,7 +6,7 @@ use mathlib.Core.List.{List, [], _∷_}
 use Rattle.kinds.specs.Kinds.{txid, top}
 use Rattle.kinds.specs.Refusals.{told}
 use Rattle.settled.specs.declared.Snapshot.{Snapshot}
-use Rattle.settled.specs.Settled.{listed}
+use Rattle.listed.specs.Listed.{listed}
 use Rattle.tiles.specs.Tiles.{Bytes, Tile, choice, tileOf}
 
 abbrev shown : ℕ → Snapshot

@@ -14,7 +14,7 @@ use Rattle.kinds.specs.Refusals.{told}
 use Rattle.kinds.specs.Verdicts.{then, zeroTest}
 use Rattle.settled.specs.declared.Snapshot.{Snapshot}
 use Rattle.settled.specs.Settled.{countTest}
-use Rattle.settled.specs.Usable.{usableIn}
+use Rattle.usable.specs.Usable.{usableIn}
 use Rattle.tiles.specs.declared.Choice.{Choice}
 use Rattle.tiles.specs.declared.Choice.the-variants.{Newer, Older, Refused}
 

@@ -2,7 +2,7 @@
 use kinds::Refusal;
 use kinds::Txid;
 use settled::Snapshot;
-use settled::Usable;
+use usable::Usable;
 ghost use mathlib.Core.Path.{_≡_};
 ghost use Rattle.tiles.specs.Tiles.{choice, fitted, lengthTest, NumberFits, PartFits};
 
@@ -44,7 +44,7 @@ fn choose(
 ) -> Choice
     ensures { λ r. do ⌜ r ≡ choice (← ⟦kinds::SLOTS⟧ .entry) shown own maker older «older_used» newer «newer_used» ⌝ }
 {
-    let said = settled::is_usable(shown, own, maker);
+    let said = usable::is_usable(shown, own, maker);
     match said {
         Usable::Yes => fitting(Choice::Newer, older, older_used, newer, newer_used),
         Usable::No => fitting(Choice::Older, older, older_used, newer, newer_used),

@@ -1,15 +1,14 @@
-// Captured runs as text: a header and records of six lines, read and judged line by line.
-mod lines;
+// Captured runs as text: a header and records of six lines. Crate trace_lines reads and judges them line by line.
 mod ops;
 mod versions;
 mod whole;
 
-pub use lines::record_at;
+pub use ops::OpAt;
 pub use ops::reads_of;
+pub use versions::HeaderAt;
 pub use versions::allows;
 pub use whole::LONGEST;
 pub use whole::first_record;
-pub use whole::read_trace;
 
 // The headers that are known: `trace=proc-1`; `trace=proc-2`, whose records print their holder; and `trace=proc-3`, which is
 // printed like that and has the two ops of pins.

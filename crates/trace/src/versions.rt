@@ -2,28 +2,12 @@
 use crate::Op;
 use crate::Version;
 ghost use mathlib.Core.Path.{_≡_};
-ghost use Rattle.trace.specs.Version.{ofPins, allowed, headerAt};
+ghost use Rattle.trace.specs.Version.{ofPins, allowed};
 
 // The header of a text, with the place past its line, or none that is known.
 pub enum HeaderAt {
     Is(Version, usize),
     Unknown,
-}
-
-// The header that a text begins with.
-pub fn header_at(s: &[u8]) -> HeaderAt
-    ensures { λ r. ⌜ r ≡ headerAt (now (s .entry)) ⌝ }
-{
-    if text::bytes_at(s, 0, b"trace=proc-1\n") {
-        return HeaderAt::Is(Version::Proc1, 13);
-    }
-    if text::bytes_at(s, 0, b"trace=proc-2\n") {
-        return HeaderAt::Is(Version::Proc2, 13);
-    }
-    if text::bytes_at(s, 0, b"trace=proc-3\n") {
-        return HeaderAt::Is(Version::Proc3, 13);
-    }
-    HeaderAt::Unknown
 }
 
 // Whether an op is one of pins.

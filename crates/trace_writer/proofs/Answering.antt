@@ -1,4 +1,4 @@
--- What is answered and what is left, by what was measured and by what was read.
+-- What is answered and what is left, by what was measured.
 use Prim.Native.Nat.{ℕ, _+_, _≤_, _<_, min}
 use native.Mathlib.Omega.{arith}
 use mathlib.Core.Path.{_≡_, refl, sym, ap, _∙_}
@@ -8,18 +8,12 @@ use lib.ListN.{length}
 use borrow.Author.Tests.{le-leb, lt-leb}
 use Rattle.kinds.specs.declared.refusal.Refusal.the-variants as refusal
 use Rattle.text.specs.Write.{spliced}
-use Rattle.trace.specs.Trace.{firstRecord, traceGrammar, traceFormat, longest, traceText, reading, recordsFrom}
+use Rattle.trace.specs.Trace.{firstRecord, longest, traceText}
 use Rattle.trace.specs.declared.Version.{Version}
-use Rattle.trace.specs.declared.Reading.the-variants as read
-use Rattle.grammar.proofs.Laws.{opened, count-breaks}
-use Rattle.trace.proofs.Shape.{trace-grammar}
-use Rattle.trace.proofs.Answers.{reading-is}
-use Rattle.trace_writer.specs.Writing.{Records, Are, BadRow, recordsOf, listed, recordsText, tooLong, sized, measured}
+use Rattle.rows_measure.specs.Measuring.{Records, Are, BadRow, recordsOf, listed, recordsText, tooLong, sized, measured}
 use Rattle.trace_writer.specs.Writing.{wroteOf, leftOf}
-use Rattle.trace_writer.specs.Reading.{rowsOf, inFront, readOf, rowsLeft}
 use Rattle.trace_writer.specs.declared.Wrote.the-variants as wrote
-use Rattle.trace_writer.specs.declared.RowsRead.the-variants.{Rows, Refused}
-use Rattle.trace_writer.specs.declared.measure.Measured.the-variants as measure
+use Rattle.rows_measure.specs.declared.Measured.the-variants as measure
 use Rattle.trace_writer.proofs.Texts.{trace-length}
 
 module _ (v : Version) (rows : List (List ℕ)) where
@@ -89,29 +83,3 @@ module _ (v : Version) (rows : List (List ℕ)) where
         let inside = le-leb size longest (omega (arith, k .size)) in
         let fits = le-leb size (length xs) (omega (arith, k .size)) in
         (rw (k .good, inside, fits) (ap wrote.Length same), e ∙ rw (k .good, inside, fits))
-
-module _ (s : List ℕ) (run : List (List ℕ)) where
-  pub read-broken : (line : ℕ) → reading s ≡ read.Broken line
-      → (Refused (refusal.BadTrace line) ≡ readOf s (length run)) × (run ≡ rowsLeft s run)
-  unfolding readOf rowsLeft
-  read-broken line h = let broken = count-breaks traceFormat s (reading-is s h) in (rw broken, rw broken)
-
-  pub read-short : (v : Version) (n : ℕ) → reading s ≡ read.Whole v n → length run < n
-      → (Refused refusal.NoRoom ≡ readOf s (length run)) × (run ≡ rowsLeft s run)
-  unfolding readOf rowsLeft
-  read-short v n h l =
-      let o = opened traceGrammar trace-grammar s v n (reading-is s h) in
-      let over = lt-leb (length (recordsFrom s firstRecord)) (length run) (omega (arith, o .many)) in
-      (rw (o .items, over), rw (o .items, over))
-
-  pub room-read : (v : Version) (n : ℕ) → reading s ≡ read.Whole v n → n ≤ length run → length (recordsFrom s firstRecord) ≤ length run
-  room-read v n h l = omega (arith, opened traceGrammar trace-grammar s v n (reading-is s h) .many)
-
-  pub read-whole : (v : Version) (n : ℕ) → reading s ≡ read.Whole v n → n ≤ length run → {left : List (List ℕ)}
-      → left ≡ inFront (rowsOf (recordsFrom s firstRecord)) run
-      → (Rows v n ≡ readOf s (length run)) × (left ≡ rowsLeft s run)
-  unfolding readOf rowsLeft
-  read-whole v n h l e =
-      let o = opened traceGrammar trace-grammar s v n (reading-is s h) in
-      let fits = le-leb (length (recordsFrom s firstRecord)) (length run) (omega (arith, o .many)) in
-      (rw (o .items, fits) (ap (Rows v) (sym (o .many))), e ∙ rw (o .items, fits))

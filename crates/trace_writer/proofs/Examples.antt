@@ -15,7 +15,8 @@ use Rattle.trace.specs.Version.{allowed}
 use Rattle.trace.specs.declared.Version.the-variants.{Proc1, Proc2}
 use Rattle.record_rows.specs.Numbers.{tryNumber, opNumbered}
 use Rattle.record_rows.specs.Rows.{mayBe, allowedBy, ofOp, recordRow}
-use Rattle.trace_writer.specs.Writing.{rowUnder, recordsOf, wroteOf, leftOf}
+use Rattle.rows_measure.specs.Measuring.{rowUnder, recordsOf}
+use Rattle.trace_writer.specs.Writing.{wroteOf, leftOf}
 use Rattle.trace_writer.specs.declared.Wrote.the-variants.{Length, Refused}
 
 record Answers : Type 0 where

@@ -28,17 +28,19 @@ use Rattle.record_rows.specs.Rows.{rowOf, recordRow}
 use Rattle.record_rows.specs.declared.RowIs.{RowIs}
 use Rattle.record_rows.specs.declared.RowIs.the-variants as row
 use Rattle.record_rows.proofs.Laws.{Machine, record-of-row, row-of-record}
-use Rattle.trace_writer.specs.Writing.{Records, Are, BadRow, withFirst, onJudged, allowedRecord, judged, rowUnder, recordsOf}
-use Rattle.trace_writer.specs.Writing.{listed, hasRoom, recordsText, wroteBy, wroteOf, leftBy, leftOf}
-use Rattle.trace_writer.specs.Reading.{rowsOf, inFront, readOf, rowsLeft}
+use Rattle.rows_reader.specs.Reading.{rowsOf, inFront, readOf, rowsLeft}
+use Rattle.rows_reader.specs.declared.RowsRead.the-variants as read
+use Rattle.rows_reader.proofs.Filling.{rows-many}
+use Rattle.rows_measure.specs.Measuring.{Records, Are, BadRow, withFirst, onJudged, allowedRecord, judged, rowUnder, recordsOf}
+use Rattle.rows_measure.specs.Measuring.{listed, recordsText}
+use Rattle.rows_measure.specs.declared.Judged.{Judged}
+use Rattle.rows_measure.specs.declared.Judged.the-variants.{Good, Bad}
+use Rattle.rows_measure.proofs.Lengths.{record-length, records-first}
+use Rattle.rows_measure.proofs.Walking.{bad-run}
+use Rattle.trace_writer.specs.Writing.{hasRoom, wroteBy, wroteOf, leftBy, leftOf}
 use Rattle.trace_writer.specs.declared.Wrote.{Wrote}
 use Rattle.trace_writer.specs.declared.Wrote.the-variants.{Length, Refused}
-use Rattle.trace_writer.specs.declared.RowsRead.the-variants as read
-use Rattle.trace_writer.specs.declared.measure.Judged.{Judged}
-use Rattle.trace_writer.specs.declared.measure.Judged.the-variants.{Good, Bad}
-use Rattle.trace_writer.proofs.Filling.{rows-many}
-use Rattle.trace_writer.proofs.Judging.{bad-run}
-use Rattle.trace_writer.proofs.Texts.{record-length, records-first, trace-length}
+use Rattle.trace_writer.proofs.Texts.{trace-length}
 
 -- rows as code has them: six machine numbers each
 pub data Machines : List (List ℕ) → Type 0 where

@@ -1,6 +1,5 @@
 pub mod Texts
 pub mod Judging
-pub mod Filling
 pub mod Answering
 pub mod Laws
 mod Examples

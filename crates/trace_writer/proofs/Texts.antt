@@ -27,8 +27,9 @@ use Rattle.trace.specs.declared.Record.{Record}
 use Rattle.trace.specs.declared.Version.{Version}
 use Rattle.trace.specs.declared.Version.the-variants.{Proc1, Proc2, Proc3}
 use Rattle.trace.proofs.Shape.{header-length, any-facts}
-use Rattle.trace_writer.specs.Writing.{recordsText}
-use Rattle.trace_writer.specs.TwoLines.{twoLines}
+use Rattle.rows_measure.specs.Measuring.{recordsText}
+use Rattle.rows_measure.specs.TwoLines.{twoLines}
+use Rattle.rows_measure.proofs.Lengths.{record-lines}
 
 -- the header is the line of a key and a number
 abbrev pub headerNumber : Version → ℕ
@@ -65,32 +66,6 @@ two-room op o slot at size e h =
 pub two-placed : {xs ys : List ℕ} {at p : ℕ} (op o : Op) (slot : ℕ) → op ≡ o → Placed xs at (lineText (opSlotKey o) slot) ys p
     → Placed xs at (twoLines op slot) ys p
 two-placed op o slot e p = placed-same (two-lines o slot ∙ ap (λ (x : Op). twoLines x slot) (sym e)) p
-
--- the six lines of a record
-pub record-lines : (r : Record)
-    → twoLines (r .op) (r .slot)
-    ++ lineText idKey (r .id)
-    ++ lineText stampKey (r .stamp)
-    ++ lineText clockKey (r .clock)
-    ++ lineText sampleKey (r .sample)
-    ≡ recordText r
-unfolding twoLines itemText sixLines fiveLines lineTexts fieldRules joined
-record-lines r = simp (append-assoc, append-nil)
-
-pub record-length : (r : Record)
-    → length (recordText r)
-    ≡ 35
-    + length (opName (r .op))
-    + length (decimal (r .slot))
-    + length (decimal (r .id))
-    + length (decimal (r .stamp))
-    + length (decimal (r .clock))
-    + length (decimal (r .sample))
-unfolding twoLines nameLine
-record-length r =
-    ap length (sym (record-lines r))
-    ∙ simp (length-append, line-length)
-    (omega arith)
 
 -- a record that has room: so has each of its lines, and together they are its text
 room-after : {xs ys t : List ℕ} {at p : ℕ} (n : ℕ) → Placed xs at t ys p → at + (length t + n) ≤ length xs → p + n ≤ length ys
@@ -157,15 +132,7 @@ module _ (r : Record) (xs : List ℕ) (at : ℕ) (h : at + length (recordText r)
               let five = placed-then start (placed-then start three c) d in
               placed-same (record-lines r) (placed-then start five last)
 
--- the text of some records, one record at a time, and of a whole trace
-pub records-none : recordsText [] ≡ []
-unfolding recordsText linesOf joined
-records-none = refl
-
-pub records-first : (r : Record) (rs : List Record) → recordsText (r ∷ rs) ≡ recordText r ++ recordsText rs
-unfolding recordsText
-records-first r rs = lines-first anyForm any-facts r rs
-
+-- the text of a whole trace
 same-lines : (v : Version) (rs : List Record) → linesOf (recordForm v) rs ≡ linesOf anyForm rs
 unfolding linesOf
 same-lines v [] = refl

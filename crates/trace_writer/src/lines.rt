@@ -9,13 +9,13 @@ ghost use Rattle.text.specs.Line.{lineText};
 ghost use Rattle.text.specs.Placed.{Placed};
 ghost use Rattle.trace.specs.Version.{headerOf};
 ghost use Rattle.trace.specs.Record.{recordText};
-ghost use Rattle.trace_writer.specs.TwoLines.{twoLines};
+ghost use Rattle.rows_measure.specs.TwoLines.{twoLines};
 
 fn line(buf: &mut [u8], at: usize, key: &[u8], n: u64) -> usize
     requires { ⌜ at + length (lineText (now key) n) ≤ length (now buf) ⌝ }
     ensures { λ r. ⌜ Placed (now (buf .entry)) at (lineText (now (key .entry)) n) (now (buf .exit)) r ⌝ }
 {
-    let put = text::put_line(buf, at, key, n);
+    let put = text_writer::put_line(buf, at, key, n);
     match put {
         Put::Past(end) => end,
         Put::NoRoom => at,

@@ -1,15 +1,16 @@
 // A run of rows as a text in a lent buffer.
 use crate::Wrote;
-use crate::measure::Judged;
-use crate::measure::Measured;
 use kinds::Refusal;
+use rows_measure::Judged;
+use rows_measure::Measured;
 use trace::Version;
 ghost use Prim.Native.Nat.{_≤_};
 ghost use mathlib.Core.Path.{_≡_};
 ghost use lib.ListN.{length};
 ghost use Rattle.text.specs.Write.{spliced};
 ghost use Rattle.trace.specs.Trace.{traceText};
-ghost use Rattle.trace_writer.specs.Writing.{Records, Are, recordsOf, listed, wroteOf, leftOf};
+ghost use Rattle.rows_measure.specs.Measuring.{Records, Are, recordsOf, listed};
+ghost use Rattle.trace_writer.specs.Writing.{wroteOf, leftOf};
 
 // The header and record after record, where every row is one and all of them have room.
 fn write_text(version: Version, rows: &[[u64; 6]], buf: &mut [u8])
@@ -21,7 +22,7 @@ fn write_text(version: Version, rows: &[[u64; 6]], buf: &mut [u8])
     let mut i: usize = 0;
     while i < rows.len() {
         let row = rows[i];
-        let judged = crate::measure::row_under(version, row);
+        let judged = rows_measure::row_under(version, row);
         match judged {
             Judged::Good(r) => {
                 at = crate::lines::record(buf, at, r);
@@ -39,7 +40,7 @@ pub fn write_trace(version: Version, rows: &[[u64; 6]], buf: &mut [u8]) -> Wrote
     ensures { λ r. ⌜ r ≡ wroteOf version (now (rows .entry)) (length (now (buf .entry))) ⌝ }
     ensures { λ _. ⌜ now (buf .exit) ≡ leftOf version (now (rows .entry)) (now (buf .entry)) ⌝ }
 {
-    let measured = crate::measure::measure(version, rows);
+    let measured = rows_measure::measure(version, rows);
     match measured {
         Measured::BadRow => Wrote::Refused(Refusal::BadRecord),
         Measured::Length(n) => {

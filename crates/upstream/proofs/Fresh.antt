@@ -6,8 +6,8 @@ use mathlib.Core.Path.{_≡_, sym, ap, _∙_}
 use mathlib.Core.Logic.{_≢_}
 use mathlib.Core.Bool.{true}
 use mathlib.Core.List.{List, [], _∷_, _++_, append-assoc, append-nil}
-use Rattle.settled.specs.Settled.{listed}
-use Rattle.settled.proofs.Listed.{listed-place}
+use Rattle.listed.specs.Listed.{listed}
+use Rattle.listed.proofs.Listed.{listed-place}
 use Rattle.model.specs.declared.Table.{Table}
 use Rattle.model.specs.Tables.{freshTable, clockOf}
 use Rattle.model.specs.Calls.{Call, refusal, after}

@@ -18,7 +18,7 @@ use Rattle.model.specs.Answers.{tellsOf}
 use Rattle.model.specs.History.{run, reached}
 use Rattle.model.specs.Reservations.{reservationsFrom, reservations}
 use Rattle.model.specs.Check.{slotsPass, differ, pinsPass, passes, tablePasses}
-use Rattle.settled.specs.Settled.{listed}
+use Rattle.listed.specs.Listed.{listed}
 use Rattle.upstream.specs.States.{stateOf, stateAfter}
 use Rattle.upstream.specs.Clauses.{ReservePublicationClock}
 

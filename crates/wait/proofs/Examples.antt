@@ -7,7 +7,7 @@ use Rattle.kinds.specs.Kinds.{freePins, slot, txid}
 use Rattle.kinds.specs.declared.refusal.Refusal.the-variants.{InvalidSlot, SlotOwnershipMismatch, ZeroTxid, BadTrace, BadEntry, BadStep}
 use Rattle.kinds.specs.declared.refusal.Verdict.{Verdict}
 use Rattle.kinds.specs.declared.refusal.Verdict.the-variants.{Pass, Refuse}
-use Rattle.settled.specs.Settled.{listed}
+use Rattle.listed.specs.Listed.{listed}
 use Rattle.model.specs.declared.Table.{Table}
 use Rattle.model.specs.Tally.{active, minimum}
 use Rattle.model.specs.Tables.{counted, lent}
@@ -21,10 +21,10 @@ use Rattle.grammar.specs.Items.{foundIn, foundFrom}
 use Rattle.grammar.specs.Named.{itemAt}
 use Rattle.grammar.specs.Texts.{readText}
 use Rattle.events.specs.Wait.{header}
-use Rattle.wait.specs.declared.Owner.{Owner}
-use Rattle.wait.specs.declared.Owner.the-variants.{Nobody, Holds}
+use Rattle.wait_rules.specs.declared.Owner.{Owner}
+use Rattle.wait_rules.specs.declared.Owner.the-variants.{Nobody, Holds}
 use Rattle.wait.specs.declared.WaitAnswer.{WaitAnswer}
-use Rattle.wait.specs.Steps.{registerRule, endRule, horizonRule, ruleOf, eventTest, changeBy, eventChange}
+use Rattle.wait_rules.specs.Steps.{registerRule, endRule, horizonRule, ruleOf, eventTest, changeBy, eventChange}
 use Rattle.wait.specs.Waits.{stepsFrom, ended, verdictOn, waitOf}
 
 -- pin 5 holds 3, the others are free

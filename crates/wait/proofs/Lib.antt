@@ -1,5 +1,3 @@
-pub mod Steps
-pub mod Kept
 pub mod Waits
 pub mod Running
 pub mod Told

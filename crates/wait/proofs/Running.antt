@@ -27,11 +27,11 @@ use Rattle.events.proofs.Answers.{event-is, reading-is}
 use Rattle.grammar.proofs.Laws.{opened, count-breaks}
 use Rattle.grammar.proofs.Grammar.{accepted}
 use Rattle.grammar.proofs.Walk.{none-left, next-item}
-use Rattle.wait.specs.declared.Owner.{Owner}
+use Rattle.wait_rules.specs.declared.Owner.{Owner}
 use Rattle.wait.specs.declared.WaitAnswer.{WaitAnswer}
-use Rattle.wait.specs.Steps.{eventTest, heldChange, eventAfter}
+use Rattle.wait_rules.specs.Steps.{eventTest, heldChange, eventAfter}
 use Rattle.wait.specs.Waits.{entryTest, holderTest, stepsFrom, ended, verdictOn, answered, steppedOf, waitOf}
-use Rattle.wait.proofs.Kept.{event-lent, held-is}
+use Rattle.wait_rules.proofs.Kept.{event-lent, held-is}
 
 pub record Running (n : ℕ) (owner : Owner) (s : List ℕ) (t₀ t : Table) (at step : ℕ) : Type 0 where
   pub boundary : Boundary s at

@@ -30,8 +30,8 @@ use Rattle.model.proofs.Refused.{Declined, stays, spends, declined}
 use Rattle.model.proofs.Transactions.{registered-taken}
 use Rattle.events.specs.declared.Kind.the-variants.{Register, End, Horizon, Reserve, Observe}
 use Rattle.events.specs.declared.Event.{Event}
-use Rattle.wait.specs.declared.Owner.{Owner}
-use Rattle.wait.specs.Steps.{notOwned, mayName, registerRule, endRule, horizonRule, ruleOf, eventTest, changeBy, eventChange}
+use Rattle.wait_rules.specs.declared.Owner.{Owner}
+use Rattle.wait_rules.specs.Steps.{notOwned, mayName, registerRule, endRule, horizonRule, ruleOf, eventTest, changeBy, eventChange}
 use Rattle.wait.specs.Waits.{stepsFrom, ended}
 
 abbrev pub registers : ℕ → ℕ → Event

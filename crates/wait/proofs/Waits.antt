@@ -24,11 +24,11 @@ use Rattle.model.proofs.Check.{passes-good, good-passes}
 use Rattle.grammar.specs.Texts.{Read, Whole, Broken}
 use Rattle.events.specs.Wait.{Header, Wait1, eventsOf}
 use Rattle.events.specs.declared.Event.{Event}
-use Rattle.wait.specs.declared.Owner.{Owner}
-use Rattle.wait.specs.declared.Owner.the-variants.{Holds}
-use Rattle.wait.specs.Steps.{eventTest, eventAfter}
+use Rattle.wait_rules.specs.declared.Owner.{Owner}
+use Rattle.wait_rules.specs.declared.Owner.the-variants.{Holds}
+use Rattle.wait_rules.specs.Steps.{eventTest, eventAfter}
 use Rattle.wait.specs.Waits.{entryTest, holderTest, stepsFrom, ended, verdictOn, answered, onText, waitOf}
-use Rattle.wait.proofs.Steps.{good-event, SlotStays, slot-stays, line-stays, pins-stay}
+use Rattle.wait_rules.proofs.Steps.{good-event, SlotStays, slot-stays, line-stays, pins-stay}
 
 went-on : (b : Bool) (v : Verdict) (r : Refusal) → cond b v (Refuse r) ≡ Pass → (b ≡ true) × (v ≡ Pass)
 went-on true v r e = (refl, e)

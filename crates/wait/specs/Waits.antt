@@ -12,10 +12,10 @@ use Rattle.model.specs.Check.{tablePasses}
 use Rattle.grammar.specs.Texts.{Read, Whole, Broken}
 use Rattle.events.specs.Wait.{Header, eventsOf}
 use Rattle.events.specs.declared.Event.{Event}
-use Rattle.wait.specs.declared.Owner.{Owner}
-use Rattle.wait.specs.declared.Owner.the-variants.{Nobody, Holds}
+use Rattle.wait_rules.specs.declared.Owner.{Owner}
+use Rattle.wait_rules.specs.declared.Owner.the-variants.{Nobody, Holds}
 use Rattle.wait.specs.declared.WaitAnswer.{WaitAnswer}
-use Rattle.wait.specs.Steps.{eventTest, eventAfter}
+use Rattle.wait_rules.specs.Steps.{eventTest, eventAfter}
 
 -- 21: the entry table doesn't pass the table check
 abbrev pub entryTest : ℕ → Table → Verdict

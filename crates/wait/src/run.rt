@@ -30,8 +30,8 @@ pub fn run_steps(table: Table, owner: Owner, s: &[u8]) -> WaitAnswer
             };
         };
         let was = t.counters;
-        if crate::rules::keeps_rule(&t.txids, was, owner, e) {
-            let change = crate::change::change_of(was, e);
+        if wait_rules::keeps_rule(&t.txids, was, owner, e) {
+            let change = wait_rules::change_of(was, e);
             t = changes::apply(t, change);
             at = next;
             step += 1;

@@ -4,7 +4,7 @@ use mathlib.Core.Path.{_≡_, refl}
 use mathlib.Core.List.{List, [], _∷_, _++_}
 use Rattle.kinds.specs.Kinds.{slot, txid, freePins}
 use Rattle.kinds.specs.Refusals.{told}
-use Rattle.settled.specs.Settled.{listed}
+use Rattle.listed.specs.Listed.{listed}
 use Rattle.model.specs.Tally.{active, minimum}
 use Rattle.model.specs.Check.{slotsPass, differ, pinsPass, passes}
 use Rattle.text.specs.Decimal.{decimalIn, decimal, numberText, numberTail, numberFrom, numberAt}
@@ -17,8 +17,8 @@ use Rattle.grammar.specs.Named.{itemAt}
 use Rattle.grammar.specs.Texts.{readText}
 use Rattle.table_text.specs.TableText.{pinRules, tableRules, pinNumbers, numbersOf, linesUnder, tableText, tableFrom, brokenAt}
 use Rattle.table_text.specs.TableText.{tableOf}
-use Rattle.wait.specs.declared.Owner.the-variants.{Nobody, Holds}
-use Rattle.wait.specs.Steps.{registerRule, endRule, horizonRule, ruleOf, eventTest, changeBy, eventChange}
+use Rattle.wait_rules.specs.declared.Owner.the-variants.{Nobody, Holds}
+use Rattle.wait_rules.specs.Steps.{registerRule, endRule, horizonRule, ruleOf, eventTest, changeBy, eventChange}
 use Rattle.wait.specs.Waits.{stepsFrom, ended, verdictOn, waitOf}
 use Rattle.wait_report.specs.Report.{verdictLines, answerText, onTable, reportOf}
 

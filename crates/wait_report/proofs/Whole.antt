@@ -17,7 +17,7 @@ use Rattle.text.proofs.Placed.{fits-next, both-placed, placed-put}
 use Rattle.table_text.specs.TableText.{tableText, tableOf}
 use Rattle.table_text.specs.declared.TableRead.{TableRead}
 use Rattle.wait.specs.Waits.{waitOf}
-use Rattle.wait.specs.declared.Owner.{Owner}
+use Rattle.wait_rules.specs.declared.Owner.{Owner}
 use Rattle.wait.specs.declared.WaitAnswer.{WaitAnswer}
 use Rattle.wait_report.specs.Report.{verdictLines, answerText, onTable, reportOf}
 

@@ -12,7 +12,7 @@ use Rattle.text.specs.Line.{lineText}
 use Rattle.table_text.specs.TableText.{tableText, tableOf}
 use Rattle.table_text.specs.declared.TableRead.{TableRead}
 use Rattle.wait.specs.Waits.{waitOf}
-use Rattle.wait.specs.declared.Owner.{Owner}
+use Rattle.wait_rules.specs.declared.Owner.{Owner}
 use Rattle.wait.specs.declared.WaitAnswer.{WaitAnswer}
 
 -- the five numbers of a verdict (SPEC 3.1)

@@ -50,7 +50,7 @@ fn put_answer(out: &mut [u8], answer: WaitAnswer) -> Put
     let t = answer.table;
     let told = told_of(verdict);
     let five = measure::verdict_length(told);
-    let rest = table_text::table_length(t);
+    let rest = table_writer::table_length(t);
     if out.len() < five {
         return Put::NoRoom;
     }
@@ -58,7 +58,7 @@ fn put_answer(out: &mut [u8], answer: WaitAnswer) -> Put
         return Put::NoRoom;
     }
     let past = lines::verdict_lines(out, told);
-    table_text::put_table(out, past, t)
+    table_writer::put_table(out, past, t)
 }
 
 // The report on a wait, from the buffer's start, where there is room for all of it; else nothing is written.

@@ -11,7 +11,7 @@ fn line(buf: &mut [u8], at: usize, key: &[u8], n: u64) -> usize
     requires { ⌜ at + length (lineText (now key) n) ≤ length (now buf) ⌝ }
     ensures { λ r. ⌜ Placed (now (buf .entry)) at (lineText (now (key .entry)) n) (now (buf .exit)) r ⌝ }
 {
-    let put = text::put_line(buf, at, key, n);
+    let put = text_writer::put_line(buf, at, key, n);
     match put {
         Put::Past(end) => end,
         Put::NoRoom => at,

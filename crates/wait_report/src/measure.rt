@@ -10,7 +10,7 @@ fn digits(n: u64) -> usize
     ensures { λ r. ⌜ r ≡ length (decimal n) ⌝ }
     ensures { λ r. ⌜ r ≤ 20 ⌝ }
 {
-    text::digits_in(n)
+    text_writer::digits_in(n)
 }
 
 // Five keys with their `=` and five newlines are 28 bytes.

@@ -8,7 +8,7 @@ use Rattle.hand_proofs.proofs.Words.{_$_, !, by, move, drop, first-only, sets, 
 use Rattle.hand_proofs.proofs.Words.{word, made, nil, hands-on, hands-none, calls-is, lands, opens-struct, twice}
 use Rattle.trace.proofs.RecordAt as F
 use Rattle.trace.proofs.RecordAt.Laws as F′
-use Rattle.trace.proofs.record_at as g
+use Rattle.trace_lines.proofs.record_at as g
 use Rattle.reader.specs.Reader.{standing, pastOf, foundBy, stepOf}
 use Rattle.reader.specs.declared.Reader.{Reader}
 use Rattle.reader.specs.declared.Step.{Step}
@@ -91,6 +91,6 @@ pub next-spec : {M : Type 1} → f.Statement.statement M
 unfolding f.Code.routine
 next-spec 𝓤 H 𝓜 𝓖 𝓡 =
     let w = world 𝓜 𝓖 𝓡 f.Code.env in
-    let parser = known 𝓜 𝓖 𝓡 f.Code.env (Parser w) g.Symbol.name f.Code.calls-trace·record-at (g.Met.met 𝓤 H 𝓜 𝓖 𝓡) in
+    let parser = known 𝓜 𝓖 𝓡 f.Code.env (Parser w) g.Symbol.name f.Code.calls-trace-lines·record-at (g.Met.met 𝓤 H 𝓜 𝓖 𝓡) in
     let past = known 𝓜 𝓖 𝓡 f.Code.env (Past w) h.Symbol.name f.Code.calls-reader·place-past (h.Met.met 𝓤 H 𝓜 𝓖 𝓡) in
     proves 𝓜 𝓖 𝓡 f.Code.env (P w) f.Key.name f.Code.function (f.Code.unfolded 𝓤 H 𝓜 𝓡) (meets w parser past)

@@ -1,4 +1,4 @@
--- One line, put where it has room: what is put and where is `text::put_line`'s, and what it means here stands in the crate's
+-- One line, put where it has room: what is put and where is `text_writer::put_line`'s, and what it means here stands in the crate's
 -- proofs/Ends.antt.
 use Rattle.replay.proofs.Ends.{end-written, end-short}
 use borrow.Author.Needs.{needs}

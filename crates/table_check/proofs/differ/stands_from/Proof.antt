@@ -4,8 +4,8 @@ use mathlib.Core.Path.{_≡_, refl, sym, _∙_}
 use native.Mathlib.Omega.{arith}
 use borrow.Author.Needs.{needs}
 use lib.ListN.{length, drop}
-use Rattle.settled.specs.Settled.{listed}
-use Rattle.settled.proofs.Listed.{listed-here, listed-later, listed-over}
+use Rattle.listed.specs.Listed.{listed}
+use Rattle.listed.proofs.Listed.{listed-here, listed-later, listed-over}
 use Rattle.table_check.proofs.differ.stands_from.Statement.{statement}
 use Rattle.table_check.proofs.differ.stands_from.Tie as tie
 

@@ -4,7 +4,7 @@ use mathlib.Core.Path.{_≡_, refl, sym, _∙_}
 use native.Mathlib.Omega.{arith}
 use lib.ListN.{length, drop}
 use Rattle.text.specs.Write.{spliced}
-use Rattle.trace_writer.specs.Writing.{recordsOf, listed, recordsText}
+use Rattle.rows_measure.specs.Measuring.{recordsOf, listed, recordsText}
 use Rattle.trace_writer.proofs.Texts.{header-fits}
 use Rattle.trace_writer.proofs.Judging.{Left, left-start, past-header, record-room, left-next, none-bad, left-over}
 use borrow.Author.Needs.{needs}
