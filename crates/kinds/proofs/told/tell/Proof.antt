@@ -130,6 +130,12 @@ enum-told-13 c = search needs
 bare-number-requires-13 : tie.Need-bare-number-requires-13
 bare-number-requires-13 c κs = search needs
 
+enum-told-14 : tie.Need-enum-told-14
+enum-told-14 c = search needs
+
+bare-number-requires-14 : tie.Need-bare-number-requires-14
+bare-number-requires-14 c κs = search needs
+
 enum-known-r-7 : tie.Need-enum-known-r-7
 enum-known-r-7 c = search needs
 
@@ -214,7 +220,11 @@ returns-19 c = rw (c .before .enum-told13 .given .1) (c .bare-number13 .ensures)
 
 returns-20 : tie.Need-returns-20
 unfolding told
-returns-20 c = rw (c .before .before .r7 .given .1) (c .numbers7 .ensures)
+returns-20 c = rw (c .before .enum-told14 .given .1) (c .bare-number14 .ensures)
+
+returns-21 : tie.Need-returns-21
+unfolding told
+returns-21 c = rw (c .before .before .r7 .given .1) (c .numbers7 .ensures)
 
 pub tell-spec : {M : Type 1} → statement M
 tell-spec =
@@ -262,6 +272,8 @@ tell-spec =
     bare-number-requires-12
     enum-told-13
     bare-number-requires-13
+    enum-told-14
+    bare-number-requires-14
     enum-known-r-7
     numbers-requires-7
     returns
@@ -283,4 +295,5 @@ tell-spec =
     returns-17
     returns-18
     returns-19
-    returns-20)
+    returns-20
+    returns-21)

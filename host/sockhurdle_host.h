@@ -1,0 +1,59 @@
+/* The settled test, the usable test and the table check, for a host in C. Link libsockhurdle_host.a, which host/build makes
+   from proved code: each function ends, reads the bytes that it is lent and nothing else, and writes nothing. docs/SPEC.md
+   has the rules: section 18 these functions, 6 the table check, 7 the two tests.
+
+   A slice is a pointer and a length in bytes. The pointer is not null, and needs no alignment; nobody writes these bytes
+   during the call. Any bytes and any length are answered. */
+#ifndef SOCKHURDLE_HOST_H
+#define SOCKHURDLE_HOST_H
+
+#include <stddef.h>
+#include <stdint.h>
+
+#ifdef __cplusplus
+extern "C" {
+#endif
+
+/* How many slots a table has, and so how many ids a list may have. */
+#define SOCKHURDLE_SLOTS 1024
+
+/* How many pins a table has. */
+#define SOCKHURDLE_PINS 64
+
+/* The image of a table: each number is 8 bytes, the least byte first. Slot after slot its txid, then its snapshot_xmin; then
+   the pins; then the clock, the sampled clock and the vacuum line. */
+#define SOCKHURDLE_PINS_AT (16 * SOCKHURDLE_SLOTS)
+#define SOCKHURDLE_CLOCK_AT (SOCKHURDLE_PINS_AT + 8 * SOCKHURDLE_PINS)
+#define SOCKHURDLE_SAMPLE_AT (SOCKHURDLE_CLOCK_AT + 8)
+#define SOCKHURDLE_LINE_AT (SOCKHURDLE_SAMPLE_AT + 8)
+#define SOCKHURDLE_IMAGE_LEN (SOCKHURDLE_LINE_AT + 8)
+
+/* The answers. */
+#define SOCKHURDLE_NO 0
+#define SOCKHURDLE_YES 1
+#define SOCKHURDLE_ZERO_TXID 4     /* the id asked about is 0 */
+#define SOCKHURDLE_BAD_SNAPSHOT 10 /* the list has more ids than a table has slots */
+#define SOCKHURDLE_BAD_IMAGE 18    /* the bytes have the length of no list, or of no image */
+
+/* Whether every reader of a snapshot may use what `id` made: it is below xmax and not in the list, the ids that were in flight.
+   Yes, no, or refusals 18, 10, 4, in this order. */
+uint64_t sockhurdle_settled(uint64_t xmax, const uint8_t *list, size_t list_len, uint64_t id);
+
+/* Whether one reader may: the id is settled, or the reader's own (0 for none). The answers are the same. */
+uint64_t sockhurdle_usable(uint64_t xmax, const uint8_t *list, size_t list_len, uint64_t id, uint64_t own);
+
+/* Whether the table of an image passes the table check. Yes, no, or refusal 18. */
+uint64_t sockhurdle_check_image(const uint8_t *image, size_t image_len);
+
+/* Puts a number as its 8 bytes. */
+static inline void sockhurdle_put(uint8_t *at, uint64_t number)
+{
+    for (int i = 0; i < 8; i++)
+        at[i] = (uint8_t)(number >> (8 * i));
+}
+
+#ifdef __cplusplus
+}
+#endif
+
+#endif
