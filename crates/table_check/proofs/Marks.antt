@@ -10,8 +10,8 @@ use lib.Dec.{eqb}
 use borrow.Author.Tests.{eqb-true, eqb-false}
 use lib.ListN.{length, drop, getD, set, drop-of-length-le}
 use lib.Seq.{getD-set-same, getD-set-other}
-use Rattle.settled.specs.Settled.{listed}
-use Rattle.settled.proofs.Listed.{listed-none, listed-later}
+use Rattle.listed.specs.Listed.{listed}
+use Rattle.listed.proofs.Listed.{listed-none, listed-later}
 use Rattle.model.specs.Check.{differ}
 use Rattle.table_check.proofs.Rest.{differ-empty, differ-twice, differ-once}
 
