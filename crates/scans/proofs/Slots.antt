@@ -3,10 +3,14 @@ use mathlib.Core.Path.{_≡_, refl}
 use mathlib.Core.Bool.{Bool, true, false, _&&_}
 use mathlib.Core.List.{List, [], _∷_}
 use Prim.Native.Nat.{ℕ, _+_, _<_, _≤_, min}
+use native.Mathlib.Omega.{arith}
 use lib.ListN.{length, drop, getD, drop-of-length-le}
-use borrow.Author.Tests.{eq-eqb, ne-eqb}
+use lib.Dec.{ltb}
+use borrow.Author.Tests.{eq-eqb, ne-eqb, eqb-true, eqb-false, not-true, ltb-true, ltb-false}
 use Rattle.kinds.proofs.Lists.{from}
 use Rattle.model.specs.Tally.{active, retained, lowestEmpty, minimum, oldestOf, holderFrom}
+use Rattle.scans.specs.Eight.{allEmpty, allOther}
+use Rattle.scans.proofs.Turns.{past-eight}
 
 and-false : (a : Bool) → (a && false) ≡ false
 and-false true = refl
@@ -90,3 +94,45 @@ module _ (txids : List ℕ) (i : ℕ) where
         i < length txids → length xmins ≤ i → holderFrom i (drop i txids) (drop i xmins) x otherwise ≡ otherwise
     unfolding holderFrom
     holder-short h k = rw (from txids i h, drop-of-length-le xmins k)
+
+-- The same for eight slots in a turn.
+module _ (txids : List ℕ) (i : ℕ) where
+  pub eight-taken :
+      i + 8 ≤ length txids → allOther txids 0 i ≡ true → i + lowestEmpty (drop i txids) ≡ (i + 8) + lowestEmpty (drop (i + 8) txids)
+  eight-taken =
+      past-eight (λ j. j + lowestEmpty (drop j txids)) _ (length txids)
+      (λ j h e. omega (arith, taken-here txids j h (eqb-false _ _ (not-true _ e)))) i
+
+  module _ (xmins : List ℕ) where
+    pub eight-oldest :
+        (low : ℕ) → i + 8 ≤ min (length txids) (length xmins) → allEmpty txids i ≡ true →
+        oldestOf (drop i txids) (drop i xmins) low ≡ oldestOf (drop (i + 8) txids) (drop (i + 8) xmins) low
+    eight-oldest low =
+        past-eight (λ j. oldestOf (drop j txids) (drop j xmins) low) _ (min (length txids) (length xmins))
+        (λ j h e. oldest-miss txids j xmins low (omega (arith, h)) (omega (arith, h)) (eqb-true _ _ e)) i
+
+    pub eight-held :
+        (x otherwise : ℕ) → i + 8 ≤ min (length txids) (length xmins) → allOther xmins x i ≡ true →
+        holderFrom i (drop i txids) (drop i xmins) x otherwise
+        ≡ holderFrom (i + 8) (drop (i + 8) txids) (drop (i + 8) xmins) x otherwise
+    eight-held x otherwise =
+        past-eight (λ j. holderFrom j (drop j txids) (drop j xmins) x otherwise) _ (min (length txids) (length xmins))
+        (λ j h e. holder-other txids j xmins x otherwise (omega (arith, h)) (omega (arith, h)) (eqb-false _ _ (not-true _ e))) i
+
+    -- the shorter column is over
+    pub oldest-over :
+        (low : ℕ) → min (length txids) (length xmins) ≤ i → oldestOf (drop i txids) (drop i xmins) low ≡ low
+    oldest-over low h = go (ltb i (length txids)) refl
+      where
+        go : (b : Bool) → ltb i (length txids) ≡ b → oldestOf (drop i txids) (drop i xmins) low ≡ low
+        go true e = oldest-short txids i xmins low (ltb-true _ _ e) (omega (arith, h, ltb-true i (length txids) e))
+        go false e = oldest-none txids i xmins low (ltb-false _ _ e)
+
+    pub holder-over :
+        (x otherwise : ℕ) → min (length txids) (length xmins) ≤ i →
+        holderFrom i (drop i txids) (drop i xmins) x otherwise ≡ otherwise
+    holder-over x otherwise h = go (ltb i (length txids)) refl
+      where
+        go : (b : Bool) → ltb i (length txids) ≡ b → holderFrom i (drop i txids) (drop i xmins) x otherwise ≡ otherwise
+        go true e = holder-short txids i xmins x otherwise (ltb-true _ _ e) (omega (arith, h, ltb-true i (length txids) e))
+        go false e = holder-none txids i xmins x otherwise (ltb-false _ _ e)

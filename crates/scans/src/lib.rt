@@ -1,4 +1,5 @@
 // The scans of the slots, over lent columns of any length.
+mod eight;
 mod holder;
 mod lowest;
 mod oldest;

@@ -1,4 +1,5 @@
 // The scan that begin makes.
+use crate::eight::all_other;
 ghost use mathlib.Core.Path.{_≡_};
 ghost use Rattle.model.specs.Tally.{lowestEmpty};
 
@@ -6,8 +7,16 @@ ghost use Rattle.model.specs.Tally.{lowestEmpty};
 pub fn lowest_empty(txids: &[u64]) -> usize
     ensures { λ r. ⌜ r ≡ lowestEmpty (now (txids .entry)) ⌝ }
 {
+    let end = txids.len();
     let mut i: usize = 0;
-    while i < txids.len() {
+    while 8 <= end - i {
+        if all_other(txids, i, 0) {
+            i += 8;
+            continue;
+        }
+        break;
+    }
+    while i < end {
         if txids[i] == 0 {
             return i;
         }

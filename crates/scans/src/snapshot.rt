@@ -1,16 +1,11 @@
 // The scan that the snapshot calls make.
+use crate::eight::all_empty;
+use crate::eight::shorter;
 use kinds::SLOTS;
 use settled::Snapshot;
 ghost use mathlib.Core.Path.{_≡_};
-ghost use Prim.Native.Nat.{min};
 ghost use lib.ListN.{take};
 ghost use Rattle.model.specs.Tally.{snapshotOf};
-
-fn shorter(a: usize, b: usize) -> usize
-    ensures { λ r. ⌜ r ≡ min a b ⌝ }
-{
-    if a <= b { a } else { b }
-}
 
 // What a snapshot with this sample holds; a slot past the snapshot's places is not read.
 pub fn take_snapshot(txids: &[u64], sample: u64) -> Snapshot
@@ -23,15 +18,25 @@ pub fn take_snapshot(txids: &[u64], sample: u64) -> Snapshot
     let mut high: u64 = 0;
     let mut i: usize = 0;
     while i < end {
-        let id = txids[i];
-        i += 1;
-        if id == 0 {
-            continue;
+        let left = end - i;
+        if 8 <= left {
+            if all_empty(txids, i) {
+                i += 8;
+                continue;
+            }
         }
-        ids[count] = id;
-        count += 1;
-        low = kinds::lesser(low, id);
-        high = kinds::greater(high, id);
+        let stop = i + shorter(8, left);
+        while i < stop {
+            let id = txids[i];
+            i += 1;
+            if id == 0 {
+                continue;
+            }
+            ids[count] = id;
+            count += 1;
+            low = kinds::lesser(low, id);
+            high = kinds::greater(high, id);
+        }
     }
     if count == 0 {
         return Snapshot {

@@ -1,44 +1,67 @@
-//! The traces of the race: close to 64 KiB each, with different work in them.
+//! The traces of the race: close to 64 KiB each, with different work in them, under every header.
 
 use crate::history::{History, Stride, plain};
 use crate::random::Random;
 use crate::table::{PINS, SLOTS};
 use crate::text;
-use crate::trace::Version::{self, Proc1, Proc2, Proc3};
+use crate::trace::Version;
 use crate::trace::{Op, Record};
 
 pub struct RaceTrace {
-    pub name: &'static str,
+    pub name: String,
     pub text: Vec<u8>,
 }
 
+/// A kind of trace: its name, and its text under a header.
+type Kind = (&'static str, fn(Version) -> Vec<u8>);
+
+const KINDS: &[Kind] = &[
+    ("header alone", |version| text::of_records(version, &[])),
+    ("shortest records", |version| {
+        until_full(version, 0, shortest)
+    }),
+    ("begin and end", |version| {
+        until_full(version, 0, begin_and_end)
+    }),
+    ("all ops", |version| until_full(version, 0, any_op)),
+    ("all ops, wide", wide),
+    ("begins refused", |version| {
+        until_full(version, SLOTS, begin_again)
+    }),
+    ("snapshots of 16", |version| {
+        until_full(version, 16, snapshots)
+    }),
+    ("snapshots of every second", every_second),
+    ("snapshots of all", |version| {
+        until_full(version, SLOTS, snapshots)
+    }),
+    ("oldest, vacuum", |version| {
+        until_full(version, SLOTS / 2, oldest_and_vacuum)
+    }),
+    ("unreadable at end", unreadable),
+];
+
+/// Those that only the header with pins has.
+const PINNED: &[Kind] = &[
+    ("pins", |version| until_full(version, 16, pinned)),
+    ("oldest, vacuum, all pins taken", all_pinned),
+];
+
 pub fn all() -> Vec<RaceTrace> {
-    let named = |name, text| RaceTrace { name, text };
-    vec![
-        named("header alone", text::of_records(Proc1, &[])),
-        named(
-            "shortest records",
-            until_full(Proc1, 0, |_, _| plain(Op::Own)),
-        ),
-        named("begin and end", until_full(Proc1, 0, begin_and_end)),
-        named("all ops", until_full(Proc1, 0, any_op)),
-        named("all ops, proc-2", until_full(Proc2, 0, any_op)),
-        named("all ops, proc-3", until_full(Proc3, 0, any_op)),
-        named("all ops, wide", wide()),
-        named("begins refused", until_full(Proc1, SLOTS, begin_again)),
-        named("snapshots of 16", until_full(Proc1, 16, snapshots)),
-        named("snapshots of all", until_full(Proc1, SLOTS, snapshots)),
-        named(
-            "oldest, vacuum",
-            until_full(Proc1, SLOTS / 2, oldest_and_vacuum),
-        ),
-        named(
-            "oldest, vacuum, proc-2",
-            until_full(Proc2, SLOTS / 2, oldest_and_vacuum),
-        ),
-        named("pins", until_full(Proc3, 16, pinned)),
-        named("unreadable at end", unreadable()),
-    ]
+    let mut all = Vec::new();
+    for version in Version::ALL {
+        all.extend(KINDS.iter().map(|kind| under(version, *kind)));
+    }
+    all.extend(PINNED.iter().map(|kind| under(Version::Proc3, *kind)));
+    all
+}
+
+fn under(version: Version, (name, text): Kind) -> RaceTrace {
+    let header = version.header().trim_start_matches("trace=");
+    RaceTrace {
+        name: format!("{name}, {header}"),
+        text: text(version),
+    }
 }
 
 /// A table with `taken` slots, then records until the text is full.
@@ -68,6 +91,11 @@ fn accepted(history: &mut History, op: Op) -> Record {
     history.record(op, Default::default())
 }
 
+/// Refused, since id 0 owns nothing.
+fn shortest(_: &mut History, _: usize) -> Record {
+    plain(Op::Own)
+}
+
 fn begin_and_end(history: &mut History, place: usize) -> Record {
     let op = [Op::Begin, Op::End][place % 2];
     accepted(history, op)
@@ -79,8 +107,8 @@ fn any_op(history: &mut History, _: usize) -> Record {
     history.record(op, faults)
 }
 
-fn wide() -> Vec<u8> {
-    let mut history = History::new(Proc1, Random::new(2), Stride::Wide, false);
+fn wide(version: Version) -> Vec<u8> {
+    let mut history = History::new(version, Random::new(2), Stride::Wide, false);
     extend(&mut history, any_op);
     history.text()
 }
@@ -92,6 +120,18 @@ fn begin_again(history: &mut History, _: usize) -> Record {
 fn snapshots(history: &mut History, place: usize) -> Record {
     let op = [Op::Snap, Op::Own][place % 2];
     accepted(history, op)
+}
+
+/// The lower half is filled, and every second slot of it emptied again.
+fn every_second(version: Version) -> Vec<u8> {
+    let mut history = History::new(version, Random::new(1), Stride::Short, false);
+    history.fill(SLOTS / 2);
+    for slot in (0..SLOTS / 2).step_by(2) {
+        let txid = history.table().slots()[slot].txid;
+        history.push(plain(Op::End).with_registration(slot as u16, txid));
+    }
+    extend(&mut history, snapshots);
+    history.text()
 }
 
 fn oldest_and_vacuum(history: &mut History, place: usize) -> Record {
@@ -110,9 +150,17 @@ fn pinned(history: &mut History, place: usize) -> Record {
     accepted(history, op)
 }
 
+fn all_pinned(version: Version) -> Vec<u8> {
+    let mut history = History::new(version, Random::new(1), Stride::Short, false);
+    history.fill(SLOTS / 2);
+    history.fill_pins(PINS);
+    extend(&mut history, oldest_and_vacuum);
+    history.text()
+}
+
 /// All is read before the last line turns out to be broken.
-fn unreadable() -> Vec<u8> {
-    let mut text = until_full(Proc1, 0, any_op);
+fn unreadable(version: Version) -> Vec<u8> {
+    let mut text = until_full(version, 0, any_op);
     text.pop();
     text
 }

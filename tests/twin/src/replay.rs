@@ -108,18 +108,27 @@ impl Answer {
 }
 
 fn print(version: Version, answer: &Answer, out: &mut impl Write) -> io::Result<()> {
-    writeln!(out, "answer={}", answer.number)?;
-    writeln!(out, "slot={}", answer.slot)?;
-    writeln!(out, "id={}", answer.id)?;
-    writeln!(out, "seen={}", answer.seen)?;
-    writeln!(out, "xmin={}", answer.xmin)?;
-    writeln!(out, "xmax={}", answer.xmax)?;
-    writeln!(out, "vacuum={}", answer.vacuum)?;
-    writeln!(out, "count={}", answer.in_flight.len())?;
+    let Answer {
+        number,
+        slot,
+        id,
+        seen,
+        xmin,
+        xmax,
+        vacuum,
+        holder,
+        in_flight,
+    } = answer;
+    let count = in_flight.len();
+    // one call, for each has its cost
+    write!(
+        out,
+        "answer={number}\nslot={slot}\nid={id}\nseen={seen}\nxmin={xmin}\nxmax={xmax}\nvacuum={vacuum}\ncount={count}\n"
+    )?;
     if version.prints_holder() {
-        writeln!(out, "holder={}", answer.holder)?;
+        writeln!(out, "holder={holder}")?;
     }
-    for id in &answer.in_flight {
+    for id in in_flight {
         writeln!(out, "in={id}")?;
     }
     Ok(())

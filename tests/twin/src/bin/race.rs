@@ -1,25 +1,25 @@
-//! Times a program against the twin on traces of about 64 KiB.
+//! Times a program against the plain replay and the one tuned by hand, on traces of about 64 KiB.
 
 use std::hint::black_box;
 use std::path::Path;
 use std::process::ExitCode;
-use std::time::{Duration, Instant};
 use std::{fs, io};
-use twin::race::{self, Times};
+use twin::race;
+use twin::race_table::{HEADING, Lanes, Row};
 use twin::race_traces::{self, RaceTrace};
-use twin::{compare, linked, replay};
+use twin::{compare, linked, replay, tuned};
 
-const USAGE: &str = "usage: race PROGRAM TWIN [RUNS]
-Times both programs on the same traces, RUNS times each in turn (default 31).";
+const USAGE: &str = "usage: race PROGRAM TOOLS [RUNS]
+Times PROGRAM, TOOLS/twin and TOOLS/tuned on the same traces, RUNS times each in turn (default 31).";
 
 /// Where the traces are put for the programs to read.
 const FOLDER: &str = "target/race";
 
 fn main() -> ExitCode {
     let arguments: Vec<String> = std::env::args().skip(1).collect();
-    let (program, twin, runs) = match arguments.as_slice() {
-        [program, twin] => (program, twin, Ok(31)),
-        [program, twin, runs] => (program, twin, runs.parse::<usize>()),
+    let (program, tools, runs) = match arguments.as_slice() {
+        [program, tools] => (program, tools, Ok(31)),
+        [program, tools, runs] => (program, tools, runs.parse::<usize>()),
         _ => {
             eprintln!("{USAGE}");
             return ExitCode::from(2);
@@ -29,7 +29,7 @@ fn main() -> ExitCode {
         eprintln!("{USAGE}");
         return ExitCode::from(2);
     };
-    match whole_processes(program, twin, runs).and_then(|()| inside(runs)) {
+    match inside(runs).and_then(|()| whole_processes(program, tools, runs)) {
         Ok(()) => ExitCode::SUCCESS,
         Err(error) => {
             eprintln!("race: {error}");
@@ -38,97 +38,128 @@ fn main() -> ExitCode {
     }
 }
 
-const HEADING: &str = "trace                   bytes in  bytes out  \
-     twin med   twin min  prog. med  prog. min  med/med  min/min";
+const CELLS: &str = "A cell is the median (the least; the quartiles), a ratio that of the medians \
+    (of the least).\n";
 
-fn whole_processes(program: &str, twin: &str, runs: usize) -> io::Result<()> {
-    println!("Whole processes, microseconds, {runs} runs each in turn:");
+fn whole_processes(program: &str, tools: &str, runs: usize) -> io::Result<()> {
+    println!("\nWhole processes, microseconds, {runs} runs each in turn:");
     println!("standard input is a file, all of standard output is read through a pipe.");
-    println!("{HEADING}");
+    println!("{CELLS}\n{HEADING}");
+    let (plain, tuned) = (format!("{tools}/twin"), format!("{tools}/tuned"));
     fs::create_dir_all(FOLDER)?;
     let mut out = Vec::new();
     for trace in race_traces::all() {
         let file = Path::new(FOLDER).join(format!("{}.trace", trace.name));
         fs::write(&file, &trace.text)?;
         let expected = compare::expected(&trace.text);
-        let (mut twins, mut programs) = (Times::default(), Times::default());
+        let mut lanes = Lanes::default();
+        let Lanes {
+            plain: plains,
+            tuned: tuneds,
+            ours,
+        } = &mut lanes;
+        let ours = ours.insert(Default::default());
         for _ in 0..runs {
-            for (path, times) in [(twin, &mut twins), (program, &mut programs)] {
+            let programs = [
+                (&*plain, &mut *plains),
+                (&*tuned, &mut *tuneds),
+                (program, &mut *ours),
+            ];
+            for (path, times) in programs {
                 times.add(race::whole_process(path, &file, &mut out)?);
-                same(&trace, &out, &expected)?;
+                same(&trace, path, &out, &expected)?;
             }
         }
-        row(&trace, expected.len(), &twins, Some(&programs));
+        row(&trace, expected.len(), &lanes);
     }
     Ok(())
 }
 
 fn inside(runs: usize) -> io::Result<()> {
-    println!();
-    println!("Inside one process, microseconds, {runs} runs each in turn: bytes in to bytes out,");
-    println!("into buffers prepared before the clock starts (a Vec with room, a written slice).");
-    println!("{HEADING}");
+    println!(
+        "Inside one process, microseconds, {runs} runs each in turn: bytes in to bytes out, into buffers"
+    );
+    println!(
+        "prepared before the clock starts: plain a Vec with room, tuned and ours a slice, all of it written."
+    );
+    println!("{CELLS}\n{HEADING}");
     for trace in race_traces::all() {
         let expected = compare::expected(&trace.text);
-        let mut room = Vec::with_capacity(expected.len());
-        let mut slice = vec![1_u8; expected.len() + 65_536];
-        let (mut twins, mut programs) = (Times::default(), None);
+        let mut buffers = Buffers::of(expected.len());
+        let mut lanes = Lanes::default();
         for _ in 0..runs {
-            twins.add(time_twin(&trace.text, &mut room)?);
-            same(&trace, &room, &expected)?;
-            if let Some((time, length)) = time_linked(&trace.text, &mut slice) {
-                same(&trace, slice.get(..length).unwrap_or_default(), &expected)?;
-                programs.get_or_insert_with(Times::default).add(time);
-            }
+            buffers.run(&trace, &expected, &mut lanes)?;
         }
-        row(&trace, expected.len(), &twins, programs.as_ref());
+        row(&trace, expected.len(), &lanes);
     }
     Ok(())
 }
 
-fn time_twin(text: &[u8], out: &mut Vec<u8>) -> io::Result<Duration> {
-    out.clear();
-    let start = Instant::now();
-    replay::replay(black_box(text), out)?;
-    black_box(&*out);
-    Ok(start.elapsed())
+/// Where the outputs go; both kinds keep their memory from run to run.
+struct Buffers {
+    room: Vec<u8>,
+    slice: Vec<u8>,
 }
 
-/// The linked library's time, if one is linked; see `linked.rs`.
-fn time_linked(text: &[u8], out: &mut [u8]) -> Option<(Duration, usize)> {
-    let start = Instant::now();
-    let length = linked::replay(black_box(text), out)?;
-    black_box(&*out);
-    Some((start.elapsed(), length))
+impl Buffers {
+    fn of(length: usize) -> Buffers {
+        Buffers {
+            room: Vec::with_capacity(length),
+            // the program asks for a record's most room before it writes it, and so does the tuned replay
+            slice: vec![1; length + tuned::ROOM.max(65_536)],
+        }
+    }
+
+    /// Times each once, and compares what it wrote.
+    fn run(&mut self, trace: &RaceTrace, expected: &[u8], lanes: &mut Lanes) -> io::Result<()> {
+        let Buffers { room, slice } = self;
+        // what takes less than the clock can tell is done often
+        let turns = if trace.text.len() < 1_024 { 1_000 } else { 1 };
+        let mut length = 0;
+        lanes.plain.add(race::in_a_row(turns, || {
+            room.clear();
+            replay::replay(black_box(&trace.text), black_box(&mut *room))
+                .expect("memory takes all");
+        }));
+        same(trace, "plain", room, expected)?;
+        lanes.tuned.add(race::in_a_row(turns, || {
+            let written = tuned::replay(black_box(&trace.text), black_box(&mut *slice));
+            length = written.unwrap_or_default();
+        }));
+        same(trace, "tuned", &slice[..length], expected)?;
+        let mut linked = false;
+        let time = race::in_a_row(turns, || {
+            let written = linked::replay(black_box(&trace.text), black_box(&mut *slice));
+            linked = written.is_some();
+            length = written.unwrap_or_default();
+        });
+        if linked {
+            same(trace, "ours", &slice[..length], expected)?;
+            lanes.ours.get_or_insert_default().add(time);
+        }
+        Ok(())
+    }
 }
 
-fn same(trace: &RaceTrace, output: &[u8], expected: &[u8]) -> io::Result<()> {
+fn same(trace: &RaceTrace, who: &str, output: &[u8], expected: &[u8]) -> io::Result<()> {
     if output == expected {
         return Ok(());
     }
+    let name = &trace.name;
     Err(io::Error::other(format!(
-        "the outputs differ on: {}",
-        trace.name
+        "{who} prints otherwise on: {name}"
     )))
 }
 
-fn row(trace: &RaceTrace, bytes_out: usize, twin: &Times, program: Option<&Times>) {
-    let (median, least) = (micros(twin.median()), micros(twin.least()));
-    let (name, bytes_in) = (trace.name, trace.text.len());
-    print!("{name:<22}  {bytes_in:>8}  {bytes_out:>9}  {median:>9.1}  {least:>9.1}");
-    match program {
-        None => println!("  (none is linked)"),
-        Some(times) => {
-            let (other_median, other_least) = (micros(times.median()), micros(times.least()));
-            println!(
-                "  {other_median:>9.1}  {other_least:>9.1}  {:>7.2}  {:>7.2}",
-                other_median / median,
-                other_least / least
-            );
+fn row(trace: &RaceTrace, bytes_out: usize, lanes: &Lanes) {
+    let (name, bytes_in) = (&*trace.name, trace.text.len());
+    println!(
+        "{}",
+        Row {
+            name,
+            bytes_in,
+            bytes_out,
+            lanes
         }
-    }
-}
-
-fn micros(time: Duration) -> f64 {
-    time.as_secs_f64() * 1e6
+    );
 }
