@@ -39,6 +39,7 @@ pub fn tell(r: Refusal) -> Told
         Refusal::FreePin(pin) => numbers(16, pin.0 as u64, 0, 0, 0),
         Refusal::EndedBefore => bare_number(17),
         Refusal::BadImage => bare_number(18),
+        Refusal::TooManyCalls => bare_number(19),
         Refusal::BadRecord => bare_number(20),
         Refusal::BadEntry => bare_number(21),
         Refusal::BadStep(step) => numbers(22, 0, 0, 0, step),

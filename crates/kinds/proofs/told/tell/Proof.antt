@@ -136,6 +136,12 @@ enum-told-14 c = search needs
 bare-number-requires-14 : tie.Need-bare-number-requires-14
 bare-number-requires-14 c κs = search needs
 
+enum-told-15 : tie.Need-enum-told-15
+enum-told-15 c = search needs
+
+bare-number-requires-15 : tie.Need-bare-number-requires-15
+bare-number-requires-15 c κs = search needs
+
 enum-known-r-7 : tie.Need-enum-known-r-7
 enum-known-r-7 c = search needs
 
@@ -224,7 +230,11 @@ returns-20 c = rw (c .before .enum-told14 .given .1) (c .bare-number14 .ensures)
 
 returns-21 : tie.Need-returns-21
 unfolding told
-returns-21 c = rw (c .before .before .r7 .given .1) (c .numbers7 .ensures)
+returns-21 c = rw (c .before .enum-told15 .given .1) (c .bare-number15 .ensures)
+
+returns-22 : tie.Need-returns-22
+unfolding told
+returns-22 c = rw (c .before .before .r7 .given .1) (c .numbers7 .ensures)
 
 pub tell-spec : {M : Type 1} → statement M
 tell-spec =
@@ -274,6 +284,8 @@ tell-spec =
     bare-number-requires-13
     enum-told-14
     bare-number-requires-14
+    enum-told-15
+    bare-number-requires-15
     enum-known-r-7
     numbers-requires-7
     returns
@@ -296,4 +308,5 @@ tell-spec =
     returns-18
     returns-19
     returns-20
-    returns-21)
+    returns-21
+    returns-22)

@@ -1,0 +1,3 @@
+pub mod List
+pub mod Said
+pub mod Agree

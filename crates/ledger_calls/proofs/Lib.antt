@@ -1,0 +1,4 @@
+pub mod Tells
+pub mod Reserving
+pub mod Viewing
+pub mod Left

@@ -1,0 +1,4 @@
+pub mod Columns
+pub mod Seen
+pub mod Ids
+pub mod Walk
