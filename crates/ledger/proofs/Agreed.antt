@@ -1,11 +1,10 @@
 -- The list told from its start reaches the table that was carried along, so both say the same.
 use Prim.Native.Nat.{ℕ, _+_, _≤_}
-use mathlib.Core.Path.{_≡_, refl, sym, ap, _∙_}
+use mathlib.Core.Path.{_≡_, refl, ap}
 use mathlib.Core.List.{List, [], _∷_, _++_, map}
 use native.Mathlib.Omega.{arith}
-use lib.ListN.{length, length-append}
+use lib.ListN.{length}
 use borrow.Author.Tests.{lt-ltb, le-ltb}
-use Rattle.model.specs.declared.Table.{Table}
 use Rattle.model.specs.Tables.{freshTable}
 use Rattle.model.specs.Calls.{Call, after}
 use Rattle.model.specs.History.{run, reached}

@@ -2,7 +2,7 @@
 use Prim.Native.Nat.{ℕ, _+_, _<_, _≤_}
 use mathlib.Core.Path.{_≡_, refl, sym, ap, _∙_}
 use mathlib.Core.Bool.{Bool, true, false, cond}
-use mathlib.Core.List.{List, [], _∷_, map}
+use mathlib.Core.List.{List, [], _∷_}
 use native.Mathlib.Numerals.{add-one}
 use native.Mathlib.Omega.{arith}
 use lib.Dec.{ltb}
@@ -14,7 +14,7 @@ use Rattle.model.specs.declared.Table.{Table}
 use Rattle.model.specs.Facts.{Good}
 use Rattle.model.specs.Stored.{storedAt}
 use Rattle.model.specs.Tables.{lent, freshTable}
-use Rattle.model.specs.Calls.{Call, after}
+use Rattle.model.specs.Calls.{after}
 use Rattle.model.specs.History.{run, reached}
 use Rattle.model.proofs.Moves.{good-fresh}
 use Rattle.model.proofs.Facts.{good-after}

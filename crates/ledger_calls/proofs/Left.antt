@@ -1,6 +1,6 @@
 -- In a table of n slots a deed leaves what the change does: a place that no slot has stores nothing.
 use Prim.Native.Nat.{ℕ}
-use mathlib.Core.Path.{_≡_, refl, sym, ap, _∙_}
+use mathlib.Core.Path.{_≡_}
 use native.Mathlib.Nat.{le-of-eq}
 use lib.ListN.{set}
 use lib.Seq.{set-out, set-getD}

@@ -1,4 +1,4 @@
-// What one call does and answers, told by numbers alone: each of the ten in the words of SPEC 4, on columns that the second engine
+// What one call does and answers, told by numbers alone: each of the ten in the words of SPEC 5, on columns that the second engine
 // worked out of its list.
 mod asked;
 mod op;

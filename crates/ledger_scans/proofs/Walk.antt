@@ -1,5 +1,5 @@
 -- What a walk down the places finds is what the model says: the smallest xmin, and its lowest holder.
-use Prim.Native.Nat.{ℕ, _+_, _-_, _<_, _≤_, min}
+use Prim.Native.Nat.{ℕ, _+_, _<_, _≤_, min}
 use mathlib.Core.Path.{_≡_, refl, sym, ap, _∙_}
 use mathlib.Core.Bool.{Bool, true, false, cond}
 use mathlib.Core.List.{List, [], _∷_}
@@ -9,7 +9,7 @@ use lib.Dec.{eqb, leb}
 use lib.ListN.{length, drop, getD, drop-of-length-le}
 use borrow.Author.Tests.{eq-eqb, ne-eqb, le-leb, lt-leb, leb-true, leb-false}
 use Rattle.kinds.proofs.Lists.{from}
-use Rattle.model.specs.Tally.{consUnless, active, retained, minimum, oldestOf, holds, holderFrom, holderOf, pinHolderOf}
+use Rattle.model.specs.Tally.{consUnless, retained, minimum, oldestOf, holderFrom, holderOf, pinHolderOf}
 use Rattle.model.specs.Tally.{firstPin, noHolder}
 use Rattle.model.proofs.Tally.{retained-self}
 use Rattle.ledger_scans.specs.declared.held.Held.{Held}

@@ -103,7 +103,7 @@ fn main() {
     );
     let large = race_traces::all()
         .into_iter()
-        .find(|trace| trace.name == "snapshots of all");
+        .find(|trace| trace.name == "snapshots of all, proc-1");
     let large = large.expect("the race has such a trace").text;
     let mut broken = small.clone();
     broken.truncate(small.len() - 3);

@@ -1,6 +1,5 @@
 -- The theorem about lists (crate's proofs/Agreed.antt), at these two numbers.
 use Rattle.ledger.proofs.Agreed.{agreement}
-use borrow.Author.Needs.{needs}
 use Rattle.ledger.proofs.holds.agreement_holds.Statement.{statement}
 use Rattle.ledger.proofs.holds.agreement_holds.Tie as tie
 

@@ -1,7 +1,6 @@
 -- By the comparison.
 use borrow.Author.Tests.{eq-eqb, ne-eqb}
 use Rattle.ledger_calls.specs.Rows.{tryOp}
-use borrow.Author.Needs.{needs}
 use Rattle.ledger_calls.proofs.op.try_op.Statement.{statement}
 use Rattle.ledger_calls.proofs.op.try_op.Tie as tie
 

@@ -1,8 +1,6 @@
 -- The walk down the pins and that down the slots, together, are what the model says (crate's proofs/Walk.antt).
-use mathlib.Core.Path.{ap, _∙_}
+use mathlib.Core.Path.{_∙_}
 use borrow.Author.Needs.{needs}
-use Rattle.ledger_scans.specs.declared.held.Held.{Held}
-use Rattle.ledger_scans.specs.Held.{heldFrom}
 use Rattle.ledger_scans.proofs.Walk.{held-is}
 use Rattle.ledger_scans.proofs.held.held_back.Statement.{statement}
 use Rattle.ledger_scans.proofs.held.held_back.Tie as tie
