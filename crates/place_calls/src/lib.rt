@@ -23,7 +23,7 @@ pub extern "C" fn sockhurdle_begin(table: &mut [u64], number: u64, out: &mut [u6
     }
     let words = &table[..];
     let was = place::counters_in(words);
-    let decided = registration::decide_begin(&words[..SLOTS], was, Stamp(number));
+    let decided = table::decide_begin(&words[..SLOTS], was, Stamp(number));
     let change = decided.change;
     place::store(table, change);
     place::tell_plain(out, decided)
@@ -42,7 +42,7 @@ pub extern "C" fn sockhurdle_end(table: &mut [u64], slot: u16, id: u64, out: &mu
     }
     let words = &table[..];
     let was = place::counters_in(words);
-    let decided = registration::decide_end(&words[..SLOTS], was, SlotNo(slot), Txid(id));
+    let decided = table::decide_end(&words[..SLOTS], was, SlotNo(slot), Txid(id));
     let change = decided.change;
     place::store(table, change);
     place::tell_plain(out, decided)
@@ -61,7 +61,7 @@ pub extern "C" fn sockhurdle_stamp(table: &mut [u64], number: u64, out: &mut [u6
     }
     let words = &table[..];
     let was = place::counters_in(words);
-    let decided = publication::decide_stamp(was, Stamp(number));
+    let decided = table::decide_stamp(was, Stamp(number));
     let change = decided.change;
     place::store(table, change);
     place::tell_plain(out, decided)
@@ -86,13 +86,7 @@ pub extern "C" fn sockhurdle_finish(
     }
     let words = &table[..];
     let was = place::counters_in(words);
-    let decided = publication::decide_finish(
-        &words[..SLOTS],
-        was,
-        SlotNo(slot),
-        Txid(id),
-        Stamp(number),
-    );
+    let decided = table::decide_finish(&words[..SLOTS], was, SlotNo(slot), Txid(id), Stamp(number));
     let change = decided.change;
     place::store(table, change);
     place::tell_plain(out, decided)

@@ -26,7 +26,7 @@ pub extern "C" fn sockhurdle_oldest(
     }
     let words = &table[..];
     let was = place::counters_in(words);
-    let decided = horizon::decide_oldest(
+    let decided = table::decide_oldest(
         &words[..SLOTS],
         &words[SLOTS..PINS_FROM],
         &words[PINS_FROM..CLOCK],
@@ -57,7 +57,7 @@ pub extern "C" fn sockhurdle_vacuum(
     }
     let words = &table[..];
     let was = place::counters_in(words);
-    let decided = horizon::decide_vacuum(
+    let decided = table::decide_vacuum(
         &words[..SLOTS],
         &words[SLOTS..PINS_FROM],
         &words[PINS_FROM..CLOCK],

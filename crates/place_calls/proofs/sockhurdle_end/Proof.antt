@@ -43,12 +43,12 @@ same-length-2 c = search needs
 returns-2 : tie.Need-returns-2
 unfolding shownAccepted
 returns-2 c =
-    let a = c .before .before .before .before .before .before .before .before .before .before .before .before .before .before .before .before .args in
-    let fit = sym (c .before .before .before .before .before .before .before .before .before .before .before .before .before .shape-test .ensures) ∙ c .before .before .before .before .before .before .before .before .before .before .before .before .if1 .left in
-    let was = c .before .before .before .before .before .before .before .before .before .before .counters-in .ensures in
-    let decided = c .before .before .before .before .before .before .before .before .decide-end .ensures ∙ lent-words _ (a .table .now) _ was refl in
+    let a = c .before .before .before .before .before .before .before .before .before .before .before .before .before .before .before .before .before .args in
+    let fit = sym (c .before .before .before .before .before .before .before .before .before .before .before .before .before .before .shape-test .ensures) ∙ c .before .before .before .before .before .before .before .before .before .before .before .before .before .if1 .left in
+    let was = c .before .before .before .before .before .before .before .before .before .before .before .counters-in .ensures in
+    let decided = c .before .before .before .before .before .before .before .before .before .decide-end .ensures ∙ lent-words _ (a .table .now) _ was refl in
     let told = c .before .before .tell-plain .ensures in
-    called _ _ (a .table .now) _ (a .out .now) fit (shaped _ _ _ fit) decided refl (told .0) (c .before .before .before .before .before .store .ensures) (told .1)
+    called _ _ (a .table .now) _ (a .out .now) fit (shaped _ _ _ fit) decided refl (told .0) (c .before .before .before .before .before .before .store .ensures) (told .1)
 
 pub sockhurdle-end-spec : {M : Type 1} → statement M
 sockhurdle-end-spec =
