@@ -1,77 +1,79 @@
+-- The call decided on the words as they lie, its change stored, its answer told (place's proofs/Called.antt).
+use Rattle.model.specs.Calls.{shownAccepted}
+use Rattle.place.proofs.Called.{shaped, unfit, called}
+use Rattle.place_vacuum.proofs.Lent.{columns-decide}
+use lib.Seq.{length-take-le}
+use native.Mathlib.Omega.{arith}
+use mathlib.Core.Path.{refl, sym, _∙_}
 use borrow.Author.Needs.{needs}
 use Rattle.place_vacuum.proofs.sockhurdle_vacuum.Statement.{statement}
 use Rattle.place_vacuum.proofs.sockhurdle_vacuum.Tie as tie
-use Rattle.place_vacuum.proofs.sockhurdle_vacuum.Reads as reads
-use Rattle.place_vacuum.proofs.sockhurdle_vacuum.Lts as lts
-use Rattle.table.proofs.decide_vacuum.Reads as decide-vacuum-reads
-use Rattle.place.proofs.shape_test.Reads as shape-test-reads
-use Rattle.place.proofs.tell_plain.Reads as tell-plain-reads
-use Rattle.place.proofs.counters_in.Reads as counters-in-reads
-use Rattle.place.proofs.store.Reads as store-reads
 
--- src/lib.rt:54:9
 shape-test-requires : tie.Need-shape-test-requires
 shape-test-requires c κs = search needs
 
--- src/lib.rt:56:9
 returns : tie.Need-returns
-returns c = ?
+returns c =
+    let a = c .before .before .before .before .args in
+    unfit _ _ (a .table .now) _ (c .before .shape-test .ensures) (c .if1 .taken) (a .out .now)
 
--- src/lib.rt:59:9
 counters-in-requires : tie.Need-counters-in-requires
 counters-in-requires c κs = search needs
 
--- src/lib.rt:61:9
 slice-aggregate-decide-vacuum : tie.Need-slice-aggregate-decide-vacuum
-slice-aggregate-decide-vacuum c = ?
+slice-aggregate-decide-vacuum c =
+    let fit = sym (c .before .before .before .before .shape-test .ensures) ∙ c .before .before .before .if1 .left in
+    let size = shaped _ _ _ fit .size in
+    sym (length-take-le _ (c .before .before .before .before .before .before .before .args .table .now) (omega arith))
 
--- src/lib.rt:62:9
 sub-decide-vacuum : tie.Need-sub-decide-vacuum
 sub-decide-vacuum c = search needs
 
--- src/lib.rt:62:9
 part-decide-vacuum-start : tie.Need-part-decide-vacuum-start
 part-decide-vacuum-start c = search needs
 
--- src/lib.rt:62:9
 part-decide-vacuum-end : tie.Need-part-decide-vacuum-end
-part-decide-vacuum-end c = ?
+part-decide-vacuum-end c =
+    let fit = sym (c .before .before .before .before .shape-test .ensures) ∙ c .before .before .before .if1 .left in
+    let size = shaped _ _ _ fit .size in
+    omega arith
 
--- src/lib.rt:63:9
 sub-decide-vacuum-2 : tie.Need-sub-decide-vacuum-2
 sub-decide-vacuum-2 c = search needs
 
--- src/lib.rt:63:9
 part-decide-vacuum-start-2 : tie.Need-part-decide-vacuum-start-2
 part-decide-vacuum-start-2 c = search needs
 
--- src/lib.rt:63:9
 part-decide-vacuum-end-2 : tie.Need-part-decide-vacuum-end-2
-part-decide-vacuum-end-2 c = ?
+part-decide-vacuum-end-2 c =
+    let fit = sym (c .before .before .before .before .before .shape-test .ensures) ∙ c .before .before .before .before .if1 .left in
+    let size = shaped _ _ _ fit .size in
+    omega arith
 
--- src/lib.rt:60:9
 decide-vacuum-requires : tie.Need-decide-vacuum-requires
 decide-vacuum-requires c κs = search needs
 
--- src/lib.rt:69:5
 store-requires : tie.Need-store-requires
 store-requires c κs = search needs
 
--- src/lib.rt:70:5
 tell-plain-requires : tie.Need-tell-plain-requires
 tell-plain-requires c κs = search needs
 
--- src/lib.rt:43:1
 same-length : tie.Need-same-length
 same-length c = search needs
 
--- src/lib.rt:43:1
 same-length-2 : tie.Need-same-length-2
 same-length-2 c = search needs
 
--- src/lib.rt:43:1
 returns-2 : tie.Need-returns-2
-returns-2 c = ?
+unfolding shownAccepted
+returns-2 c =
+    let a = c .before .before .before .before .before .before .before .before .before .before .before .before .before .before .before .before .before .before .before .args in
+    let fit = sym (c .before .before .before .before .before .before .before .before .before .before .before .before .before .before .before .before .shape-test .ensures) ∙ c .before .before .before .before .before .before .before .before .before .before .before .before .before .before .before .if1 .left in
+    let was = c .before .before .before .before .before .before .before .before .before .before .before .before .before .counters-in .ensures in
+    let decided = c .before .before .before .before .before .before .before .before .before .decide-vacuum .ensures ∙ columns-decide _ (a .table .now) _ was in
+    let told = c .before .before .tell-plain .ensures in
+    called _ _ (a .table .now) _ (a .out .now) fit (shaped _ _ _ fit) decided refl (told .0) (c .before .before .before .before .before .before .store .ensures) (told .1)
 
 pub sockhurdle-vacuum-spec : {M : Type 1} → statement M
 sockhurdle-vacuum-spec =
