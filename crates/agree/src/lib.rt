@@ -1,7 +1,9 @@
 // The two engines held against each other: what the second engine answers to a record's call, put as text, against the text that
 // was printed for it.
+mod all;
 mod bytes;
 
+pub use all::all_agree;
 pub use bytes::same_bytes;
 use kinds::SLOTS;
 use text::Put;
