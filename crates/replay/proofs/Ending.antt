@@ -18,8 +18,8 @@ use Rattle.output.specs.Wrote.{Wrote}
 use Rattle.replay.specs.Replay.{agreeKey, agreeLine, lastText}
 
 -- the second line has room behind the first
-pub room-behind : (count : ℕ) {at : ℕ} {xs ys : List ℕ} → count < 2 ^ 64 → 56 ≤ length xs → length ys ≡ length xs →
-    at ≡ length (lineText recordsKey count) → at + 27 ≤ length ys
+pub room-behind :
+    (count : ℕ) {at a b : ℕ} → count < 2 ^ 64 → 56 ≤ a → b ≡ a → at ≡ length (lineText recordsKey count) → at + 27 ≤ b
 room-behind count small size same k = omega (arith, line-length recordsKey count, length-word count small)
 
 pub record Ends (v : Version) (count : ℕ) (xs ys : List ℕ) (end : ℕ) : Type 0 where

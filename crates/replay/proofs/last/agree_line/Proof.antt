@@ -7,7 +7,7 @@ use Rattle.replay.proofs.last.agree_line.Statement.{statement}
 use Rattle.replay.proofs.last.agree_line.Tie as tie
 
 agreed-requires : tie.Need-agreed-requires
-agreed-requires c κs = c .before .pre .1
+agreed-requires c κs = c .before .before .pre .1
 
 slice-aggregate-put-line : tie.Need-slice-aggregate-put-line
 slice-aggregate-put-line c = search needs
@@ -28,7 +28,7 @@ returns : tie.Need-returns
 returns c =
     let called = c .before .before .before .before .before in
     let said = called .before .before .before in
-    let s = said .before .before in
+    let s = said .before .before .before in
     let a = s .args in
     let put = called .put-line .ensures in
     let one = said .agreed .ensures in
@@ -41,7 +41,7 @@ returns-2 : tie.Need-returns-2
 returns-2 c =
     let called = c .before .before .before .before in
     let said = called .before .before .before in
-    let s = said .before .before in
+    let s = said .before .before .before in
     let a = s .args in
     let put = called .put-line .ensures in
     let one = said .agreed .ensures in

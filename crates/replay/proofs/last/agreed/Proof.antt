@@ -13,7 +13,7 @@ returns : tie.Need-returns
 returns c = refl
 
 returns-2 : tie.Need-returns-2
-returns-2 c = absurd (no-other (c .before .before .all-agree .ensures _ (c .before .before .before .before .pre)) (c .if1 .left))
+returns-2 c = absurd (no-other (c .before .all-agree .ensures _ (c .before .before .before .pre)) (c .if1 .left))
 
 pub agreed-spec : {M : Type 1} → statement M
 agreed-spec = tie.close (tie.spec all-agree-requires returns returns-2)
