@@ -13,8 +13,8 @@ const NOBODY_PAST_PINS: u64 = 63535;
 pub fn oldest_of<'a>(txids: &'a [u64], xmins: &'a [u64], pins: &'a [u64], sample: u64) -> u64
     ensures { λ r. ⌜ r ≡ minimum (oldestOf (now (txids .entry)) (now (xmins .entry)) sample) (active (now (pins .entry))) ⌝ }
 {
-    let low = scans::oldest_retained(txids, xmins, sample);
-    scans::oldest_retained(pins, pins, low)
+    let low = taken_scans::oldest_retained(txids, xmins, sample);
+    taken_scans::oldest_retained(pins, pins, low)
 }
 
 // The lowest taken slot that retains xmin; where none does, 2,000 plus the lowest pin that holds it; 65,535 for nobody.

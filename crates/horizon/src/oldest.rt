@@ -27,7 +27,7 @@ pub fn decide_oldest<'a>(
       n ← ⟦kinds::SLOTS⟧ .entry
       ⌜ r ≡ decision n (lent (now (txids .entry)) (now (xmins .entry)) (now (pins .entry)) was) (oldest clock sample) ⌝ }
 {
-    let verdict = verdicts::observation_test(was.clock, clock, sample);
+    let verdict = clock_verdicts::observation_test(was.clock, clock, sample);
     match verdict {
         Verdict::Refuse(r) => Decision {
             change: Change {

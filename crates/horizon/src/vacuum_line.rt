@@ -26,7 +26,7 @@ pub fn decide_vacuum<'a>(
       n ← ⟦kinds::SLOTS⟧ .entry
       ⌜ r ≡ decision n (lent (now (txids .entry)) (now (xmins .entry)) (now (pins .entry)) was) (vacuum clock sample) ⌝ }
 {
-    let verdict = verdicts::observation_test(was.clock, clock, sample);
+    let verdict = clock_verdicts::observation_test(was.clock, clock, sample);
     match verdict {
         Verdict::Refuse(r) => Decision {
             change: Change {

@@ -28,7 +28,7 @@ pub fn decide_pin<'a>(
       n ← ⟦kinds::SLOTS⟧ .entry
       ⌜ r ≡ snapshotDecision n (lentToPin n (now (txids .entry)) (now (pins .entry)) was) (pin clock sample) ⌝ }
 {
-    let verdict = verdicts::observation_test(was.clock, clock, sample);
+    let verdict = clock_verdicts::observation_test(was.clock, clock, sample);
     match verdict {
         Verdict::Refuse(r) => return refused_snapshot(was, r),
         Verdict::Pass => {
@@ -37,7 +37,7 @@ pub fn decide_pin<'a>(
                 let place = at as u16;
                 let taken = PinNo(place);
                 let used = kinds::greater(sample, was.vacuum_line);
-                let snapshot = scans::take_snapshot(txids, used);
+                let snapshot = taken_scans::take_snapshot(txids, used);
                 let counters = changes::observed(was, clock, sample);
                 return SnapshotDecision {
                     change: Change {

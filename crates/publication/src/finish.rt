@@ -24,7 +24,7 @@ fn finish_test(txids: &[u64], clock: u64, slot: SlotNo, id: Txid, number: Stamp)
     let owner = verdicts::owner_test(txids, slot, id);
     match owner {
         Verdict::Refuse(r) => Verdict::Refuse(r),
-        Verdict::Pass => verdicts::reservation_test(clock, number),
+        Verdict::Pass => clock_verdicts::reservation_test(clock, number),
     }
 }
 

@@ -18,7 +18,7 @@ ghost use Rattle.model.specs.Calls.{stamp, decision, outcome};
 pub fn decide_stamp(was: Counters, number: Stamp) -> Decision
     ensures { λ r. do ⌜ r ≡ decision (← ⟦kinds::SLOTS⟧ .entry) (lentTxids [] was) (stamp number) ⌝ }
 {
-    let verdict = verdicts::reservation_test(was.clock, number);
+    let verdict = clock_verdicts::reservation_test(was.clock, number);
     match verdict {
         Verdict::Refuse(r) => Decision {
             change: Change {

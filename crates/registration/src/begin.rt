@@ -20,7 +20,7 @@ ghost use Rattle.model.specs.Calls.{begin, decision, outcome};
 pub fn decide_begin(txids: &[u64], was: Counters, number: Stamp) -> Decision
     ensures { λ r. do ⌜ r ≡ decision (← ⟦kinds::SLOTS⟧ .entry) (lentTxids (now (txids .entry)) was) (begin number) ⌝ }
 {
-    let verdict = verdicts::reservation_test(was.clock, number);
+    let verdict = clock_verdicts::reservation_test(was.clock, number);
     match verdict {
         Verdict::Refuse(r) => Decision {
             change: Change {

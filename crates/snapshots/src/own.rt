@@ -30,7 +30,7 @@ fn own_test(
     let owner = verdicts::owner_test(txids, slot, id);
     match owner {
         Verdict::Refuse(r) => Verdict::Refuse(r),
-        Verdict::Pass => verdicts::observation_test(was.clock, clock, sample),
+        Verdict::Pass => clock_verdicts::observation_test(was.clock, clock, sample),
     }
 }
 
@@ -51,7 +51,7 @@ pub fn decide_own(
     match verdict {
         Verdict::Refuse(r) => return refused_snapshot(was, r),
         Verdict::Pass => {
-            let snapshot = scans::take_snapshot(txids, sample);
+            let snapshot = taken_scans::take_snapshot(txids, sample);
             let counters = changes::observed(was, clock, sample);
             let retains = SlotChange::Retains {
                 slot,

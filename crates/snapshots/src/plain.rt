@@ -18,11 +18,11 @@ pub fn decide_snap(txids: &[u64], was: Counters, clock: u64, sample: u64) -> Sna
       n ← ⟦kinds::SLOTS⟧ .entry
       ⌜ r ≡ snapshotDecision n (lentSlots n (now (txids .entry)) was) (snap clock sample) ⌝ }
 {
-    let verdict = verdicts::observation_test(was.clock, clock, sample);
+    let verdict = clock_verdicts::observation_test(was.clock, clock, sample);
     match verdict {
         Verdict::Refuse(r) => return refused_snapshot(was, r),
         Verdict::Pass => {
-            let snapshot = scans::take_snapshot(txids, sample);
+            let snapshot = taken_scans::take_snapshot(txids, sample);
             let counters = changes::observed(was, clock, sample);
             SnapshotDecision {
                 change: Change {
