@@ -2,8 +2,8 @@
 use borrow.Author.Tests.{lt-ltb, le-ltb, eq-eqb, ne-eqb}
 use Rattle.kinds.specs.Refusals.{told}
 use borrow.Author.Needs.{needs}
-use Rattle.ledger_scans.proofs.tests.observation.Statement.{statement}
-use Rattle.ledger_scans.proofs.tests.observation.Tie as tie
+use Rattle.ledger_tests.proofs.observation.Statement.{statement}
+use Rattle.ledger_tests.proofs.observation.Tie as tie
 
 told-requires : tie.Need-told-requires
 told-requires c κs = search needs

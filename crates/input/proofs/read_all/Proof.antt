@@ -6,8 +6,8 @@ use mathlib.Core.List.{List}
 use lib.ListN.{length, take, drop, length-take}
 use borrow.Rule.Slice.PartMut.{same-len-mid}
 use borrow.Author.Needs.{needs}
-use Rattle.exports.proofs.input.read_all.Statement.{statement}
-use Rattle.exports.proofs.input.read_all.Tie as tie
+use Rattle.input.proofs.read_all.Statement.{statement}
+use Rattle.input.proofs.read_all.Tie as tie
 
 -- what is lent to a read is what is left of the buffer
 part-size : (done : ℕ) (xs : List ℕ) → length (take (length xs - done) (drop done xs)) ≤ length xs - done

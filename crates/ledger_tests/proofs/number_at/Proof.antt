@@ -2,8 +2,8 @@
 use lib.ListN.{List·getD-eq-default}
 use mathlib.Core.Path.{sym}
 use borrow.Author.Needs.{needs}
-use Rattle.ledger_scans.proofs.tests.number_at.Statement.{statement}
-use Rattle.ledger_scans.proofs.tests.number_at.Tie as tie
+use Rattle.ledger_tests.proofs.number_at.Statement.{statement}
+use Rattle.ledger_tests.proofs.number_at.Tie as tie
 
 returns : tie.Need-returns
 returns c = sym (List·getD-eq-default (c .before .args .column .now) 0 (c .if1 .taken))

@@ -5,8 +5,8 @@ use borrow.Author.Tests.{lt-ltb, le-ltb, le-leb, lt-leb, eq-eqb, ne-eqb}
 use Rattle.kinds.specs.Refusals.{told}
 use Rattle.model.specs.Tests.{farthest}
 use borrow.Author.Needs.{needs}
-use Rattle.ledger_scans.proofs.tests.reservation.Statement.{statement}
-use Rattle.ledger_scans.proofs.tests.reservation.Tie as tie
+use Rattle.ledger_tests.proofs.reservation.Statement.{statement}
+use Rattle.ledger_tests.proofs.reservation.Tie as tie
 
 told-requires : tie.Need-told-requires
 told-requires c κs = search needs

@@ -1,7 +1,7 @@
 // Reading an input to its end. Of the bytes that a read puts into a buffer no contract can say anything; what is proved
 // is that they lie inside it and that the reading ends. A read that fails is told from the end of the input here.
 ghost use lib.ListN.{length};
-ghost use Rattle.exports.specs.Status.{InputFits};
+ghost use Rattle.input.specs.Input.{InputFits};
 
 // So many bytes came, and then the end, or no more had room; or a read failed.
 pub enum Input {

@@ -3,8 +3,8 @@ use mathlib.Core.Path.{sym, _∙_}
 use borrow.Author.Tests.{le-leb, lt-leb, eq-eqb, ne-eqb}
 use Rattle.kinds.specs.Refusals.{told}
 use borrow.Author.Needs.{needs}
-use Rattle.ledger_scans.proofs.tests.release.Statement.{statement}
-use Rattle.ledger_scans.proofs.tests.release.Tie as tie
+use Rattle.ledger_tests.proofs.release.Statement.{statement}
+use Rattle.ledger_tests.proofs.release.Tie as tie
 
 told-requires : tie.Need-told-requires
 told-requires c κs = search needs
