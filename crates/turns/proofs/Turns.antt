@@ -1,9 +1,9 @@
 -- Eight places in a turn: what is the same from each of them on is the same past all eight.
-use mathlib.Core.Path.{_≡_, refl, sym, ap, _∙_}
+use mathlib.Core.Path.{_≡_, refl, ap, _∙_}
 use mathlib.Core.Bool.{Bool, true, false, _&&_}
 use Prim.Native.Nat.{ℕ, _+_, _<_, _≤_}
 use native.Mathlib.Omega.{arith}
-use Rattle.turns.specs.Eight.{eight}
+use Rattle.turns.specs.Eight.{both, eight}
 
 left : (a b : Bool) → a && b ≡ true → a ≡ true
 left true b e = refl
@@ -18,22 +18,22 @@ right false false e = e
 module _
     {A : Type 0} (rest : ℕ → A) (p : ℕ → Bool) (end : ℕ) (past-one : (j : ℕ) → j < end → p j ≡ true → rest j ≡ rest (j + 1))
   where
-    next : (j k : ℕ) → k ≡ j + 1 → j < end → p j ≡ true → rest j ≡ rest k
-    next j k q h e = past-one j h e ∙ ap rest (sym q)
+    past-two : (j k : ℕ) → k ≡ j + 2 → k ≤ end → both p j ≡ true → rest j ≡ rest k
+    past-two j k q h e =
+        let last : j + 1 + 1 ≡ k = omega (arith, q) in
+        past-one j (omega (arith, q, h)) (left (p j) (p (j + 1)) e)
+        ∙ past-one (j + 1) (omega (arith, q, h)) (right (p j) (p (j + 1)) e)
+        ∙ ap rest last
 
     pub past-eight : (i : ℕ) → i + 8 ≤ end → eight p i ≡ true → rest i ≡ rest (i + 8)
     past-eight i h e =
-        let ab = p i && p (i + 1) in
-        let cd = p (i + 2) && p (i + 3) in
-        let ef = p (i + 4) && p (i + 5) in
-        let gh = p (i + 6) && p (i + 7) in
-        let low = left (ab && cd) (ef && gh) e in
-        let high = right (ab && cd) (ef && gh) e in
-        next i (i + 1) (omega arith) (omega (arith, h)) (left (p i) (p (i + 1)) (left ab cd low))
-        ∙ next (i + 1) (i + 2) (omega arith) (omega (arith, h)) (right (p i) (p (i + 1)) (left ab cd low))
-        ∙ next (i + 2) (i + 3) (omega arith) (omega (arith, h)) (left (p (i + 2)) (p (i + 3)) (right ab cd low))
-        ∙ next (i + 3) (i + 4) (omega arith) (omega (arith, h)) (right (p (i + 2)) (p (i + 3)) (right ab cd low))
-        ∙ next (i + 4) (i + 5) (omega arith) (omega (arith, h)) (left (p (i + 4)) (p (i + 5)) (left ef gh high))
-        ∙ next (i + 5) (i + 6) (omega arith) (omega (arith, h)) (right (p (i + 4)) (p (i + 5)) (left ef gh high))
-        ∙ next (i + 6) (i + 7) (omega arith) (omega (arith, h)) (left (p (i + 6)) (p (i + 7)) (right ef gh high))
-        ∙ next (i + 7) (i + 8) (omega arith) (omega (arith, h)) (right (p (i + 6)) (p (i + 7)) (right ef gh high))
+        let a = both p i in
+        let b = both p (i + 2) in
+        let c = both p (i + 4) in
+        let d = both p (i + 6) in
+        let low = left (a && b) (c && d) e in
+        let high = right (a && b) (c && d) e in
+        past-two i (i + 2) (omega arith) (omega (arith, h)) (left a b low)
+        ∙ past-two (i + 2) (i + 4) (omega arith) (omega (arith, h)) (right a b low)
+        ∙ past-two (i + 4) (i + 6) (omega arith) (omega (arith, h)) (left c d high)
+        ∙ past-two (i + 6) (i + 8) (omega arith) (omega (arith, h)) (right c d high)
