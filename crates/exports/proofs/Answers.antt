@@ -17,9 +17,10 @@ use Rattle.replay.specs.declared.out.Sent.{Sent}
 use Rattle.replay.specs.declared.out.Sent.the-variants.{All, Refused}
 use Rattle.replay.specs.Into.{Into, whole, cut, intoOf, replayed, IntoFits}
 use Rattle.replay.specs.Sent.{isTrace, SentFits}
-use Rattle.exports.specs.declared.input.Input.{Input}
-use Rattle.exports.specs.declared.input.Input.the-variants as reads
-use Rattle.exports.specs.Status.{answered, InputFits, StatusFits, done, refused, unwritten, RunFits}
+use Rattle.input.specs.declared.Input.{Input}
+use Rattle.input.specs.declared.Input.the-variants as reads
+use Rattle.input.specs.Input.{InputFits}
+use Rattle.exports.specs.Status.{answered, StatusFits, done, refused, unwritten, RunFits}
 
 written-answered : (i : Into) {r : Replayed} {k : ℕ} → r ≡ replayed i → r ≡ Written k → k ≡ answered i
 written-answered (whole t) {r} {k} e f =

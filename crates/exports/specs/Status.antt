@@ -14,8 +14,6 @@ use Rattle.wait_rules.specs.declared.Owner.the-variants.{Holds}
 use Rattle.text.specs.Write.{spliced}
 use Rattle.replay.specs.Into.{Into, whole, cut, textIn, intoOf}
 use Rattle.replay.specs.Sent.{isTrace}
-use Rattle.exports.specs.declared.input.Input.{Input}
-use Rattle.exports.specs.declared.input.Input.the-variants.{All, Failed}
 
 -- a replay into a buffer: the length of the whole text, or 0 where it had no room
 abbrev pub answered : Into → ℕ
@@ -37,11 +35,6 @@ reported NoRoom = 0
 -- the owner of a slot, by its numbers
 abbrev pub holder : ℕ → ℕ → Owner
 holder i id = Holds (slot i) (txid id)
-
--- what was read lies inside the buffer
-abbrev pub InputFits : ℕ → Input → Type 0
-InputFits most (All size) = size ≤ most
-InputFits most Failed = Unit
 
 -- a number of bytes inside the buffer, or the largest number
 pub data ReadFits (most : ℕ) : ℕ → Type 0 where

@@ -1,6 +1,5 @@
 // The replay and the check of a wait for a host in C or Rust, linked as a static library. sockhurdle.h beside this folder
 // declares these functions for C; a slice is a pointer and a length there.
-mod input;
 mod waits;
 
 use input::Input;

@@ -25,13 +25,13 @@ pub fn value(called: Outcome) -> u64 {
 // The slot that oldest and vacuum name; else 0.
 pub fn holder(called: Outcome) -> u64 {
     let answer = called.answer;
-    let numbers = output::numbers_of(answer, 0, 0, 0, 0);
+    let numbers = answer_numbers::numbers_of(answer, 0, 0, 0, 0);
     numbers.holder
 }
 
 // The number of an answer, and what it carries.
 pub fn answered(answer: Answer) {
-    let numbers = output::numbers_of(answer, 0, 0, 0, 0);
+    let numbers = answer_numbers::numbers_of(answer, 0, 0, 0, 0);
     let told = numbers.told;
     say::line(
         b": answer=# slot=# id=# seen=#",

@@ -23,7 +23,7 @@ pub fn begun(txids: &[u64], was: Counters, given: u64) -> Did
       n ← ⟦kinds::SLOTS⟧ .entry
       ⌜ ((xmins pins : List ℕ) → r ≡ didBy n (lent (now (txids .entry)) xmins pins was) (begin (number given))) ⌝ }
 {
-    let told = ledger_scans::reservation(was.clock, given);
+    let told = ledger_tests::reservation(was.clock, given);
     if told.number != 0 {
         return refused(told, was);
     }
@@ -51,7 +51,7 @@ pub fn ended(txids: &[u64], was: Counters, at: u64, id: u64) -> Did
       n ← ⟦kinds::SLOTS⟧ .entry
       ⌜ ((xmins pins : List ℕ) → r ≡ didBy n (lent (now (txids .entry)) xmins pins was) (end (slot at) (txid id))) ⌝ }
 {
-    let told = ledger_scans::owner(txids, at, id);
+    let told = ledger_tests::owner(txids, at, id);
     if told.number != 0 {
         return refused(told, was);
     }
@@ -65,7 +65,7 @@ pub fn stamped(was: Counters, given: u64) -> Did
       n ← ⟦kinds::SLOTS⟧ .entry
       ⌜ ((txids xmins pins : List ℕ) → r ≡ didBy n (lent txids xmins pins was) (stamp (number given))) ⌝ }
 {
-    let told = ledger_scans::reservation(was.clock, given);
+    let told = ledger_tests::reservation(was.clock, given);
     if told.number != 0 {
         return refused(told, was);
     }
@@ -80,11 +80,11 @@ pub fn finished(txids: &[u64], was: Counters, at: u64, id: u64, given: u64) -> D
       n ← ⟦kinds::SLOTS⟧ .entry
       ⌜ ((xmins pins : List ℕ) → r ≡ didBy n (lent (now (txids .entry)) xmins pins was) (finish (slot at) (txid id) (number given))) ⌝ }
 {
-    let owned = ledger_scans::owner(txids, at, id);
+    let owned = ledger_tests::owner(txids, at, id);
     if owned.number != 0 {
         return refused(owned, was);
     }
-    let told = ledger_scans::reservation(was.clock, given);
+    let told = ledger_tests::reservation(was.clock, given);
     if told.number != 0 {
         return refused(told, was);
     }

@@ -26,7 +26,7 @@ pub fn snapped(txids: &[u64], was: Counters, clock: u64, sample: u64) -> Did
       n ← ⟦kinds::SLOTS⟧ .entry
       ⌜ ((xmins pins : List ℕ) → r ≡ didBy n (lent (now (txids .entry)) xmins pins was) (snap clock sample)) ⌝ }
 {
-    let told = ledger_scans::observation(was.clock, clock, sample);
+    let told = ledger_tests::observation(was.clock, clock, sample);
     if told.number != 0 {
         return refused(told, was);
     }
@@ -42,11 +42,11 @@ pub fn owned(txids: &[u64], was: Counters, at: u64, id: u64, clock: u64, sample:
       n ← ⟦kinds::SLOTS⟧ .entry
       ⌜ ((xmins pins : List ℕ) → r ≡ didBy n (lent (now (txids .entry)) xmins pins was) (own (slot at) (txid id) clock sample)) ⌝ }
 {
-    let owned = ledger_scans::owner(txids, at, id);
+    let owned = ledger_tests::owner(txids, at, id);
     if owned.number != 0 {
         return refused(owned, was);
     }
-    let told = ledger_scans::observation(was.clock, clock, sample);
+    let told = ledger_tests::observation(was.clock, clock, sample);
     if told.number != 0 {
         return refused(told, was);
     }
@@ -69,7 +69,7 @@ pub fn oldest_found<'a>(
       n ← ⟦kinds::SLOTS⟧ .entry
       ⌜ r ≡ didBy n (lent (now (txids .entry)) (now (xmins .entry)) (now (pins .entry)) was) (oldest clock sample) ⌝ }
 {
-    let told = ledger_scans::observation(was.clock, clock, sample);
+    let told = ledger_tests::observation(was.clock, clock, sample);
     if told.number != 0 {
         return refused(told, was);
     }
@@ -92,7 +92,7 @@ pub fn vacuumed<'a>(
       n ← ⟦kinds::SLOTS⟧ .entry
       ⌜ r ≡ didBy n (lent (now (txids .entry)) (now (xmins .entry)) (now (pins .entry)) was) (vacuum clock sample) ⌝ }
 {
-    let told = ledger_scans::observation(was.clock, clock, sample);
+    let told = ledger_tests::observation(was.clock, clock, sample);
     if told.number != 0 {
         return refused(told, was);
     }
@@ -113,7 +113,7 @@ pub fn pinned<'a>(txids: &'a [u64], pins: &'a [u64], was: Counters, clock: u64, 
       n ← ⟦kinds::SLOTS⟧ .entry
       ⌜ ((xmins : List ℕ) → r ≡ didBy n (lent (now (txids .entry)) xmins (now (pins .entry)) was) (pin clock sample)) ⌝ }
 {
-    let told = ledger_scans::observation(was.clock, clock, sample);
+    let told = ledger_tests::observation(was.clock, clock, sample);
     if told.number != 0 {
         return refused(told, was);
     }
@@ -141,7 +141,7 @@ pub fn unpinned(pins: &[u64], was: Counters, at: u64) -> Did
       n ← ⟦kinds::SLOTS⟧ .entry
       ⌜ ((txids xmins : List ℕ) → r ≡ didBy n (lent txids xmins (now (pins .entry)) was) (unpin (pinNo at))) ⌝ }
 {
-    let told = ledger_scans::release(pins, at);
+    let told = ledger_tests::release(pins, at);
     if told.number != 0 {
         return refused(told, was);
     }

@@ -16,7 +16,7 @@ fn number(label: &[u8], n: u64) {
 
 // The answer's number, and the pin that it carries.
 fn answered(label: &[u8], answer: Answer) {
-    let numbers = output::numbers_of(answer, 0, 0, 0, 0);
+    let numbers = answer_numbers::numbers_of(answer, 0, 0, 0, 0);
     let told = numbers.told;
     io::write_all(1, label);
     number(b": answer=", told.number);
@@ -75,7 +75,7 @@ fn vacuum(label: &[u8], t: Table, clock: u64, sample: u64) -> Table {
     let called = table::vacuum(t, clock, sample);
     let answer = called.answer;
     let next = called.table;
-    let numbers = output::numbers_of(answer, 0, 0, 0, 0);
+    let numbers = answer_numbers::numbers_of(answer, 0, 0, 0, 0);
     answered(label, answer);
     number(b" holder=", numbers.holder);
     line_of(next);

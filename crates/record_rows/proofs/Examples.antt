@@ -2,7 +2,7 @@
 use mathlib.Core.Path.{_≡_, refl}
 use mathlib.Core.List.{[], _∷_}
 use Rattle.trace.specs.declared.Op.the-variants.{Begin, Finish, Pin, Unpin}
-use Rattle.record_rows.specs.Numbers.{tryNumber, opNumbered}
+use Rattle.op_numbers.specs.Numbers.{tryNumber, opNumbered}
 use Rattle.record_rows.specs.Rows.{rowOf, mayBe, allowedBy, ofOp, recordRow}
 use Rattle.record_rows.specs.declared.RowIs.the-variants as row
 

@@ -14,12 +14,12 @@ use Rattle.trace.specs.Op.{readsOf}
 use Rattle.trace.specs.Record.{Expressible}
 use Rattle.trace.specs.declared.Op.{Op}
 use Rattle.trace.specs.declared.Record.{Record}
-use Rattle.record_rows.specs.Numbers.{opNumber, opNumbered}
+use Rattle.op_numbers.specs.Numbers.{opNumber, opNumbered}
 use Rattle.record_rows.specs.Rows.{rowOf, mayBe, allowedBy, ofOp, onNumbered, recordRow}
-use Rattle.record_rows.specs.declared.OpNumbered.{OpNumbered}
-use Rattle.record_rows.specs.declared.OpNumbered.the-variants as numbered
+use Rattle.op_numbers.specs.declared.OpNumbered.{OpNumbered}
+use Rattle.op_numbers.specs.declared.OpNumbered.the-variants as numbered
 use Rattle.record_rows.specs.declared.RowIs.the-variants as row
-use Rattle.record_rows.proofs.OpNumbers.{op-of-number, number-of-op}
+use Rattle.op_numbers.proofs.OpNumbers.{op-of-number, number-of-op}
 
 -- a number within its limit may stand there
 within-may : (b : Bool) (m n : ℕ) → n ≤ limit b m → mayBe b n ≡ true

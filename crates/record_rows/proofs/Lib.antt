@@ -1,3 +1,2 @@
-pub mod OpNumbers
 pub mod Laws
 mod Examples

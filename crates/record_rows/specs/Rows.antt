@@ -9,9 +9,9 @@ use Rattle.text.specs.declared.Reads.{Reads}
 use Rattle.trace.specs.Op.{readsOf}
 use Rattle.trace.specs.declared.Op.{Op}
 use Rattle.trace.specs.declared.Record.{Record}
-use Rattle.record_rows.specs.Numbers.{opNumber, opNumbered}
-use Rattle.record_rows.specs.declared.OpNumbered.{OpNumbered}
-use Rattle.record_rows.specs.declared.OpNumbered.the-variants as numbered
+use Rattle.op_numbers.specs.Numbers.{opNumber, opNumbered}
+use Rattle.op_numbers.specs.declared.OpNumbered.{OpNumbered}
+use Rattle.op_numbers.specs.declared.OpNumbered.the-variants as numbered
 use Rattle.record_rows.specs.declared.RowIs.{RowIs}
 use Rattle.record_rows.specs.declared.RowIs.the-variants as row
 

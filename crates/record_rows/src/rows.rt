@@ -1,6 +1,6 @@
 // A record as a row, and the record that a row is.
-use crate::OpNumbered;
 use crate::RowIs;
+use op_numbers::OpNumbered;
 use text::Reads;
 use trace::Op;
 use trace::Record;
@@ -14,7 +14,7 @@ pub fn row_of(r: Record) -> [u64; 6]
     ensures { λ x. ⌜ x ≡ rowOf r ⌝ }
 {
     let named = r.op;
-    let op = crate::numbers::op_number(named);
+    let op = op_numbers::op_number(named);
     let slot = r.slot as u64;
     [op, slot, r.id, r.stamp, r.clock, r.sample]
 }
@@ -66,7 +66,7 @@ fn of_op(op: Op, slot: u64, id: u64, stamp: u64, clock: u64, sample: u64) -> Row
 pub fn record_of(row: [u64; 6]) -> RowIs
     ensures { λ r. ⌜ r ≡ recordRow row ⌝ }
 {
-    let numbered = crate::numbers::op_of(row[0]);
+    let numbered = op_numbers::op_of(row[0]);
     match numbered {
         OpNumbered::Is(op) => of_op(op, row[1], row[2], row[3], row[4], row[5]),
         OpNumbered::Unknown => RowIs::UnknownOp,

@@ -1,16 +1,16 @@
--- The tallies from slot i on, one slot at a time. No law names a number of slots.
+-- The lowest empty slot and the holder from slot i on, one slot at a time. No law names a number of slots.
 use mathlib.Core.Path.{_≡_, refl}
 use mathlib.Core.Bool.{Bool, true, false, _&&_}
-use mathlib.Core.List.{List, [], _∷_}
+use mathlib.Core.List.{List}
 use Prim.Native.Nat.{ℕ, _+_, _<_, _≤_, min}
 use native.Mathlib.Omega.{arith}
 use lib.ListN.{length, drop, getD, drop-of-length-le}
 use lib.Dec.{ltb}
-use borrow.Author.Tests.{eq-eqb, ne-eqb, eqb-true, eqb-false, not-true, ltb-true, ltb-false}
+use borrow.Author.Tests.{eq-eqb, ne-eqb, eqb-false, not-true, ltb-true, ltb-false}
 use Rattle.kinds.proofs.Lists.{from}
-use Rattle.model.specs.Tally.{active, retained, lowestEmpty, minimum, oldestOf, holderFrom}
-use Rattle.scans.specs.Eight.{allEmpty, allOther}
-use Rattle.scans.proofs.Turns.{past-eight}
+use Rattle.model.specs.Tally.{lowestEmpty, holderFrom}
+use Rattle.turns.proofs.Turns.{past-eight}
+use Rattle.scans.specs.Other.{allOther}
 
 and-false : (a : Bool) → (a && false) ≡ false
 and-false true = refl
@@ -29,41 +29,6 @@ module _ (txids : List ℕ) (i : ℕ) where
   pub no-more-slots : length txids ≤ i → lowestEmpty (drop i txids) ≡ 0
   unfolding lowestEmpty
   no-more-slots h = rw (drop-of-length-le txids h)
-
-  pub active-miss : i < length txids → getD txids i 0 ≡ 0 → active (drop i txids) ≡ active (drop (i + 1) txids)
-  unfolding active
-  active-miss h e = rw (from txids i h, eq-eqb _ _ e)
-
-  pub active-hit :
-      i < length txids → (getD txids i 0 ≡ 0 → ⊥) → active (drop i txids) ≡ getD txids i 0 ∷ active (drop (i + 1) txids)
-  unfolding active
-  active-hit h e = rw (from txids i h, ne-eqb _ _ e)
-
-  pub active-none : length txids ≤ i → active (drop i txids) ≡ []
-  unfolding active
-  active-none h = rw (drop-of-length-le txids h)
-
-  module _ (xmins : List ℕ) (low : ℕ) where
-    pub oldest-miss :
-        i < length txids → i < length xmins → getD txids i 0 ≡ 0 →
-        oldestOf (drop i txids) (drop i xmins) low ≡ oldestOf (drop (i + 1) txids) (drop (i + 1) xmins) low
-    unfolding retained
-    oldest-miss h k e = rw (from txids i h, from xmins i k, eq-eqb _ _ e)
-
-    pub oldest-hit :
-        i < length txids → i < length xmins → (getD txids i 0 ≡ 0 → ⊥) →
-        oldestOf (drop i txids) (drop i xmins) low
-        ≡ oldestOf (drop (i + 1) txids) (drop (i + 1) xmins) (min low (getD xmins i 0))
-    unfolding retained minimum
-    oldest-hit h k e = rw (from txids i h, from xmins i k, ne-eqb _ _ e)
-
-    pub oldest-none : length txids ≤ i → oldestOf (drop i txids) (drop i xmins) low ≡ low
-    unfolding retained minimum
-    oldest-none h = rw (drop-of-length-le txids h)
-
-    pub oldest-short : i < length txids → length xmins ≤ i → oldestOf (drop i txids) (drop i xmins) low ≡ low
-    unfolding retained minimum
-    oldest-short h k = rw (from txids i h, drop-of-length-le xmins k)
 
   module _ (xmins : List ℕ) (x otherwise : ℕ) where
     pub holder-other :
@@ -104,13 +69,6 @@ module _ (txids : List ℕ) (i : ℕ) where
       (λ j h e. omega (arith, taken-here txids j h (eqb-false _ _ (not-true _ e)))) i
 
   module _ (xmins : List ℕ) where
-    pub eight-oldest :
-        (low : ℕ) → i + 8 ≤ min (length txids) (length xmins) → allEmpty txids i ≡ true →
-        oldestOf (drop i txids) (drop i xmins) low ≡ oldestOf (drop (i + 8) txids) (drop (i + 8) xmins) low
-    eight-oldest low =
-        past-eight (λ j. oldestOf (drop j txids) (drop j xmins) low) _ (min (length txids) (length xmins))
-        (λ j h e. oldest-miss txids j xmins low (omega (arith, h)) (omega (arith, h)) (eqb-true _ _ e)) i
-
     pub eight-held :
         (x otherwise : ℕ) → i + 8 ≤ min (length txids) (length xmins) → allOther xmins x i ≡ true →
         holderFrom i (drop i txids) (drop i xmins) x otherwise
@@ -120,14 +78,6 @@ module _ (txids : List ℕ) (i : ℕ) where
         (λ j h e. holder-other txids j xmins x otherwise (omega (arith, h)) (omega (arith, h)) (eqb-false _ _ (not-true _ e))) i
 
     -- the shorter column is over
-    pub oldest-over :
-        (low : ℕ) → min (length txids) (length xmins) ≤ i → oldestOf (drop i txids) (drop i xmins) low ≡ low
-    oldest-over low h = go (ltb i (length txids)) refl
-      where
-        go : (b : Bool) → ltb i (length txids) ≡ b → oldestOf (drop i txids) (drop i xmins) low ≡ low
-        go true e = oldest-short txids i xmins low (ltb-true _ _ e) (omega (arith, h, ltb-true i (length txids) e))
-        go false e = oldest-none txids i xmins low (ltb-false _ _ e)
-
     pub holder-over :
         (x otherwise : ℕ) → min (length txids) (length xmins) ≤ i →
         holderFrom i (drop i txids) (drop i xmins) x otherwise ≡ otherwise

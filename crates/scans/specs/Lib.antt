@@ -1,1 +1,1 @@
-pub mod Eight
+pub mod Other

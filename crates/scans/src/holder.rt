@@ -1,6 +1,6 @@
 // The second scan that oldest and vacuum make.
 use crate::eight::all_other;
-use crate::eight::shorter;
+use turns::shorter;
 ghost use mathlib.Core.Path.{_≡_};
 ghost use Rattle.model.specs.Tally.{holderOf};
 

@@ -18,7 +18,7 @@ pub fn put_plain(version: Version, decided: Decision, buf: &mut [u8], at: usize)
 {
     let change = decided.change;
     let answer = decided.answer;
-    let numbers = output::numbers_of(answer, 0, 0, 0, change.counters.vacuum_line);
+    let numbers = answer_numbers::numbers_of(answer, 0, 0, 0, change.counters.vacuum_line);
     let no_ids = [0u64; 1];
     let put = output::put_answer(version, buf, at, numbers, &no_ids);
     Ran { put, change }
@@ -56,7 +56,13 @@ pub fn put_listing(
           })
           (now (buf .entry)) at ⌝ }
 {
-    let numbers = output::numbers_of(answer, xmin, xmax, count, change.counters.vacuum_line);
+    let numbers = answer_numbers::numbers_of(
+        answer,
+        xmin,
+        xmax,
+        count,
+        change.counters.vacuum_line,
+    );
     let put = output::put_answer(version, buf, at, numbers, ids);
     Ran { put, change }
 }

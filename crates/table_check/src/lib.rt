@@ -1,5 +1,4 @@
 // The table check, for tables that somebody else wrote: the host's shared segment.
-mod differ;
 mod numbers;
 mod pins;
 mod slots;

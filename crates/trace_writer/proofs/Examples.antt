@@ -13,7 +13,7 @@ use Rattle.grammar.specs.Named.{sixLines}
 use Rattle.grammar.specs.Texts.{firstLine, textLines, wholeText}
 use Rattle.trace.specs.Version.{allowed}
 use Rattle.trace.specs.declared.Version.the-variants.{Proc1, Proc2}
-use Rattle.record_rows.specs.Numbers.{tryNumber, opNumbered}
+use Rattle.op_numbers.specs.Numbers.{tryNumber, opNumbered}
 use Rattle.record_rows.specs.Rows.{mayBe, allowedBy, ofOp, recordRow}
 use Rattle.rows_measure.specs.Measuring.{rowUnder, recordsOf}
 use Rattle.trace_writer.specs.Writing.{wroteOf, leftOf}

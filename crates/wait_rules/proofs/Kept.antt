@@ -8,7 +8,7 @@ use Rattle.model.specs.declared.Counters.{Counters}
 use Rattle.model.specs.declared.change.SlotChange.the-variants.{Stays, Enters}
 use Rattle.model.specs.Tables.{lentTxids, clockOf}
 use Rattle.model.specs.Changes.{change}
-use Rattle.changes.proofs.Past.{reserved-past}
+use Rattle.counters.proofs.Past.{reserved-past}
 use Rattle.events.specs.declared.Kind.{Kind}
 use Rattle.events.specs.declared.Kind.the-variants.{Register, End, Horizon, Reserve, Observe}
 use Rattle.events.specs.declared.Event.{Event}

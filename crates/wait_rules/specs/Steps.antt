@@ -16,7 +16,7 @@ use Rattle.model.specs.Tally.{active, minimum}
 use Rattle.model.specs.Tables.{clockOf}
 use Rattle.model.specs.Changes.{change, pastNumber, observed, applied}
 use Rattle.model.specs.Tests.{reservationTest, observationTest}
-use Rattle.changes.specs.Reserved.{reservedFrom}
+use Rattle.counters.specs.Reserved.{reservedFrom}
 use Rattle.events.specs.declared.Kind.{Kind}
 use Rattle.events.specs.declared.Kind.the-variants.{Register, End, Horizon, Reserve, Observe}
 use Rattle.events.specs.declared.Event.{Event}

@@ -19,7 +19,7 @@ pub fn change_of(was: Counters, e: Event) -> Change
     match kind {
         Kind::Register => Change {
             slot: SlotChange::Enters { slot, txid },
-            counters: changes::reserved(was, number),
+            counters: counters::reserved(was, number),
         },
         Kind::End => Change {
             slot: SlotChange::Leaves { slot },
@@ -31,11 +31,11 @@ pub fn change_of(was: Counters, e: Event) -> Change
         },
         Kind::Reserve => Change {
             slot: SlotChange::Stays,
-            counters: changes::reserved(was, number),
+            counters: counters::reserved(was, number),
         },
         Kind::Observe => Change {
             slot: SlotChange::Stays,
-            counters: changes::observed(was, e.clock, e.sample),
+            counters: counters::observed(was, e.clock, e.sample),
         },
     }
 }

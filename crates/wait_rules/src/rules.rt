@@ -50,13 +50,13 @@ fn is_pass(verdict: Verdict) -> bool
 fn may_reserve(clock: u64, id: u64) -> bool
     ensures { λ r. ⌜ r ≡ passed (reservationTest clock (number id)) ⌝ }
 {
-    is_pass(verdicts::reservation_test(clock, Stamp(id)))
+    is_pass(clock_verdicts::reservation_test(clock, Stamp(id)))
 }
 
 fn may_observe(former: u64, clock: u64, sample: u64) -> bool
     ensures { λ r. ⌜ r ≡ passed (observationTest former clock sample) ⌝ }
 {
-    is_pass(verdicts::observation_test(former, clock, sample))
+    is_pass(clock_verdicts::observation_test(former, clock, sample))
 }
 
 fn may_register(txids: &[u64], clock: u64, owner: Owner, slot: u16, id: u64) -> bool
@@ -87,7 +87,7 @@ fn may_set_horizon(txids: &[u64], owner: Owner, slot: u16, xmin: u64) -> bool
         let own = txid_at(txids, slot);
         if own != 0 {
             if 1 <= xmin {
-                let least = scans::oldest_retained(txids, txids, own);
+                let least = taken_scans::oldest_retained(txids, txids, own);
                 return xmin <= least;
             }
         }

@@ -1,0 +1,7 @@
+// What the taken slots hold, over lent columns of any length: the oldest xmin, and the ids of a snapshot.
+mod eight;
+mod oldest;
+mod snapshot;
+
+pub use oldest::oldest_retained;
+pub use snapshot::take_snapshot;
