@@ -1,0 +1,5 @@
+pub mod Equal
+pub mod Printed
+pub mod Named
+pub mod Runs
+pub mod Side
