@@ -9,7 +9,7 @@ use Rattle.trace.specs.declared.Op.the-variants.{Begin, End, Snap, Own, Oldest,
 use Rattle.trace.specs.declared.Record.{Record}
 use Rattle.trace.specs.declared.Version.{Version}
 use Rattle.record_rows.specs.Rows.{rowOf}
-use Rattle.record_rows.specs.Numbers.{opNumber}
+use Rattle.op_numbers.specs.Numbers.{opNumber}
 use Rattle.output.specs.Output.{printed}
 use Rattle.step.specs.Named.{callBy, callOf}
 use Rattle.ledger_calls.specs.Rows.{tryOp, opOf}
