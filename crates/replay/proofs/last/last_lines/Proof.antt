@@ -16,7 +16,7 @@ enum-told-2 c = search needs
 
 agree-line-requires : tie.Need-agree-line-requires
 agree-line-requires c κs =
-    let put = c .before .before .before .before in
+    let put = c .before .before .before .before .before in
     let s = put .before .before .before .before in
     let o = put .last-line in
     (room-behind _ (s .fits .count .fits) (s .pre .0) (o .kept .0) (o .ensures .0), s .pre .1)
@@ -26,37 +26,40 @@ enum-told-3 c = search needs
 
 agree-line-requires-2 : tie.Need-agree-line-requires-2
 agree-line-requires-2 c κs =
-    let put = c .before .before .before .before in
+    let put = c .before .before .before .before .before in
     let s = put .before .before .before .before in
     let o = put .last-line in
     (room-behind _ (s .fits .count .fits) (s .pre .0) (o .kept .0) (o .ensures .0), s .pre .1)
 
+same-length : tie.Need-same-length
+same-length c = search needs
+
 returns : tie.Need-returns
 returns c =
-    let put = c .before .before .before in
+    let put = c .before .before .before .before in
     let o = put .last-line .ensures in
     let e = ends-plain _ _ (o .0) (o .1) in
     rw (c .enum-told .given .1) (e .size, e .text)
 
-same-length : tie.Need-same-length
-same-length c = search needs
+same-length-2 : tie.Need-same-length-2
+same-length-2 c = search needs
 
 returns-2 : tie.Need-returns-2
 returns-2 c =
     let lined = c .before .before in
     let told = lined .before .before in
-    let o = told .before .before .before .last-line .ensures in
+    let o = told .before .before .before .before .last-line .ensures in
     let e = ends-2 _ _ (o .0) (o .1) (lined .agree-line .ensures) in
     rw (told .enum-told2 .given .1) (e .size, e .text)
 
-same-length-2 : tie.Need-same-length-2
-same-length-2 c = search needs
+same-length-3 : tie.Need-same-length-3
+same-length-3 c = search needs
 
 returns-3 : tie.Need-returns-3
 returns-3 c =
     let lined = c .before .before in
     let told = lined .before .before in
-    let o = told .before .before .before .last-line .ensures in
+    let o = told .before .before .before .before .last-line .ensures in
     let e = ends-3 _ _ (o .0) (o .1) (lined .agree-line2 .ensures) in
     rw (told .enum-told3 .given .1) (e .size, e .text)
 
@@ -70,8 +73,9 @@ last-lines-spec =
     agree-line-requires
     enum-told-3
     agree-line-requires-2
-    returns
     same-length
-    returns-2
+    returns
     same-length-2
+    returns-2
+    same-length-3
     returns-3)
