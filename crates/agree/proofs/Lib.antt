@@ -1,5 +1,3 @@
-pub mod Equal
-pub mod Printed
 pub mod Named
 pub mod Runs
 pub mod Side

@@ -15,8 +15,9 @@ use Rattle.step.specs.Named.{callBy, callOf}
 use Rattle.ledger_calls.specs.Rows.{tryOp, opOf}
 use Rattle.ledger_calls.specs.Rows as ledger_calls
 use Rattle.ledger.specs.List.{rowCall, callsOf}
-use Rattle.agree.specs.Agree.{equalBytes, secondText}
-use Rattle.agree.proofs.Printed.{printed-agrees}
+use Rattle.same_bytes.specs.Same.{equalBytes}
+use Rattle.second_text.specs.Second.{secondText}
+use Rattle.second_text.proofs.Printed.{printed-agrees}
 
 named :
     (o : Op) (r : Record) →

@@ -25,10 +25,11 @@ use Rattle.ledger.specs.declared.answer.Said.{Said}
 use Rattle.ledger.specs.List.{callsOf}
 use Rattle.ledger.specs.Said.{saidOn, workedOut}
 use Rattle.agree.specs.declared.all.Both.{Both}
-use Rattle.agree.specs.Agree.{equalBytes, saidText, secondText}
+use Rattle.same_bytes.specs.Same.{equalBytes}
+use Rattle.second_text.specs.Second.{saidText, secondText}
 use Rattle.agree.specs.Both.{BothFits}
-use Rattle.agree.proofs.Equal.{equal-itself}
-use Rattle.agree.proofs.Printed.{never-full, end-is, front-is, front-count, front-inside, prints-same}
+use Rattle.same_bytes.proofs.Equal.{equal-itself}
+use Rattle.second_text.proofs.Printed.{never-full, end-is, front-is, front-count, front-inside, prints-same}
 use Rattle.agree.proofs.Named.{row-names}
 
 -- the table t is the one that the rows reach

@@ -5,6 +5,7 @@ use ledger::Kept;
 use table::Change;
 use table::Counters;
 use text::Put;
+use trace::Reading;
 use trace::Record;
 use trace::RecordAt;
 use trace::Version;
@@ -18,6 +19,7 @@ ghost use Rattle.trace.specs.Trace.{reading};
 ghost use Rattle.step.specs.Named.{callOf};
 ghost use Rattle.ledger.specs.List.{callsOf};
 ghost use Rattle.agree.specs.Both.{BothFits};
+ghost use Rattle.agree.specs.Traces.{isWhole};
 
 // The most bytes that a record prints: nine lines, and one for each slot.
 const MOST: usize = 252 + 24 * SLOTS;
@@ -56,13 +58,12 @@ fn run_both<'a>(
         };
     };
     let row = record_rows::row_of(r);
-    let same = crate::record_agrees(version, calls, row, &buf[..end]);
+    let same = second_text::record_agrees(version, calls, row, &buf[..end]);
     Both { same, change }
 }
 
-// Whether both engines print the same for every record of a trace with this header. A text that is none, or has more records
-// than the list has room for, is not held to agree.
-pub fn all_agree(s: &[u8], version: Version) -> bool
+// Whether both engines print the same for every record, of a trace with this header: they do. A text that is no trace may have none.
+fn records_agree(s: &[u8], version: Version) -> bool
     ensures { λ r. ⌜ ((count : ℕ) → reading (now (s .entry)) ≡ Whole version count → r ≡ true) ⌝ }
 {
     let mut t = table::fresh();
@@ -106,4 +107,15 @@ pub fn all_agree(s: &[u8], version: Version) -> bool
         at = next;
     }
     true
+}
+
+// Whether a text is a trace at every record of which both engines print the same. Every trace is one.
+pub fn all_agree(s: &[u8]) -> bool
+    ensures { λ r. ⌜ r ≡ isWhole (reading (now (s .entry))) ⌝ }
+{
+    let read = trace_lines::read_trace(s);
+    match read {
+        Reading::Whole(version, _) => records_agree(s, version),
+        Reading::Broken(_) => false,
+    }
 }

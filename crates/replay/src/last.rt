@@ -33,7 +33,7 @@ fn agreed(s: &[u8], version: Version, count: usize) -> u64
     requires { ⌜ reading (now s) ≡ Whole version count ⌝ }
     ensures { λ r. ⌜ r ≡ 1 ⌝ }
 {
-    let same = agree::all_agree(s, version);
+    let same = agree::all_agree(s);
     if same {
         return 1;
     }

@@ -9,7 +9,7 @@ use native.Mathlib.Omega.{arith}
 use lib.ListN.{length, drop, getD, drop-of-length-le}
 use borrow.Author.Tests.{eq-eqb, ne-eqb}
 use Rattle.kinds.proofs.Lists.{from}
-use Rattle.agree.specs.Agree.{equalBytes}
+use Rattle.same_bytes.specs.Same.{equalBytes}
 
 pub equal-itself : (xs : List ℕ) → equalBytes xs xs ≡ true
 unfolding equalBytes

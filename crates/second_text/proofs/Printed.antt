@@ -27,8 +27,9 @@ use Rattle.output.specs.Output.{printed, holderRoom, need, fits, putText, leftT
 use Rattle.ledger.specs.declared.answer.Said.{Said}
 use Rattle.ledger.specs.List.{rowCall, callsOf}
 use Rattle.ledger.specs.Said.{saidOn, workedOut}
-use Rattle.agree.specs.Agree.{equalBytes, saidText, secondText}
-use Rattle.agree.proofs.Equal.{equal-itself}
+use Rattle.same_bytes.specs.Same.{equalBytes}
+use Rattle.second_text.specs.Second.{saidText, secondText}
+use Rattle.same_bytes.proofs.Equal.{equal-itself}
 
 -- a call lists no more ids than there are slots
 few-accepted : (n : ℕ) (t : Table) → length (t .txids) ≡ n → (c : Call) → shownAccepted n t c .count ≤ n

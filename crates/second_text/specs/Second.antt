@@ -1,19 +1,11 @@
--- The text of what the second engine says, and the comparison of two texts.
+-- The text of what the second engine says.
 use Prim.Native.Nat.{ℕ}
-use mathlib.Core.Bool.{Bool, true, false, _&&_}
-use mathlib.Core.List.{List, [], _∷_}
-use lib.Dec.{eqb}
+use mathlib.Core.List.{List}
 use lib.ListN.{take}
 use Rattle.trace.specs.declared.Version.{Version}
 use Rattle.output.specs.Output.{answerText}
 use Rattle.ledger.specs.declared.answer.Said.{Said}
 use Rattle.ledger.specs.Said.{workedOut}
-
-unfoldable pub equalBytes : List ℕ → List ℕ → Bool
-equalBytes [] [] = true
-equalBytes [] (y ∷ ys) = false
-equalBytes (x ∷ xs) [] = false
-equalBytes (x ∷ xs) (y ∷ ys) = eqb x y && equalBytes xs ys
 
 -- an answer's numbers, and the ids that it lists
 abbrev pub saidText : Version → Said → List ℕ

@@ -1,6 +1,6 @@
 // Two texts, byte by byte.
 ghost use mathlib.Core.Path.{_≡_};
-ghost use Rattle.agree.specs.Agree.{equalBytes};
+ghost use Rattle.same_bytes.specs.Same.{equalBytes};
 
 pub fn same_bytes<'a>(a: &'a [u8], b: &'a [u8]) -> bool
     ensures { λ r. ⌜ r ≡ equalBytes (now (a .entry)) (now (b .entry)) ⌝ }

@@ -2,11 +2,11 @@
 use Prim.Native.Nat.{ℕ}
 use mathlib.Core.Path.{ap, _∙_}
 use lib.ListN.{length-replicate}
-use Rattle.agree.specs.Agree.{equalBytes}
-use Rattle.agree.proofs.Printed.{never-full, end-is, front-is, front-count, front-inside}
+use Rattle.same_bytes.specs.Same.{equalBytes}
+use Rattle.second_text.proofs.Printed.{never-full, end-is, front-is, front-count, front-inside}
 use borrow.Author.Needs.{needs}
-use Rattle.agree.proofs.record_agrees.Statement.{statement}
-use Rattle.agree.proofs.record_agrees.Tie as tie
+use Rattle.second_text.proofs.record_agrees.Statement.{statement}
+use Rattle.second_text.proofs.record_agrees.Tie as tie
 
 answer-to-requires : tie.Need-answer-to-requires
 answer-to-requires c κs = search needs

@@ -3,11 +3,11 @@ use Prim.Native.Nat.{_≤_, _-_}
 use mathlib.Core.Path.{_≡_, refl, sym, _∙_}
 use native.Mathlib.Omega.{arith}
 use lib.ListN.{length, drop}
-use Rattle.agree.specs.Agree.{equalBytes}
-use Rattle.agree.proofs.Equal.{other-length, same-here, differs-here, both-over}
+use Rattle.same_bytes.specs.Same.{equalBytes}
+use Rattle.same_bytes.proofs.Equal.{other-length, same-here, differs-here, both-over}
 use borrow.Author.Needs.{needs}
-use Rattle.agree.proofs.bytes.same_bytes.Statement.{statement}
-use Rattle.agree.proofs.bytes.same_bytes.Tie as tie
+use Rattle.same_bytes.proofs.same_bytes.Statement.{statement}
+use Rattle.same_bytes.proofs.same_bytes.Tie as tie
 
 abbrev Inv-loop : tie.InvT-loop
 Inv-loop a b i₀ i =
