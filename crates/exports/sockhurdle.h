@@ -6,15 +6,15 @@
 #include <stddef.h>
 #include <stdint.h>
 
-/* A whole replay into a buffer: the length of the output, which is never 0; or 0 where it had no room, and the buffer then
-   begins with as many of its records as had. */
+/* A whole replay into a buffer, without the second engine: the length of the output, which is never 0; or 0 where it had no
+   room, and the buffer then begins with as many of its records as had. */
 size_t sockhurdle_replay(const uint8_t *input, size_t input_len, uint8_t *out, size_t out_len);
 
 /* Reads an input to its end, or until the buffer is full: the number of bytes, or SIZE_MAX where a read failed; errno
    is then that read's. A trace has at most 65,536 bytes, so a buffer of 65,537 tells a long one. */
 size_t sockhurdle_read(int32_t from, uint8_t *into, size_t into_len);
 
-/* A whole replay to a file descriptor: 0 where it went; 3 where the text is no trace, and refusal 9 went; 1 where a write
+/* A whole replay to a file descriptor, under proc-2 and proc-3 with the second engine's line: 0 where it went; 3 where the text is no trace, and refusal 9 went; 1 where a write
    failed, and what went is a beginning of the output. A host that wants 1 where a pipe's reader left ignores SIGPIPE. */
 int32_t sockhurdle_replay_to(const uint8_t *input, size_t input_len, int32_t to);
 

@@ -15,8 +15,8 @@ ghost use Rattle.exports.specs.Status.{answerOf, leftOf, ReadFits, Statu
 // One byte more than a trace may have, to know that there is one.
 const ROOM: usize = replay::LONGEST + 1;
 
-// A whole replay into a lent buffer. Answers the length of the output; or 0 where it had no room, and the buffer then
-// begins with as many of its records as had. An output is never empty.
+// A whole replay into a lent buffer, without the second engine. Answers the length of the output; or 0 where it had no room,
+// and the buffer then begins with as many of its records as had. An output is never empty.
 #[no_mangle]
 pub extern "C" fn sockhurdle_replay(input: &[u8], out: &mut [u8]) -> usize
     ensures { λ r. do ⌜ r ≡ answerOf (← ⟦kinds::SLOTS⟧ .entry) (now (input .entry)) (now (out .entry)) ⌝ }
@@ -42,8 +42,8 @@ pub extern "C" fn sockhurdle_read(from: i32, into: &mut [u8]) -> usize
     }
 }
 
-// A whole replay to a file descriptor. Answers 0 where it went; 3 where the text is no trace, and refusal 9 went; 1 where
-// a write failed, and what went is a beginning of the output.
+// A whole replay to a file descriptor, under proc-2 and proc-3 with the second engine's line. Answers 0 where it went; 3 where
+// the text is no trace, and refusal 9 went; 1 where a write failed, and what went is a beginning of the output.
 #[no_mangle]
 pub extern "C" fn sockhurdle_replay_to(input: &[u8], to: i32) -> i32
     ensures { λ r. ⌜ StatusFits (now (input .entry)) r ⌝ }

@@ -21,13 +21,13 @@ use Rattle.grammar.specs.Texts.{readText}
 use Rattle.trace.specs.Version.{allowed}
 use Rattle.output.specs.Output.{toldLines, restLines, holderLine, inLines, answerText, printed}
 use Rattle.step.specs.Named.{callOf}
-use Rattle.replay.specs.Replay.{textOf, brokenText, replayOf}
+use Rattle.replay.specs.Replay.{textOf, brokenText, agreeLine, replayOf}
 use Rattle.replay.specs.Examples.{readsOf, printsOf, everyRefusal, whoHolds, Examples}
 
 pub examples : Examples
 unfolding
     readsOf printsOf everyRefusal whoHolds
-    replayOf textOf brokenText callOf printed answerText toldLines restLines holderLine inLines lineText numberText decimal decimalIn
+    replayOf textOf brokenText agreeLine callOf printed answerText toldLines restLines holderLine inLines lineText numberText decimal decimalIn
     told consumed noSnapshot active retained holderFrom lowestEmpty minimum maximum snapshotOf freePins freshTable
     tellsOf xminTold holderTold numbersOf refusal changeAccepted spent changeOf after answerAccepted answer shownAccepted shown
     readText nameAt firstNamed nameLine foundFrom foundIn itemAt allowed fieldsAt fieldRules limit
@@ -38,6 +38,7 @@ examples = record {
   holders = refl;
   every-refusal = refl;
   no-record = refl;
+  no-record-3 = refl;
   empty = refl;
   carriage-return = refl;
   carriage-return-later = refl;

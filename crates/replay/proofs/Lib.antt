@@ -9,3 +9,4 @@ pub mod Pieces
 pub mod Sending
 pub mod Tied
 pub mod Examples
+pub mod Ending

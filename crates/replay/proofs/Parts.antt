@@ -1,5 +1,5 @@
--- Parts of a run, one after the other, are the run (by induction on the records); and a replay that went in whole is what the trace
--- prints. What a part is stands in specs/Part.antt, what goes into a buffer in specs/Into.antt.
+-- Parts of a run, one after the other, are the run (by induction on the records); and a replay that went in whole is the trace's
+-- answers, all that it prints but the second engine's line. What a part is stands in specs/Part.antt, what goes into a buffer in specs/Into.antt.
 use Prim.Native.Nat.{ℕ, _+_, _≤_}
 use mathlib.Core.Path.{_≡_, refl, sym, ap, _∙_}
 use mathlib.Core.Bool.{Bool, true, false, cond}
@@ -24,7 +24,7 @@ use Rattle.trace.specs.declared.Version.the-variants.{Proc1}
 use Rattle.trace.specs.Trace.{traceOf}
 use Rattle.output.specs.Output.{printed, need, fits}
 use Rattle.step.specs.Named.{callOf}
-use Rattle.replay.specs.Replay.{callsOf, textOf, brokenText, replayBy, replayOf}
+use Rattle.replay.specs.Replay.{callsOf, textOf, brokenText, answersBy, answersOf}
 use Rattle.replay.specs.Part.{Part, withText, partOf}
 use Rattle.replay.proofs.Room.{room-fits}
 use Rattle.replay.specs.Into.{whole, cut, textIn, intoEnd, intoBy, intoOf}
@@ -76,12 +76,12 @@ broken-whole : (b : Bool) (line : ℕ) {text : List ℕ} → cond b (whole (brok
 broken-whole true line h = cc
 broken-whole false line h = let z : _≡_ {A = ℕ} 0 1 = cc in absurd (omega arith)
 
--- what went in whole is the text of the trace
-pub whole-is-replay : (n size : ℕ) (s : List ℕ) {text : List ℕ} → intoOf n size s ≡ whole text → text ≡ replayOf n s
-unfolding intoOf replayOf
+-- what went in whole is the answers of the trace
+pub whole-is-replay : (n size : ℕ) (s : List ℕ) {text : List ℕ} → intoOf n size s ≡ whole text → text ≡ answersOf n s
+unfolding intoOf answersOf
 whole-is-replay n size s {text} e = go (traceOf s) e
   where
-    go : (f : Read Version Record) → intoBy n size f ≡ whole text → text ≡ replayBy n f
+    go : (f : Read Version Record) → intoBy n size f ≡ whole text → text ≡ answersBy n f
     go (Broken line) h = broken-whole (leb 33 size) line h
     go (Whole v rs) h =
         let w = end-whole size (length rs) (partOf v n size 0 (freshTable n) rs .left) (partOf v n size 0 (freshTable n) rs .text) h in
@@ -114,15 +114,15 @@ end-begins v n size count rs p j = go (p .left) refl
         ends true = record { rest = []; joined = rw (j .text, e, append-nil (p .text), append-nil (p .text ++ lineText recordsKey count)) }
         ends false = more
 
-pub into-begins : (n size : ℕ) (s : List ℕ) → Beginning (textIn (intoOf n size s)) (replayOf n s)
-unfolding intoOf replayOf
+pub into-begins : (n size : ℕ) (s : List ℕ) → Beginning (textIn (intoOf n size s)) (answersOf n s)
+unfolding intoOf answersOf
 into-begins n size s = go (traceOf s)
   where
     broken : (b : Bool) (line : ℕ) → Beginning (textIn (cond b (whole (brokenText line)) (cut []))) (brokenText line)
     broken true line = record { rest = []; joined = rw append-nil }
     broken false line = record { rest = brokenText line; joined = refl }
 
-    go : (f : Read Version Record) → Beginning (textIn (intoBy n size f)) (replayBy n f)
+    go : (f : Read Version Record) → Beginning (textIn (intoBy n size f)) (answersBy n f)
     go (Broken line) = broken (leb 33 size) line
     go (Whole v rs) =
         end-begins v n size (length rs) rs (partOf v n size 0 (freshTable n) rs) (parts-join v n size 0 (freshTable n) rs)
@@ -146,12 +146,12 @@ headed (Whole v rs) = v
 headed (Broken line) = Proc1
 
 pub room-is-whole :
-    (n size : ℕ) (s : List ℕ) → length (replayOf n s) + need (headed (traceOf s)) n ≤ size →
-    intoOf n size s ≡ whole (replayOf n s)
-unfolding intoOf replayOf
+    (n size : ℕ) (s : List ℕ) → length (answersOf n s) + need (headed (traceOf s)) n ≤ size →
+    intoOf n size s ≡ whole (answersOf n s)
+unfolding intoOf answersOf
 room-is-whole n size s = go (traceOf s)
   where
-    go : (f : Read Version Record) → length (replayBy n f) + need (headed f) n ≤ size → intoBy n size f ≡ whole (replayBy n f)
+    go : (f : Read Version Record) → length (answersBy n f) + need (headed f) n ≤ size → intoBy n size f ≡ whole (answersBy n f)
     go (Broken line) h = rw (le-leb 33 size (omega arith))
     go (Whole v rs) h =
         let text = textOf v n (freshTable n) rs in

@@ -3,7 +3,7 @@
 use Prim.Native.Nat.{ℕ, zero, suc, _+_, _≤_, _<_, _^_}
 use mathlib.Core.Path.{_≡_, refl, sym, ap, subst, _∙_}
 use mathlib.Core.Bool.{Bool, true, false}
-use mathlib.Core.List.{List, [], _∷_, _++_, append-nil}
+use mathlib.Core.List.{List, [], _∷_, _++_, append-assoc, append-nil}
 use native.Mathlib.Omega.{arith}
 use lib.IntN.{ℤ}
 use lib.ListN.{length, take, drop, length-append, length-drop}
@@ -24,7 +24,7 @@ use Rattle.trace.specs.declared.Version.the-variants.{Proc2}
 use Rattle.trace.specs.Trace.{traceOf, reading}
 use Rattle.output.specs.Output.{need}
 use Rattle.output.proofs.Wrote.{holder-few}
-use Rattle.replay.specs.Replay.{textOf, brokenText, replayBy, replayOf}
+use Rattle.replay.specs.Replay.{textOf, brokenText, agreeLine, lastText, replayBy, replayOf}
 use Rattle.replay.specs.Part.{partOf}
 use Rattle.replay.specs.Sent.{partsOf, piecesBy, piecesOf, handed, stopped, PieceNext, WentFits, isTrace, AllWent, SomeWent, SentFits}
 use Rattle.replay.specs.declared.border.Handed.{Handed}
@@ -51,15 +51,17 @@ parts-joined (suc k) v n t (r ∷ rs) g room h =
 
 -- one after the other, the pieces are what the trace prints
 pub pieces-joined : (n : ℕ) (s : List ℕ) → need Proc2 n ≤ 65536 → joined (piecesOf n s) ≡ replayOf n s
-unfolding piecesOf replayOf joined
+unfolding piecesOf replayOf joined lastText
 pieces-joined n s room = go (traceOf s)
   where
     go : (f : Read Version Record) → joined (piecesBy n f) ≡ replayBy n f
     go (texts.Broken line) = append-nil (brokenText line)
     go (texts.Whole v rs) =
-        let last = lineText recordsKey (length rs) in
+        let last = lastText v (length rs) in
+        let text = textOf v n (freshTable n) rs in
         let run = parts-joined (length rs) v n (freshTable n) rs (good-fresh n) (omega (arith, holder-few v)) (omega arith) in
-        joined-append (partsOf (length rs) v n 65536 (freshTable n) rs) (last ∷ []) ∙ rw (run, append-nil last)
+        let both = joined-append (partsOf (length rs) v n 65536 (freshTable n) rs) (last ∷ []) in
+        both ∙ rw (run, append-nil last) (sym (append-assoc text (lineText recordsKey (length rs)) (agreeLine v)))
 
 parts-few : (k : ℕ) (v : Version) (n : ℕ) (t : Table) (rs : List Record) → length (partsOf k v n 65536 t rs) ≤ k
 unfolding partsOf
@@ -74,7 +76,7 @@ pub pieces-few :
 unfolding piecesOf
 pieces-few n s v rs e =
     let parts = partsOf (length rs) v n 65536 (freshTable n) rs in
-    let size = length-append parts (lineText recordsKey (length rs) ∷ []) in
+    let size = length-append parts (lastText v (length rs) ∷ []) in
     rw e (omega (arith, size, parts-few (length rs) v n (freshTable n) rs))
 
 -- no records, no parts

@@ -12,8 +12,6 @@ use Rattle.model.specs.declared.Table.{Table}
 use Rattle.model.specs.Tables.{freshTable}
 use Rattle.model.specs.Facts.{Good}
 use Rattle.model.proofs.Moves.{good-fresh}
-use Rattle.text.specs.Keys.{recordsKey}
-use Rattle.text.specs.Line.{lineText}
 use Rattle.text.specs.Write.{spliced}
 use Rattle.trace.specs.declared.Record.{Record}
 use Rattle.trace.specs.declared.Reading.the-variants.{Whole, Broken}
@@ -30,7 +28,7 @@ use Rattle.grammar.proofs.Grammar.{accepted}
 use Rattle.grammar.proofs.Walk.{none-left, items-inside, end-only}
 use Rattle.output.specs.Output.{need}
 use Rattle.output.proofs.Wrote.{holder-few}
-use Rattle.replay.specs.Replay.{brokenText}
+use Rattle.replay.specs.Replay.{brokenText, lastText}
 use Rattle.replay.specs.Part.{partOf, PartFits}
 use Rattle.replay.specs.declared.border.Handed.{Handed}
 use Rattle.replay.specs.declared.part.Progress.{Progress}
@@ -57,7 +55,7 @@ module _ (n : ℕ) (s : List ℕ) (line : ℕ) (e : reading s ≡ Broken line) w
 
 -- the parts to come and the last line; `most` is at least how many records are left
 abbrev toCome : ℕ → Version → ℕ → List ℕ → ℕ → Table → ℕ → List (List ℕ)
-toCome most v n s count t at = partsOf most v n 65536 t (recordsFrom s at) ++ (lineText recordsKey count ∷ [])
+toCome most v n s count t at = partsOf most v n 65536 t (recordsFrom s at) ++ (lastText v count ∷ [])
 
 pub record Sending (v : Version) (n : ℕ) (s : List ℕ) (count : ℕ) (to : ℤ) (t : Table) (at : ℕ) (h : Handed) : Type 0 where
   pub boundary : Boundary s at
@@ -157,12 +155,12 @@ module _ (v : Version) (n : ℕ) (s : List ℕ) (count : ℕ) where
 
     -- no record is left: the last line is
     module _ (over : at ≡ length s) where
-      last-piece : drop (h .pieces) (piecesOf n s) ≡ lineText recordsKey count ∷ []
+      last-piece : drop (h .pieces) (piecesOf n s) ≡ lastText v count ∷ []
       last-piece = w .rest ∙ rw (none-left anyForm any-facts s at over, no-parts (w .most) v n t)
 
       pub last-next :
-          (xs : List ℕ) {ys : List ℕ} {size : ℕ} → size ≡ length (lineText recordsKey count) →
-          ys ≡ spliced xs 0 (lineText recordsKey count) → PieceNext n s h size ys
+          (xs : List ℕ) {ys : List ℕ} {size : ℕ} → size ≡ length (lastText v count) →
+          ys ≡ spliced xs 0 (lastText v count) → PieceNext n s h size ys
       last-next xs k put = piece-next h xs (w .few) last-piece k put
 
       pub last-all :

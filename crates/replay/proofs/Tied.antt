@@ -22,7 +22,7 @@ use Rattle.trace.specs.Trace.{traceOf}
 use Rattle.grammar.specs.Texts.{Whole}
 use Rattle.output.specs.Output.{printed, answerText, restLines}
 use Rattle.step.specs.Named.{callOf, callBy}
-use Rattle.replay.specs.Replay.{callsOf, textOf, replayOf}
+use Rattle.replay.specs.Replay.{callsOf, textOf, agreeLine, replayOf}
 use Rattle.replay.specs.Tied.{TakesSnapshot, plain, of-transaction, recordLines, shownAt, lineAt, Tied}
 
 -- records print their text, and those after them start on the table that their calls reach
@@ -70,7 +70,7 @@ tied n s v before r later e =
     let last = lineText recordsKey (length (before ++ r ∷ later)) in
     let around = text-append v n (freshTable n) before (r ∷ later) ∙ sym (append-assoc (textOf v n (freshTable n) before) own _) in
     record {
-      stands = rw (e, step) (ap (λ (text : List ℕ). text ++ last) around);
+      stands = rw (e, step) (ap (λ (text : List ℕ). text ++ last ++ agreeLine v) around);
       prints = rw line;
       snapshot = λ k. rw (line, no-other-xmin n t r (shownAt v n before r .xmin) k);
     }

@@ -214,7 +214,7 @@ pub record Examples : Type 0 where
       ≡ bytes "answer=0\nslot=0\nid=5\nseen=0\nxmin=0\nxmax=0\nvacuum=1\ncount=0\n"
       ++ bytes "answer=0\nslot=0\nid=0\nseen=0\nxmin=3\nxmax=6\nvacuum=1\ncount=1\nin=5\n"
       ++ bytes "records=2\n"
-  -- .. headed proc-2, it gains the ninth line in both records
+  -- .. headed proc-2, it gains the ninth line in both records, and the line of the second engine
   pub whole-case-2 :
       replayOf 2
       (bytes "trace=proc-2\n"
@@ -222,11 +222,12 @@ pub record Examples : Type 0 where
       ++ bytes "op=snap\nslot=0\nid=0\nstamp=0\nclock=9\nsample=3\n")
       ≡ bytes "answer=0\nslot=0\nid=5\nseen=0\nxmin=0\nxmax=0\nvacuum=1\ncount=0\nholder=0\n"
       ++ bytes "answer=0\nslot=0\nid=0\nseen=0\nxmin=3\nxmax=6\nvacuum=1\ncount=1\nholder=0\nin=5\n"
-      ++ bytes "records=2\n"
-  pub holders : replayOf 2 (bytes "trace=proc-2\n" ++ readsOf whoHolds) ≡ printsOf whoHolds ++ bytes "records=9\n"
+      ++ bytes "records=2\nagree=1\n"
+  pub holders : replayOf 2 (bytes "trace=proc-2\n" ++ readsOf whoHolds) ≡ printsOf whoHolds ++ bytes "records=9\nagree=1\n"
   pub every-refusal : replayOf 2 (bytes "trace=proc-1\n" ++ readsOf everyRefusal) ≡ printsOf everyRefusal ++ bytes "records=52\n"
   -- the header alone (SPEC 10.3)
   pub no-record : replayOf 2 (bytes "trace=proc-1\n") ≡ bytes "records=0\n"
+  pub no-record-3 : replayOf 2 (bytes "trace=proc-3\n") ≡ bytes "records=0\nagree=1\n"
   -- refusal 9 prints two lines, whatever stands before the broken one (SPEC 9.3, 10.4)
   pub empty : replayOf 2 [] ≡ bytes "answer=9\nat=1\n"
   pub carriage-return : replayOf 2 (bytes "trace=proc-1\r\nop=begin\r\n") ≡ bytes "answer=9\nat=1\n"

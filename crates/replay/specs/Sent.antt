@@ -7,8 +7,7 @@ use lib.IntN.{ℤ}
 use lib.ListN.{length, take, drop}
 use Rattle.model.specs.declared.Table.{Table}
 use Rattle.model.specs.Tables.{freshTable}
-use Rattle.text.specs.Keys.{recordsKey}
-use Rattle.text.specs.Line.{lineText, joined}
+use Rattle.text.specs.Line.{joined}
 use Rattle.trace.specs.declared.Record.{Record}
 use Rattle.grammar.specs.Texts as texts
 use Rattle.grammar.specs.Texts.{Read}
@@ -20,7 +19,7 @@ use Rattle.replay.specs.declared.border.Went.{Went}
 use Rattle.replay.specs.declared.border.Went.the-variants as went
 use Rattle.replay.specs.declared.out.Sent.{Sent}
 use Rattle.replay.specs.declared.out.Sent.the-variants.{All, Refused, Failed}
-use Rattle.replay.specs.Replay.{brokenText, replayOf}
+use Rattle.replay.specs.Replay.{brokenText, lastText, replayOf}
 use Rattle.replay.specs.Part.{partOf}
 
 -- the parts of a run, each as many records as have room in size bytes; the first number is at least how many records there are
@@ -30,9 +29,9 @@ partsOf (suc k) v n size t [] = []
 partsOf (suc k) v n size t (r ∷ rs) =
     partOf v n size 0 t (r ∷ rs) .text ∷ partsOf k v n size (partOf v n size 0 t (r ∷ rs) .table) (partOf v n size 0 t (r ∷ rs) .left)
 
--- the pieces of what a trace prints: the parts of its run and the last line; refusal 9 is one piece
+-- the pieces of what a trace prints: the parts of its run, and what it ends with; refusal 9 is one piece
 abbrev pub piecesBy : ℕ → Read Version Record → List (List ℕ)
-piecesBy n (texts.Whole v rs) = partsOf (length rs) v n 65536 (freshTable n) rs ++ (lineText recordsKey (length rs) ∷ [])
+piecesBy n (texts.Whole v rs) = partsOf (length rs) v n 65536 (freshTable n) rs ++ (lastText v (length rs) ∷ [])
 piecesBy n (texts.Broken line) = brokenText line ∷ []
 
 unfoldable pub piecesOf : ℕ → List ℕ → List (List ℕ)

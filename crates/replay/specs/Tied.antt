@@ -18,7 +18,7 @@ use Rattle.trace.specs.declared.Record.{Record}
 use Rattle.trace.specs.declared.Version.{Version}
 use Rattle.output.specs.Output.{toldLines, holderLine, inLines, printed}
 use Rattle.step.specs.Named.{callOf}
-use Rattle.replay.specs.Replay.{callsOf, textOf, replayOf}
+use Rattle.replay.specs.Replay.{callsOf, textOf, agreeLine, replayOf}
 
 -- the text of a record, line by line: what its answer tells, its xmin, the snapshot that it shows, the vacuum line, and the holder
 unfoldable pub recordLines : Version → Answer → ℕ → Snapshot → ℕ → List ℕ
@@ -49,13 +49,15 @@ module _ (v : Version) (n : ℕ) (before : List Record) (r : Record) where
   lineAt = lineAfter n (callsOf (before ++ r ∷ []))
 
   pub record Tied (s : List ℕ) (later : List Record) : Type 0 where
-    -- the text of r stands after that of the records before it; the records after it follow, and the number of all
+    -- the text of r stands after that of the records before it; the records after it follow, the number of all, and the line of
+    -- the second engine
     pub stands :
         replayOf n s
         ≡ textOf v n (freshTable n) before
         ++ textAt
         ++ textOf v n (reached n (callsOf (before ++ r ∷ []))) later
         ++ lineText recordsKey (length (before ++ r ∷ later))
+        ++ agreeLine v
     -- xmax, count and ids are of the snapshot that the call shows, and the vacuum line is that of the history with the call
     pub prints : textAt ≡ recordLines v answerAt (xminTold answerAt (shownAt .xmin)) shownAt lineAt
     -- of a record that takes a snapshot, so is the xmin

@@ -1,6 +1,7 @@
 // The replay: a captured trace in, the answers of its calls out.
 mod border;
 mod into;
+mod last;
 mod out;
 mod part;
 

@@ -6,15 +6,13 @@ use crate::border::hand_on;
 use crate::border::nothing;
 use crate::into::Replayed;
 use crate::into::put_broken;
-use crate::into::put_records;
+use crate::last::last_lines;
 use crate::part::run_part;
 use trace::Reading;
 use trace::Version;
 ghost use Prim.Native.Nat.{_≤_};
 ghost use mathlib.Core.Path.{_≡_};
 ghost use lib.ListN.{length};
-ghost use Rattle.text.specs.Keys.{recordsKey};
-ghost use Rattle.text.specs.Line.{lineText};
 ghost use Rattle.text.specs.Write.{spliced};
 ghost use Rattle.trace.specs.declared.Reading.the-variants.{Whole, Broken};
 ghost use Rattle.trace.specs.Trace.{reading};
@@ -42,19 +40,6 @@ fn broken_lines(buf: &mut [u8], line: usize) -> usize
     }
 }
 
-// The last line at the buffer's start: 29 bytes hold it, whatever the count is. Answers its length.
-fn last_line(buf: &mut [u8], count: usize) -> usize
-    requires { ⌜ 29 ≤ length (now buf) ⌝ }
-    ensures { λ r. ⌜ r ≡ length (lineText recordsKey count) ⌝ }
-    ensures { λ _. ⌜ now (buf .exit) ≡ spliced (now (buf .entry)) 0 (lineText recordsKey count) ⌝ }
-{
-    let said = put_records(buf, 0, count);
-    match said {
-        Replayed::Written(end) => end,
-        Replayed::NoRoom(_) => 0,
-    }
-}
-
 // Refusal 9 of a text that is no trace: one piece.
 fn broken_to(s: &[u8], line: usize, to: i32) -> Sent
     requires { ⌜ reading (now s) ≡ Broken line ⌝ }
@@ -70,8 +55,9 @@ fn broken_to(s: &[u8], line: usize, to: i32) -> Sent
     }
 }
 
-// Runs the records of a trace that was read, a buffer's worth at a time, and says how many there are.
-// It stops at the first write that fails: the output is then a beginning of the right one, without the last line.
+// Runs the records of a trace that was read, a buffer's worth at a time, and says how many there are; under proc-2 and proc-3
+// the second engine runs them too, and is held against the table. It stops at the first write that fails: the output is then a
+// beginning of the right one, without the last lines.
 fn run_to(s: &[u8], version: Version, count: usize, to: i32) -> Sent
     requires { ⌜ reading (now s) ≡ Whole version count ⌝ }
     ensures { λ r. do ⌜ SentFits (← ⟦kinds::SLOTS⟧ .entry) (now (s .entry)) to r ⌝ }
@@ -90,7 +76,7 @@ fn run_to(s: &[u8], version: Version, count: usize, to: i32) -> Sent
         at = part.at;
         table = part.table;
     }
-    let size = last_line(&mut buf, count);
+    let size = last_lines(&mut buf, s, version, count);
     let went = hand_on(s, gone, &buf, size);
     match went {
         Went::On(all) => Sent::All(all),

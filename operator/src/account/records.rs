@@ -63,7 +63,7 @@ fn record<'a>(lines: &[&'a str]) -> Option<Record<'a>> {
     })
 }
 
-/// The answers of a whole output, the last line of which counts them.
+/// The answers of a whole output, the last line of which counts them; the program's line of the second engine may follow.
 pub fn answers(said: &str) -> Option<Vec<Answer>> {
     let mut answers: Vec<Answer> = Vec::new();
     let mut counted = None;
@@ -76,6 +76,7 @@ pub fn answers(said: &str) -> Option<Vec<Answer>> {
                 ..Answer::default()
             }),
             "records" => counted = Some(value),
+            "agree" if counted.is_some() => {}
             // of the ids in flight only their count is told
             "in" => {}
             _ => *answers.last_mut()?.part(key)? = value,
@@ -137,6 +138,8 @@ mod tests {
         assert_eq!(answers("answer=0\nother=0\nrecords=1\n"), None);
         assert_eq!(answers("answer=9\nat=1\n"), None);
         assert_eq!(answers("records=0\n"), Some(Vec::new()));
+        assert_eq!(answers("records=0\nagree=1\n"), Some(Vec::new()));
+        assert_eq!(answers("agree=1\nrecords=0\n"), None);
     }
 
     #[test]

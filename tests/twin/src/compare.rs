@@ -24,9 +24,17 @@ pub struct Counts {
     pub records: u64,
 }
 
+/// What the program has to print.
 pub fn expected(text: &[u8]) -> Vec<u8> {
     let mut output = Vec::new();
     replay::replay(text, &mut output).expect("a Vec takes every byte");
+    output
+}
+
+/// What a replay into a buffer has to leave there: no second engine is asked.
+pub fn answers(text: &[u8]) -> Vec<u8> {
+    let mut output = Vec::new();
+    replay::answers(text, &mut output).expect("a Vec takes every byte");
     output
 }
 

@@ -1,5 +1,6 @@
 //! Replaying a trace: each record is run on one table and its answer printed.
 
+use crate::second::{self, Fault};
 use crate::table::{Refusal, Snapshot, Table};
 use crate::trace::{self, Op, Record, Trace, Version};
 use std::io::{self, Write};
@@ -18,7 +19,20 @@ pub struct Answer {
     pub in_flight: Vec<u64>,
 }
 
+/// What the program prints: the answers, and where the header has the line, whether the second reading says the same.
 pub fn replay(input: &[u8], out: &mut impl Write) -> io::Result<()> {
+    let mut said = Vec::new();
+    answers(input, &mut said)?;
+    out.write_all(&said)?;
+    if trace::read(input).is_ok_and(|trace| trace.version.prints_agree()) {
+        let same = said == second::answers(input, Fault::None).as_bytes();
+        writeln!(out, "agree={}", u8::from(same))?;
+    }
+    Ok(())
+}
+
+/// The answers of a trace and their number, or refusal 9: what a replay into a buffer leaves there.
+pub fn answers(input: &[u8], out: &mut impl Write) -> io::Result<()> {
     let Trace { version, records } = match trace::read(input) {
         Ok(trace) => trace,
         Err(broken) => {

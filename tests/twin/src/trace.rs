@@ -34,6 +34,11 @@ impl Version {
         matches!(self, Version::Proc2 | Version::Proc3)
     }
 
+    /// Whether the output ends with what the second engine says, `agree`.
+    pub fn prints_agree(self) -> bool {
+        matches!(self, Version::Proc2 | Version::Proc3)
+    }
+
     /// Whether a trace with this first line may have the op.
     pub fn allows(self, op: Op) -> bool {
         self == Version::Proc3 || !matches!(op, Op::Pin | Op::Unpin)

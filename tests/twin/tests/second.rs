@@ -29,6 +29,19 @@ fn every_fault_shows() {
     }
 }
 
+/// A call made wrong on purpose, in the same comparison: it doesn't agree where the fault shows.
+#[test]
+fn a_wrong_call_does_not_agree() {
+    let traces = traces();
+    for fault in Fault::of_calls() {
+        let mut outputs = traces.iter().map(|(text, _)| output(text, fault));
+        let seen = outputs.any(|said| said.ends_with("\nagree=0\n"));
+        assert!(seen, "{} agrees on every seed", fault.name());
+    }
+    let right = traces.iter().map(|(text, _)| output(text, Fault::None));
+    assert!(right.filter(|said| said.contains("agree=0\n")).count() == 0);
+}
+
 #[test]
 fn names_are_found_again() {
     for fault in Fault::all() {

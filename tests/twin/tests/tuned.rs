@@ -18,7 +18,7 @@ fn equals_the_plain_twin_on_generated_traces() {
     let mut headers = BTreeSet::new();
     for seed in 1..=300 {
         let text = generate::generate(seed);
-        let expected = compare::expected(&text);
+        let expected = compare::answers(&text);
         assert!(tuned(&text, expected.len()) == expected, "seed {seed}");
         if !expected.starts_with(b"answer=9\n") {
             headers.insert(text[..13].to_vec());
@@ -30,7 +30,7 @@ fn equals_the_plain_twin_on_generated_traces() {
 #[test]
 fn equals_the_plain_twin_on_the_traces_of_the_race() {
     for trace in race_traces::all() {
-        let expected = compare::expected(&trace.text);
+        let expected = compare::answers(&trace.text);
         let equal = tuned(&trace.text, expected.len()) == expected;
         assert!(equal, "{}", trace.name);
     }
@@ -53,7 +53,7 @@ fn hands_out_pieces() {
             Ok::<(), ()>(())
         });
         whole.extend_from_slice(&buffer[..rest.expect("every piece is taken")]);
-        assert!(whole == compare::expected(&text), "seed {seed}");
+        assert!(whole == compare::answers(&text), "seed {seed}");
     }
 }
 

@@ -129,13 +129,15 @@ fn right(text: &[u8]) -> Vec<u8> {
     out
 }
 
-/// Whether an output says of itself that it is all: its last line is whole, and is the count or refusal 9's line.
+/// Whether an output says of itself that it is all: its last line is whole, and is the count, the second engine's line or refusal 9's.
 fn is_all(out: &[u8]) -> bool {
     let Some(lines) = out.strip_suffix(b"\n") else {
         return false;
     };
     let last = lines.rsplit(|&byte| byte == b'\n').next().unwrap_or(b"");
-    last.starts_with(b"records=") || last.starts_with(b"at=")
+    [&b"records="[..], b"agree=", b"at="]
+        .iter()
+        .any(|key| last.starts_with(key))
 }
 
 impl Border {

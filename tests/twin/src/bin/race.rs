@@ -51,7 +51,9 @@ fn whole_processes(program: &str, tools: &str, runs: usize) -> io::Result<()> {
     for trace in race_traces::all() {
         let file = Path::new(FOLDER).join(format!("{}.trace", trace.name));
         fs::write(&file, &trace.text)?;
+        // the tuned replay has no second engine
         let expected = compare::expected(&trace.text);
+        let answers = compare::answers(&trace.text);
         let mut lanes = Lanes::default();
         let Lanes {
             plain: plains,
@@ -61,13 +63,13 @@ fn whole_processes(program: &str, tools: &str, runs: usize) -> io::Result<()> {
         let ours = ours.insert(Default::default());
         for _ in 0..runs {
             let programs = [
-                (&*plain, &mut *plains),
-                (&*tuned, &mut *tuneds),
-                (program, &mut *ours),
+                (&*plain, &mut *plains, &expected),
+                (&*tuned, &mut *tuneds, &answers),
+                (program, &mut *ours, &expected),
             ];
-            for (path, times) in programs {
+            for (path, times, expected) in programs {
                 times.add(race::whole_process(path, &file, &mut out)?);
-                same(&trace, path, &out, &expected)?;
+                same(&trace, path, &out, expected)?;
             }
         }
         row(&trace, expected.len(), &lanes);
@@ -84,7 +86,7 @@ fn inside(runs: usize) -> io::Result<()> {
     );
     println!("{CELLS}\n{HEADING}");
     for trace in race_traces::all() {
-        let expected = compare::expected(&trace.text);
+        let expected = compare::answers(&trace.text);
         let mut buffers = Buffers::of(expected.len());
         let mut lanes = Lanes::default();
         for _ in 0..runs {
@@ -118,7 +120,7 @@ impl Buffers {
         let mut length = 0;
         lanes.plain.add(race::in_a_row(turns, || {
             room.clear();
-            replay::replay(black_box(&trace.text), black_box(&mut *room))
+            replay::answers(black_box(&trace.text), black_box(&mut *room))
                 .expect("memory takes all");
         }));
         same(trace, "plain", room, expected)?;

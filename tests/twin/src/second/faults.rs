@@ -116,6 +116,10 @@ const PRINT: &[&str] = &[
     "records-one-more",
     "records-accepted-only",
     "records-after-9",
+    "agree-under-proc-1",
+    "agree-never-printed",
+    "agree-before-records",
+    "agree-after-9",
     "runs-before-reading",
     "first-record-only",
     "stops-at-refusal",
@@ -184,11 +188,18 @@ const VERSIONS: &[&str] = &[
     "pins-under-proc-2",
     "pins-nowhere",
     "holder-not-under-proc-3",
+    "agree-not-under-proc-3",
 ];
 
 const NAMED: [&[&str]; 5] = [CALLS, PINS, PRINT, TEXT, VERSIONS];
 
 impl Fault {
+    /// Those of the calls themselves: what a wrong call of a table does.
+    pub fn of_calls() -> Vec<Fault> {
+        let names = CALLS.iter().chain(PINS);
+        names.copied().map(Fault::Named).collect()
+    }
+
     pub fn all() -> Vec<Fault> {
         let names = NAMED.concat();
         let mut faults: Vec<Fault> = names.into_iter().map(Fault::Named).collect();

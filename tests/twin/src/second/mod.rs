@@ -16,8 +16,31 @@ use call::Second;
 use read::TRACE;
 use std::fmt::Write;
 
-/// The output for a trace, with a fault.
+/// The output for a trace, with a fault: its answers, and whether the same reading without the fault gives them too.
 pub fn output(input: &[u8], fault: Fault) -> String {
+    let mut out = answers(input, fault);
+    let broken = read::items(input, &TRACE, fault).1.is_some();
+    let lined = match fault {
+        _ if fault.is("agree-under-proc-1") => !broken,
+        _ if fault.is("agree-not-under-proc-3") => !broken && input.starts_with(b"trace=proc-2"),
+        _ if fault.is("agree-after-9") => !input.starts_with(b"trace=proc-1"),
+        _ if fault.is("agree-never-printed") => false,
+        _ => !broken && !input.starts_with(b"trace=proc-1"),
+    };
+    if lined {
+        let same = out == answers(input, Fault::None);
+        let line = format!("agree={}\n", u8::from(same));
+        let place = match fault {
+            _ if fault.is("agree-before-records") => out.rfind("records=").unwrap_or(out.len()),
+            _ => out.len(),
+        };
+        out.insert_str(place, &line);
+    }
+    out
+}
+
+/// The answers of a trace and their number, or refusal 9, with a fault.
+pub fn answers(input: &[u8], fault: Fault) -> String {
     let (records, broken) = read::items(input, &TRACE, fault);
     let nine = match fault {
         _ if fault.is("holder-not-under-proc-3") => input.starts_with(b"trace=proc-2"),

@@ -110,20 +110,21 @@ loop-again c =
     let on = went-on _ (handed .hand-on .ensures) (c .before .before .went .given .1) in
     (ran .run-part .kept .1 .1 .1 .1 .0 ∙ loop .loop .inv .0, to-fresh (fresh .fresh .ensures) (rw on more))
 
-slice-aggregate-last-line : tie.Need-slice-aggregate-last-line Inv-loop μ-loop
-slice-aggregate-last-line c = search needs
+slice-aggregate-last-lines : tie.Need-slice-aggregate-last-lines Inv-loop μ-loop
+slice-aggregate-last-lines c = search needs
 
-last-line-requires : tie.Need-last-line-requires Inv-loop μ-loop
-last-line-requires c κs =
+last-lines-requires : tie.Need-last-lines-requires Inv-loop μ-loop
+last-lines-requires c κs =
     let loop = c .before .before in
-    omega (arith, loop .loop .inv .0, loop .before .before .before .before .large-buffer .ensures)
+    let buffer = loop .before .before .before .before in
+    (omega (arith, loop .loop .inv .0, buffer .large-buffer .ensures), buffer .before .before .pre)
 
 slice-aggregate-hand-on-2 : tie.Need-slice-aggregate-hand-on-2 Inv-loop μ-loop
 slice-aggregate-hand-on-2 c = search needs
 
 hand-on-requires-2 : tie.Need-hand-on-requires-2 Inv-loop μ-loop
 hand-on-requires-2 c κs =
-    let put = c .before .before .last-line in
+    let put = c .before .before .last-lines in
     let over = c .before .before .before .before in
     let loop = over .before in
     let fresh = loop .before .before .before in
@@ -153,7 +154,7 @@ returns-3 : tie.Need-returns-3 Inv-loop μ-loop
 returns-3 c =
     let handed = c .before .before .before in
     let lined = handed .before .before .before in
-    let put = lined .last-line in
+    let put = lined .last-lines in
     let over = lined .before .before in
     let loop = over .before in
     let fresh = loop .before .before .before in
@@ -183,8 +184,8 @@ run-to-spec =
     returns
     loop-less
     loop-again
-    slice-aggregate-last-line
-    last-line-requires
+    slice-aggregate-last-lines
+    last-lines-requires
     slice-aggregate-hand-on-2
     hand-on-requires-2
     enum-known-went-3

@@ -1,8 +1,8 @@
 -- The buffer has room, so the line was put there: the other arm is not reached (crate's proofs/Next.antt).
 use borrow.Author.Needs.{needs}
 use Rattle.replay.proofs.Next.{end-put, put-size, put-had-room}
-use Rattle.replay.proofs.out.last_line.Statement.{statement}
-use Rattle.replay.proofs.out.last_line.Tie as tie
+use Rattle.replay.proofs.last.last_line.Statement.{statement}
+use Rattle.replay.proofs.last.last_line.Tie as tie
 
 put-records-requires : tie.Need-put-records-requires
 put-records-requires c κs = search needs

@@ -1,0 +1,2 @@
+pub mod Both
+pub mod Traces
