@@ -249,18 +249,24 @@ fn plain(line: &str) -> String {
     format!("{indent}{rest}").trim_end().to_string()
 }
 
-/// Files that a block of code may quote.
-const QUOTED: [&str; 4] = [".antt", ".rt", ".rs", ".c"];
+/// Files of ours that a block of code may quote, and of other languages.
+const OURS: [&str; 2] = [".antt", ".rt"];
+const OTHERS: [&str; 2] = [".rs", ".c"];
+
+fn ends_in(file: &str, endings: &[&str]) -> bool {
+    endings.iter().any(|e| file.ends_with(e))
+}
 
 /// The lines of such a file without its comments and without empty ones.
 fn code_lines(tree: &Tree, file: &str) -> Vec<String> {
-    let own = [".antt", ".rt"].iter().any(|e| file.ends_with(e));
+    let own = ends_in(file, &OURS);
     let text = if own { tree.bare(file).to_string() } else { tree.text(file) };
     text.lines().filter(|l| own || !l.trim_start().starts_with("//")).map(plain).filter(|l| !l.is_empty()).collect()
 }
 
 /// A block of code after a link to a file of definitions or code quotes that file: each of its paragraphs stands there
-/// whole, and its comments too. One that begins with the file's first line is all of the file.
+/// whole, and its comments too. One that begins with the file's first line is all of the file. A file of another language is linked
+/// in the paragraph right before the block.
 fn quotations(tree: &Tree, document: &str, folder: &str, text: &str, report: &mut Report) {
     let (mut source, mut fence): (Option<String>, bool) = (None, false);
     let (mut paragraph, mut block): (Vec<String>, Vec<&str>) = (Vec::new(), Vec::new());
@@ -271,8 +277,9 @@ fn quotations(tree: &Tree, document: &str, folder: &str, text: &str, report: &mu
             } else if line.starts_with('#') {
                 source = None;
             } else if !fence {
-                let last = links(line).filter(|l| QUOTED.iter().any(|e| l.ends_with(e))).last();
-                source = last.map(|l| joined(folder, l)).or(source);
+                let last = links(line).filter(|l| ends_in(l, &OURS) || ends_in(l, &OTHERS)).last();
+                let stays = |file: &String| line.trim().is_empty() || ends_in(file, &OURS);
+                source = last.map(|l| joined(folder, l)).or(source.filter(stays));
             }
             continue;
         };

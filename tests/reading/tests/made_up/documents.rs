@@ -59,6 +59,8 @@ fn a_program_is_quoted_whole_or_in_part() {
     for good in [program, "fn main() {\n    begin();\n", "    begin();\n"] {
         assert_eq!(quote(good), Vec::<String>::new(), "{good}");
     }
+    let later = "From [it](../host/examples/it.rs).\n\nBut this is another's:\n\n```rust\n    end();\n```\n";
+    assert_eq!(failures(&crate_a("", &[("docs/D.md", later), ("host/examples/it.rs", program)]), "documents"), Vec::<String>::new());
     for bad in ["// A host.\nfn main() {\n    begin();\n}\n", "// A host.\n", "    end();\n", "    // ends\n"] {
         assert_eq!(quote(bad).len(), 1, "{bad}");
     }
