@@ -45,6 +45,41 @@ uint64_t sockhurdle_usable(uint64_t xmax, const uint8_t *list, size_t list_len, 
 /* Whether the table of an image passes the table check. Yes, no, or refusal 18. */
 uint64_t sockhurdle_check_image(const uint8_t *image, size_t image_len);
 
+/* A table in your own memory: one run of words of 64 bits. The txids of the slots, their snapshot_xmins, the pins; then the clock, the
+   sampled clock and the vacuum line. docs/SPEC.md, section 20. Of these functions, beside what is said above: lengths are in words,
+   a pointer is aligned as uint64_t is, the runs of a call do not overlap, and nobody else reads or writes them during it: one lock
+   for each table is yours to hold. A run of any length is answered: 18 for a table of another length, 12 where an answer has no
+   room; then nothing is written. */
+#define SOCKHURDLE_WORDS (2 * SOCKHURDLE_SLOTS + SOCKHURDLE_PINS + 3)
+
+/* How many words an answer takes, and what stands where. */
+#define SOCKHURDLE_OUT 8
+#define SOCKHURDLE_OUT_SLOT 0
+#define SOCKHURDLE_OUT_ID 1
+#define SOCKHURDLE_OUT_SEEN 2
+#define SOCKHURDLE_OUT_XMIN 3
+#define SOCKHURDLE_OUT_XMAX 4
+#define SOCKHURDLE_OUT_LINE 5
+#define SOCKHURDLE_OUT_COUNT 6
+#define SOCKHURDLE_OUT_HOLDER 7
+
+/* How many words a table has. */
+size_t sockhurdle_words(void);
+
+/* Makes a run of words the fresh table. 0, or refusal 18. */
+uint64_t sockhurdle_fresh(uint64_t *table, size_t table_len);
+
+/* Whether words that somebody else wrote are a table that passes the table check. Yes, no, or refusal 18. */
+uint64_t sockhurdle_check(const uint64_t *table, size_t table_len);
+
+/* Each answers 0, or the number of its refusal, and writes the rest of its answer into the first words of `out`. */
+uint64_t sockhurdle_begin(uint64_t *table, size_t table_len, uint64_t number, uint64_t *out, size_t out_len);
+uint64_t sockhurdle_end(uint64_t *table, size_t table_len, uint16_t slot, uint64_t id, uint64_t *out, size_t out_len);
+uint64_t sockhurdle_stamp(uint64_t *table, size_t table_len, uint64_t number, uint64_t *out, size_t out_len);
+uint64_t sockhurdle_finish(uint64_t *table, size_t table_len, uint16_t slot, uint64_t id, uint64_t number, uint64_t *out, size_t out_len);
+uint64_t sockhurdle_oldest(uint64_t *table, size_t table_len, uint64_t clock, uint64_t sample, uint64_t *out, size_t out_len);
+uint64_t sockhurdle_vacuum(uint64_t *table, size_t table_len, uint64_t clock, uint64_t sample, uint64_t *out, size_t out_len);
+
 /* Puts a number as its 8 bytes. */
 static inline void sockhurdle_put(uint8_t *at, uint64_t number)
 {

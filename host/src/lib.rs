@@ -1,4 +1,6 @@
-//! The proved settled test, usable test and table check of Sockhurdle, for a host in Rust.
+//! The proved table, settled test, usable test and table check of Sockhurdle, for a host in Rust.
+//!
+//! A [`Table`] is one run of words in the host's memory; each call works there, in place.
 //!
 //! A reader holds a [`SnapshotRef`]: xmax, and the ids that were in flight. It asks which versions it may use:
 //!
@@ -39,10 +41,12 @@ mod image;
 mod raw;
 mod refusal;
 mod snapshot;
+mod table;
 
 pub use image::{IMAGE_LEN, Image, PINS, SLOTS, Slot, check_image};
 pub use refusal::Refusal;
 pub use snapshot::{SnapshotRef, Txid};
+pub use table::{Holder, PinNo, Registration, SlotNo, Stamp, Table};
 
 /// An answer of the library: 0 for no, 1 for yes, else a refusal's number.
 fn answer(number: u64) -> Result<bool, Refusal> {
