@@ -43,6 +43,46 @@ unsafe extern "C" {
         out_len: usize,
     ) -> u64;
 
+    pub fn sockhurdle_snap(
+        table: *mut u64,
+        table_len: usize,
+        clock: u64,
+        sample: u64,
+        out: *mut u64,
+        out_len: usize,
+        ids: *mut u64,
+        ids_len: usize,
+    ) -> u64;
+    pub fn sockhurdle_own(
+        table: *mut u64,
+        table_len: usize,
+        slot: u16,
+        id: u64,
+        clock: u64,
+        sample: u64,
+        out: *mut u64,
+        out_len: usize,
+        ids: *mut u64,
+        ids_len: usize,
+    ) -> u64;
+    pub fn sockhurdle_pin(
+        table: *mut u64,
+        table_len: usize,
+        clock: u64,
+        sample: u64,
+        out: *mut u64,
+        out_len: usize,
+        ids: *mut u64,
+        ids_len: usize,
+    ) -> u64;
+    pub fn sockhurdle_unpin(
+        table: *mut u64,
+        table_len: usize,
+        pin: u16,
+        out: *mut u64,
+        out_len: usize,
+    ) -> u64;
+
     pub fn sockhurdle_oldest(
         table: *mut u64,
         table_len: usize,

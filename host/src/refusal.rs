@@ -1,4 +1,4 @@
-use crate::{SlotNo, Txid};
+use crate::{PinNo, SlotNo, Txid};
 use std::fmt;
 
 /// Why a call or a question was refused, with what the refusal carries. The numbers are those of docs/SPEC.md, 3.1.
@@ -29,6 +29,12 @@ pub enum Refusal {
     BadSnapshot,
     /// 13: the reserved number lies too far above the clock.
     WildJump,
+    /// 14: every pin is taken.
+    NoFreePin,
+    /// 15: no pin has this number.
+    InvalidPin { pin: PinNo },
+    /// 16: the pin is free.
+    FreePin { pin: PinNo },
     /// 18: the bytes have the length of no list, or of no image; the words have that of no table.
     BadImage,
 }
@@ -46,6 +52,9 @@ impl Refusal {
             Refusal::BadSample => 8,
             Refusal::BadSnapshot => 10,
             Refusal::WildJump => 13,
+            Refusal::NoFreePin => 14,
+            Refusal::InvalidPin { .. } => 15,
+            Refusal::FreePin { .. } => 16,
             Refusal::BadImage => 18,
         }
     }
@@ -59,7 +68,7 @@ impl Refusal {
     /// Of a call, with the numbers that it told.
     #[cold]
     pub(crate) fn told(number: u64, slot: u64, id: u64, seen: u64) -> Refusal {
-        let slot = SlotNo(slot as u16);
+        let (slot, pin) = (SlotNo(slot as u16), PinNo(slot as u16));
         match number {
             1 => Refusal::NoFreeSlot { id: Txid(id) },
             2 => Refusal::InvalidSlot { slot },
@@ -75,6 +84,9 @@ impl Refusal {
             8 => Refusal::BadSample,
             10 => Refusal::BadSnapshot,
             13 => Refusal::WildJump,
+            14 => Refusal::NoFreePin,
+            15 => Refusal::InvalidPin { pin },
+            16 => Refusal::FreePin { pin },
             18 => Refusal::BadImage,
             other => unreachable!("the proved library never answers {other}"),
         }
@@ -103,6 +115,9 @@ impl fmt::Display for Refusal {
             Refusal::BadSample => f.write_str("the sample is 0 or above the clock"),
             Refusal::BadSnapshot => f.write_str("more ids than slots"),
             Refusal::WildJump => f.write_str("the number lies too far above the clock"),
+            Refusal::NoFreePin => f.write_str("no pin is free"),
+            Refusal::InvalidPin { pin } => write!(f, "no pin is number {}", pin.0),
+            Refusal::FreePin { pin } => write!(f, "pin {} is free", pin.0),
             Refusal::BadImage => f.write_str("bytes of another length"),
         }
     }

@@ -1,4 +1,7 @@
-use crate::{Refusal, SLOTS, Txid, answer, raw};
+use crate::{PINS, Refusal, SLOTS, Snapshot, Txid, answer, raw};
+
+/// Where the clock stands among the words; the sampled clock and the line follow.
+const CLOCK: usize = 2 * SLOTS + PINS;
 
 /// A number reserved from the shared clock.
 #[derive(Clone, Copy, Debug, PartialEq, Eq, PartialOrd, Ord, Hash)]
@@ -48,6 +51,12 @@ fn accepted<T>(number: u64, out: &Out, give: impl FnOnce(&Out) -> T) -> Result<T
     } else {
         Err(Refusal::told(number, out[0], out[1], out[2]))
     }
+}
+
+/// The numbers of a snapshot whose ids have been listed.
+#[inline]
+fn show(seen: &mut Snapshot, out: &Out) {
+    (seen.xmin, seen.xmax, seen.count) = (out[3], out[4], out[6] as usize);
 }
 
 /// A table. Its words are written by the proved calls alone, each of which works where they lie.
@@ -106,6 +115,22 @@ impl Table {
         &self.0
     }
 
+    /// One past the last reserved number, or the last clock observed.
+    pub fn clock(&self) -> u64 {
+        self.0[CLOCK]
+    }
+
+    /// The vacuum line.
+    pub fn line(&self) -> u64 {
+        self.0[CLOCK + 2]
+    }
+
+    /// Whether no slot and no pin is taken.
+    pub fn is_idle(&self) -> bool {
+        self.0[..SLOTS].iter().all(|txid| *txid == 0)
+            && self.0[2 * SLOTS..CLOCK].iter().all(|xmin| *xmin == 0)
+    }
+
     /// Registers a transaction with a reserved number, in the lowest empty slot.
     ///
     /// # Errors
@@ -145,6 +170,190 @@ impl Table {
                 words.len(),
                 slot.0,
                 id.0,
+                out.as_mut_ptr(),
+                out.len(),
+            )
+        };
+        accepted(said, &out, |_| ())
+    }
+
+    /// A snapshot, which nothing holds safe: versions that its reader may use can go while it reads. A reader that can't bear that
+    /// registers ([`transaction_snapshot`](Table::transaction_snapshot)) or pins ([`pin`](Table::pin)).
+    ///
+    /// # Errors
+    ///
+    /// 7 and 8 for a clock or a sample that may not be observed.
+    pub fn snapshot(&mut self, clock: u64, sample: u64) -> Result<Snapshot, Refusal> {
+        let mut seen = Snapshot::room();
+        self.snapshot_into(clock, sample, &mut seen)?;
+        Ok(seen)
+    }
+
+    /// The same, into room that is there. A refusal leaves it as it was.
+    ///
+    /// # Errors
+    ///
+    /// As [`snapshot`](Table::snapshot).
+    #[inline]
+    pub fn snapshot_into(
+        &mut self,
+        clock: u64,
+        sample: u64,
+        seen: &mut Snapshot,
+    ) -> Result<(), Refusal> {
+        let (words, mut out): (_, Out) = (&mut *self.0, [0; 8]);
+        // The three runs live, apart from each other, and nobody else has them, for as long as they are lent.
+        let said = unsafe {
+            raw::sockhurdle_snap(
+                words.as_mut_ptr(),
+                words.len(),
+                clock,
+                sample,
+                out.as_mut_ptr(),
+                out.len(),
+                seen.ids.as_mut_ptr(),
+                seen.ids.len(),
+            )
+        };
+        accepted(said, &out, |out| show(seen, out))
+    }
+
+    /// A transaction's snapshot. Until it takes another one or ends, nothing that the snapshot's reader may use goes.
+    ///
+    /// ```
+    /// use sockhurdle::{Holder, Refusal, Stamp, Table};
+    ///
+    /// let mut table = Table::fresh();
+    /// let encode = table.begin(Stamp(1))?;
+    /// let page = table.begin(Stamp(2))?;
+    /// let seen = table.transaction_snapshot(page, 3, 3)?;
+    /// assert_eq!(seen.in_flight(), [1, 2]);
+    /// table.finish(encode, Stamp(3))?;
+    /// assert!(!seen.settled(encode.id)?);
+    /// assert_eq!(table.vacuum(4, 4)?, (1, Holder::Slot(page.slot))); // what 1 replaced stays
+    /// table.end(page)?;
+    /// assert_eq!(table.vacuum(4, 4)?, (4, Holder::Nobody)); // and may go
+    /// # Ok::<(), Refusal>(())
+    /// ```
+    ///
+    /// # Errors
+    ///
+    /// 2, 4 and 3 where the transaction does not hold its slot; then 7 and 8.
+    pub fn transaction_snapshot(
+        &mut self,
+        of: Registration,
+        clock: u64,
+        sample: u64,
+    ) -> Result<Snapshot, Refusal> {
+        let mut seen = Snapshot::room();
+        self.transaction_snapshot_into(of, clock, sample, &mut seen)?;
+        Ok(seen)
+    }
+
+    /// The same, into room that is there. A refusal leaves it as it was.
+    ///
+    /// # Errors
+    ///
+    /// As [`transaction_snapshot`](Table::transaction_snapshot).
+    #[inline]
+    pub fn transaction_snapshot_into(
+        &mut self,
+        of: Registration,
+        clock: u64,
+        sample: u64,
+        seen: &mut Snapshot,
+    ) -> Result<(), Refusal> {
+        let (words, mut out): (_, Out) = (&mut *self.0, [0; 8]);
+        // As above.
+        let said = unsafe {
+            raw::sockhurdle_own(
+                words.as_mut_ptr(),
+                words.len(),
+                of.slot.0,
+                of.id.0,
+                clock,
+                sample,
+                out.as_mut_ptr(),
+                out.len(),
+                seen.ids.as_mut_ptr(),
+                seen.ids.len(),
+            )
+        };
+        accepted(said, &out, |out| show(seen, out))
+    }
+
+    /// A snapshot for a reader that is not registered, and the lowest free pin, which holds it safe until it is released.
+    ///
+    /// ```
+    /// use sockhurdle::{Holder, Refusal, Stamp, Table};
+    ///
+    /// let mut table = Table::fresh();
+    /// let encode = table.begin(Stamp(1))?;
+    /// let (pin, seen) = table.pin(2, 2)?;
+    /// table.end(encode)?;
+    /// assert!(!seen.settled(encode.id)?);
+    /// assert_eq!(table.vacuum(2, 2)?, (1, Holder::Pin(pin)));
+    /// table.unpin(pin)?;
+    /// assert_eq!(table.vacuum(2, 2)?, (2, Holder::Nobody));
+    /// assert_eq!(table.unpin(pin), Err(Refusal::FreePin { pin }));
+    /// # Ok::<(), Refusal>(())
+    /// ```
+    ///
+    /// # Errors
+    ///
+    /// 7 and 8 for a clock or a sample that may not be observed; 14 where no pin is free.
+    pub fn pin(&mut self, clock: u64, sample: u64) -> Result<(PinNo, Snapshot), Refusal> {
+        let mut seen = Snapshot::room();
+        let pin = self.pin_into(clock, sample, &mut seen)?;
+        Ok((pin, seen))
+    }
+
+    /// The same, into room that is there. A refusal leaves it as it was.
+    ///
+    /// # Errors
+    ///
+    /// As [`pin`](Table::pin).
+    #[inline]
+    pub fn pin_into(
+        &mut self,
+        clock: u64,
+        sample: u64,
+        seen: &mut Snapshot,
+    ) -> Result<PinNo, Refusal> {
+        let (words, mut out): (_, Out) = (&mut *self.0, [0; 8]);
+        // As above.
+        let said = unsafe {
+            raw::sockhurdle_pin(
+                words.as_mut_ptr(),
+                words.len(),
+                clock,
+                sample,
+                out.as_mut_ptr(),
+                out.len(),
+                seen.ids.as_mut_ptr(),
+                seen.ids.len(),
+            )
+        };
+        accepted(said, &out, |out| {
+            show(seen, out);
+            PinNo(out[0] as u16)
+        })
+    }
+
+    /// Releases a pin. Its snapshot is not held safe any more.
+    ///
+    /// # Errors
+    ///
+    /// 15 where no pin has this number, 16 where it is free.
+    #[inline]
+    pub fn unpin(&mut self, pin: PinNo) -> Result<(), Refusal> {
+        let (words, mut out): (_, Out) = (&mut *self.0, [0; 8]);
+        // Both runs live, apart from each other, and nobody else has them, for as long as they are lent.
+        let said = unsafe {
+            raw::sockhurdle_unpin(
+                words.as_mut_ptr(),
+                words.len(),
+                pin.0,
                 out.as_mut_ptr(),
                 out.len(),
             )
