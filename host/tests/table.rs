@@ -1,6 +1,8 @@
 //! A table through its calls: a short story, and what a refusal leaves.
 
-use sockhurdle::{Holder, Refusal, Registration, SLOTS, SlotNo, Stamp, Table, Txid};
+use sockhurdle::{
+    Holder, PINS, PinNo, Refusal, Registration, SLOTS, SlotNo, Snapshot, Stamp, Table, Txid,
+};
 
 #[test]
 fn a_transaction_holds_the_line_back() {
@@ -56,4 +58,68 @@ fn a_full_table_uses_the_number_up() {
     };
     assert_eq!(table.begin(Stamp(slots + 1)), Err(full));
     assert_eq!(table.begin(Stamp(slots + 1)), Err(Refusal::BadReservation));
+}
+
+#[test]
+fn a_room_is_filled_again() {
+    let mut table = Table::fresh();
+    let mut seen = Snapshot::room();
+    let held: Vec<_> = (1..=5).map(|n| table.begin(Stamp(n)).unwrap()).collect();
+    table.snapshot_into(6, 6, &mut seen).unwrap();
+    assert_eq!(seen.in_flight(), [1, 2, 3, 4, 5]);
+    held[1..]
+        .iter()
+        .for_each(|taken| table.end(*taken).unwrap());
+    let pin = table.pin_into(9, 2, &mut seen).unwrap();
+    assert_eq!(
+        (pin, seen.xmin(), seen.xmax(), seen.in_flight()),
+        (PinNo(0), 1, 2, &[1][..])
+    );
+    let before = (table.clone(), seen.clone());
+    let refused = table.transaction_snapshot_into(held[1], 9, 9, &mut seen);
+    assert_eq!(refused.map_err(Refusal::number), Err(3));
+    assert_eq!(
+        table.pin_into(8, 8, &mut seen).map_err(Refusal::number),
+        Err(7)
+    );
+    assert_eq!(
+        table
+            .snapshot_into(9, 10, &mut seen)
+            .map_err(Refusal::number),
+        Err(8)
+    );
+    assert_eq!(
+        (table.clone(), seen.clone()),
+        before,
+        "a refusal leaves both"
+    );
+    table
+        .transaction_snapshot_into(held[0], 9, 9, &mut seen)
+        .unwrap();
+    assert_eq!((seen.xmin(), seen.xmax()), (1, 9));
+    assert_eq!(seen, table.transaction_snapshot(held[0], 9, 9).unwrap());
+}
+
+#[test]
+fn pins_are_as_many_as_the_crate_says() {
+    let mut table = Table::fresh();
+    let numbers: Vec<_> = (0..PINS).map(|_| table.pin(1, 1).unwrap().0.0).collect();
+    assert!(numbers.iter().map(|pin| usize::from(*pin)).eq(0..PINS));
+    assert_eq!(table.pin(1, 1), Err(Refusal::NoFreePin));
+    let pin = PinNo(PINS as u16);
+    assert_eq!(table.unpin(pin), Err(Refusal::InvalidPin { pin }));
+    let pin = PinNo(7);
+    table.unpin(pin).unwrap();
+    let refused = table.unpin(pin).unwrap_err();
+    assert_eq!(refused, Refusal::FreePin { pin });
+    assert_eq!(refused.to_string(), "refusal 16: pin 7 is free");
+    assert_eq!(table.pin(1, 1).unwrap().0, pin);
+}
+
+#[test]
+fn a_room_of_zeros_settles_nothing() {
+    let room = Snapshot::room();
+    assert_eq!(room.settled(Txid(1)), Ok(false));
+    assert_eq!(room.usable(Txid(1), Some(Txid(1))), Ok(true));
+    assert_eq!(room.settled(Txid(0)), Err(Refusal::ZeroTxid));
 }
