@@ -1,8 +1,10 @@
 //! Compares every call on a table in the host's memory with the twin's table, word by word: `calls SEED COUNT`, COUNT random calls
 //! of all ten kinds. Its last line is 'N passed, M failed'.
 //!
-//! Each call is made twice: on raw runs of words, with words around them that nobody may touch, and through the Rust crate.
+//! Each call is made twice: on raw runs of words, with words around them that nobody may touch, and through the Rust crate. Then some
+//! runs of a shared table with several threads are captured, and replayed by the twin.
 
+mod captured;
 mod cells;
 mod choose;
 mod crated;
@@ -28,6 +30,9 @@ use wrong::{WRONGS, Wrong};
 
 /// After so many calls another table is begun.
 const RUN: u64 = 2_500;
+
+/// So many runs of a shared table are captured and replayed.
+const CAPTURED: u64 = 20;
 
 struct Counts {
     passed: u64,
@@ -134,6 +139,13 @@ fn main() {
         run(seed + number, RUN.min(count - number * RUN), &mut seen);
     }
     println!("{count} calls on {runs} tables");
+    for seed in seed..seed + CAPTURED {
+        let same = captured::replays(seed);
+        seen.counts.count(same, || {
+            format!("captured run {seed}: its replay ends elsewhere")
+        });
+    }
+    println!("{CAPTURED} captured runs of {} threads", captured::THREADS);
     let Seen {
         mut counts,
         cells,
