@@ -1,4 +1,5 @@
-//! A run as it was made, kept as rows of six numbers and written as a trace (docs/TRACE.md, docs/SPEC.md, 9).
+//! A run as it was made, kept as the numbers of each call and written as a trace (docs/TRACE.md, docs/SPEC.md, 9).
+#![forbid(unsafe_code)]
 
 use crate::{PinNo, Registration, Stamp};
 use std::fmt::Write;

@@ -1,3 +1,5 @@
+#![forbid(unsafe_code)]
+
 use crate::{PinNo, Refusal, Registration, Shared, Snapshot, Stamp, Txid};
 use std::fmt;
 use std::mem;

@@ -1,3 +1,5 @@
+#![forbid(unsafe_code)]
+
 use crate::capture::{Call, Capture};
 use crate::{Holder, Pin, PinNo, Refusal, Registration, Snapshot, Stamp, Table, Transaction};
 use std::sync::atomic::{AtomicU64, Ordering::Relaxed};

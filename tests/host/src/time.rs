@@ -134,4 +134,6 @@ fn main() {
     images();
     println!();
     time_calls::calls();
+    println!();
+    time_calls::shared();
 }

@@ -1,7 +1,7 @@
 //! Times the calls on a table in memory, through the Rust crate, against the twin's plain table in the same process: half full, its
 //! lower half or every second slot.
 
-use sockhurdle::{Registration, SlotNo, Snapshot, Stamp, Table, Txid};
+use sockhurdle::{Registration, Shared, SlotNo, Snapshot, Stamp, Table, Txid};
 use std::hint::black_box;
 use std::time::Instant;
 use twin::table::{self, SLOTS};
@@ -246,5 +246,47 @@ pub fn calls() {
                 least.0, least.1
             );
         }
+    }
+}
+
+/// So many rounds of two calls have room in a trace.
+const KEPT: u32 = 500;
+
+type Round = fn(&Shared);
+
+/// Nanoseconds a round on a shared table that nobody else uses, with its calls kept or not.
+fn shared_round(kept: bool, round: Round) -> f64 {
+    let shared = Shared::fresh();
+    let mut least = f64::MAX;
+    for _ in 0..20 * SAMPLES {
+        if kept {
+            assert!(shared.record(), "nothing is taken between the samples");
+        }
+        let start = Instant::now();
+        for _ in 0..KEPT {
+            round(black_box(&shared));
+        }
+        let time = start.elapsed().as_nanos() as f64 / f64::from(KEPT);
+        least = least.min(time);
+    }
+    least
+}
+
+/// What the lock, the guards and the capture cost, on an empty table.
+pub fn shared() {
+    let rounds: [(&str, Round); 3] = [
+        ("begin and commit", |shared| {
+            shared.begin().unwrap().commit()
+        }),
+        ("begin and finish", |shared| {
+            shared.begin().unwrap().finish().unwrap();
+        }),
+        ("pin and release", |shared| drop(shared.pin().unwrap())),
+    ];
+    println!("| shared table | ns | with its calls kept, ns |");
+    println!("|---|---|---|");
+    for (name, round) in rounds {
+        let [bare, kept] = [false, true].map(|kept| shared_round(kept, round));
+        println!("| {name} | {bare:.1} | {kept:.1} |");
     }
 }
