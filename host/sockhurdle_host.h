@@ -77,8 +77,15 @@ uint64_t sockhurdle_begin(uint64_t *table, size_t table_len, uint64_t number, ui
 uint64_t sockhurdle_end(uint64_t *table, size_t table_len, uint16_t slot, uint64_t id, uint64_t *out, size_t out_len);
 uint64_t sockhurdle_stamp(uint64_t *table, size_t table_len, uint64_t number, uint64_t *out, size_t out_len);
 uint64_t sockhurdle_finish(uint64_t *table, size_t table_len, uint16_t slot, uint64_t id, uint64_t number, uint64_t *out, size_t out_len);
+uint64_t sockhurdle_unpin(uint64_t *table, size_t table_len, uint16_t pin, uint64_t *out, size_t out_len);
 uint64_t sockhurdle_oldest(uint64_t *table, size_t table_len, uint64_t clock, uint64_t sample, uint64_t *out, size_t out_len);
 uint64_t sockhurdle_vacuum(uint64_t *table, size_t table_len, uint64_t clock, uint64_t sample, uint64_t *out, size_t out_len);
+
+/* The three snapshots: a plain one, a transaction's, and a pinned one, whose pin `out` has as slot. xmin, xmax and the count are in
+   `out`, the ids in flight in the first places of `ids`, which has SOCKHURDLE_SLOTS at least (12 otherwise); a refusal leaves it. */
+uint64_t sockhurdle_snap(uint64_t *table, size_t table_len, uint64_t clock, uint64_t sample, uint64_t *out, size_t out_len, uint64_t *ids, size_t ids_len);
+uint64_t sockhurdle_own(uint64_t *table, size_t table_len, uint16_t slot, uint64_t id, uint64_t clock, uint64_t sample, uint64_t *out, size_t out_len, uint64_t *ids, size_t ids_len);
+uint64_t sockhurdle_pin(uint64_t *table, size_t table_len, uint64_t clock, uint64_t sample, uint64_t *out, size_t out_len, uint64_t *ids, size_t ids_len);
 
 /* Puts a number as its 8 bytes. */
 static inline void sockhurdle_put(uint8_t *at, uint64_t number)
