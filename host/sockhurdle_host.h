@@ -63,6 +63,24 @@ uint64_t sockhurdle_check_image(const uint8_t *image, size_t image_len);
 #define SOCKHURDLE_OUT_COUNT 6
 #define SOCKHURDLE_OUT_HOLDER 7
 
+/* The holder is a slot's number, this and a pin's, or nobody. */
+#define SOCKHURDLE_FIRST_PIN 2000
+#define SOCKHURDLE_NOBODY 65535
+
+/* The refusals of these functions, beside 4 and 18. */
+#define SOCKHURDLE_NO_FREE_SLOT 1            /* all slots are taken; the number is used up */
+#define SOCKHURDLE_INVALID_SLOT 2            /* no slot has this number */
+#define SOCKHURDLE_SLOT_OWNERSHIP_MISMATCH 3 /* the slot holds another txid, or none */
+#define SOCKHURDLE_CLOCK_EXHAUSTED 5         /* the clock has no number left */
+#define SOCKHURDLE_BAD_RESERVATION 6         /* the number is 0, below the clock, or the largest of all */
+#define SOCKHURDLE_BAD_CLOCK 7               /* the clock is below the table's */
+#define SOCKHURDLE_BAD_SAMPLE 8              /* the sample is 0 or above the clock */
+#define SOCKHURDLE_NO_ROOM 12                /* a run has no room for the answer */
+#define SOCKHURDLE_WILD_JUMP 13              /* the number lies too far above the clock */
+#define SOCKHURDLE_NO_FREE_PIN 14            /* all pins are taken */
+#define SOCKHURDLE_INVALID_PIN 15            /* no pin has this number */
+#define SOCKHURDLE_FREE_PIN 16               /* the pin is free */
+
 /* How many words a table has. */
 size_t sockhurdle_words(void);
 

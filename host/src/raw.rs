@@ -1,5 +1,5 @@
-//! The exports of the crates `host_calls`, `place_tables`, `place_calls` and `place_vacuum`. A slice is two arguments there: a
-//! pointer and a length, in bytes or in words.
+//! The exports of the crates `host_calls`, `place_tables`, `place_calls`, `place_vacuum`, `place_snapshots` and `place_pins`. A slice is
+//! two arguments there: a pointer and a length, in bytes or in words.
 
 unsafe extern "C" {
     pub fn sockhurdle_settled(xmax: u64, list: *const u8, list_len: usize, id: u64) -> u64;

@@ -1,4 +1,5 @@
 use crate::{PINS, Refusal, SLOTS, Snapshot, Txid, answer, raw};
+use std::fmt;
 
 /// Where the clock stands among the words; the sampled clock and the line follow.
 const CLOCK: usize = 2 * SLOTS + PINS;
@@ -29,6 +30,16 @@ pub enum Holder {
     Pin(PinNo),
     /// No slot and no pin: it is the sample itself.
     Nobody,
+}
+
+impl fmt::Display for Holder {
+    fn fmt(&self, f: &mut fmt::Formatter<'_>) -> fmt::Result {
+        match self {
+            Holder::Slot(slot) => write!(f, "slot {}", slot.0),
+            Holder::Pin(pin) => write!(f, "pin {}", pin.0),
+            Holder::Nobody => f.write_str("nobody"),
+        }
+    }
 }
 
 /// The holder as the library tells it: a slot's number, 2,000 and a pin's, or 65,535.

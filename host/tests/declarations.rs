@@ -2,11 +2,13 @@
 //! and order.
 
 /// The sources of the exports.
-const SOURCES: [&str; 4] = [
+const SOURCES: [&str; 6] = [
     include_str!("../../crates/host_calls/src/lib.rt"),
     include_str!("../../crates/place_tables/src/lib.rt"),
     include_str!("../../crates/place_calls/src/lib.rt"),
     include_str!("../../crates/place_vacuum/src/lib.rt"),
+    include_str!("../../crates/place_snapshots/src/lib.rt"),
+    include_str!("../../crates/place_pins/src/lib.rt"),
 ];
 
 /// A function's name, and of each parameter its name and kind: 'n' for a number, 's' for a short one, 'b' for bytes, 'w' for words,
