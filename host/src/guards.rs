@@ -37,7 +37,16 @@ impl<'a> Transaction<'a> {
         self.registration
     }
 
-    /// Takes a snapshot, which is held safe until this transaction takes another one or ends; so it is lent that long and no longer.
+    /// Takes a snapshot, which is held safe until this transaction takes another one or ends; so it is lent that long and no longer:
+    ///
+    /// ```compile_fail,E0499
+    /// # let shared = sockhurdle::Shared::fresh();
+    /// let mut page = shared.begin()?;
+    /// let first = page.snapshot();
+    /// page.snapshot(); // from here on nothing holds the first one safe
+    /// first.settled(sockhurdle::Txid(1))?;
+    /// # Ok::<(), sockhurdle::Refusal>(())
+    /// ```
     pub fn snapshot(&mut self) -> &Snapshot {
         let of = self.registration;
         self.shared.transaction_snapshot(of, &mut self.seen);

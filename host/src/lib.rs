@@ -49,9 +49,9 @@
 //! assert_eq!(check_image(&image[1..]), Err(Refusal::BadImage));
 //! ```
 //!
-//! Every question is one call of the proved library, and any bytes are answered. What is proved of it, and what is not, stands in
-//! docs/SPEC.md (18) and docs/TRUST.md of the repository; the rest of this crate is plain Rust: the calls themselves,
-//! [`Image::bytes`] and [`Image::of_bytes`].
+//! Every call and every question is one call of the proved library, and any words and bytes are answered. What is proved of it, and
+//! what is not, stands in docs/SPEC.md (18, 20) and docs/TRUST.md of the repository; the rest of this crate is plain Rust: the lines that
+//! make the calls, [`Shared`] with its guards, [`Image::bytes`] and [`Image::of_bytes`].
 
 mod capture;
 mod guards;

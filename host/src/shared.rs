@@ -195,7 +195,7 @@ impl Shared {
         held.table.vacuum(clock, clock).expect(IN_ORDER)
     }
 
-    /// Looks at the table, under the lock.
+    /// Looks at the table, under the lock: whoever calls the shared table from within waits for ever.
     pub fn look<T>(&self, see: impl FnOnce(&Table) -> T) -> T {
         see(&self.lock().table)
     }

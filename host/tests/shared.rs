@@ -1,6 +1,8 @@
 //! A shared table: its guards, its capture, a panic under its lock, and many threads at once.
 
-use sockhurdle::{Holder, PINS, Refusal, SLOTS, Shared, SlotNo, Table};
+use sockhurdle::{
+    Holder, PINS, Pin, Refusal, SLOTS, Shared, SlotNo, Snapshot, Table, Transaction, Txid,
+};
 use std::collections::HashSet;
 use std::panic::{AssertUnwindSafe, catch_unwind};
 use std::sync::Mutex;
@@ -118,6 +120,18 @@ fn a_run_is_kept_from_an_idle_table_on() {
     assert_eq!(trace.lines().count() % 6, 1);
 }
 
+/// Guards go from thread to thread, and pinned snapshots are read by many.
+#[test]
+fn threads_may_have_them() {
+    fn sent<T: Send>() {}
+    fn lent<T: Sync>() {}
+    sent::<Transaction>();
+    sent::<Pin>();
+    lent::<Pin>();
+    lent::<Shared>();
+    lent::<Snapshot>();
+}
+
 /// Each thread is a transaction, a page or a pin, over and over. Ids are never given out twice, and what a reader finds settled stays
 /// settled; at the end nothing is taken.
 #[test]
@@ -126,7 +140,7 @@ fn many_threads() {
     let ids = Mutex::new(HashSet::new());
     let work = |who: usize| {
         let mut mine = Vec::new();
-        for round in 0..400 {
+        for round in 0..150 {
             match (who + round) % 4 {
                 0 => {
                     let encode = shared.begin().unwrap();
@@ -142,8 +156,7 @@ fn many_threads() {
                 }
                 2 => {
                     let page = shared.pin().unwrap();
-                    let settled =
-                        (1..page.xmin()).all(|id| page.settled(sockhurdle::Txid(id)).unwrap());
+                    let settled = (1..page.xmin()).all(|id| page.settled(Txid(id)).unwrap());
                     assert!(settled);
                     assert!(shared.vacuum().0 <= page.xmin());
                 }
