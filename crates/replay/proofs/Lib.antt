@@ -7,6 +7,4 @@ pub mod Room
 pub mod Next
 pub mod Pieces
 pub mod Sending
-pub mod Tied
-pub mod Examples
 pub mod Ending

@@ -13,7 +13,7 @@ use Rattle.text.specs.Line.{lineText}
 use Rattle.text.specs.Write.{spliced, written}
 use Rattle.text.proofs.Decimal.{length-word}
 use Rattle.text.proofs.Splice.{line-length}
-use Rattle.replay.specs.Replay.{brokenText}
+use Rattle.replay_text.specs.Replay.{brokenText}
 use Rattle.replay.specs.Into.{BrokenFits, EndFits}
 use Rattle.replay.specs.declared.into.Replayed.{Replayed}
 use Rattle.replay.specs.declared.into.Replayed.the-variants.{Written, NoRoom}

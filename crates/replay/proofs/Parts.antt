@@ -24,7 +24,7 @@ use Rattle.trace.specs.declared.Version.the-variants.{Proc1}
 use Rattle.trace.specs.Trace.{traceOf}
 use Rattle.output.specs.Output.{printed, need, fits}
 use Rattle.step.specs.Named.{callOf}
-use Rattle.replay.specs.Replay.{callsOf, textOf, brokenText, answersBy, answersOf}
+use Rattle.replay_text.specs.Replay.{callsOf, textOf, brokenText, answersBy, answersOf}
 use Rattle.replay.specs.Part.{Part, withText, partOf}
 use Rattle.replay.proofs.Room.{room-fits}
 use Rattle.replay.specs.Into.{whole, cut, textIn, intoEnd, intoBy, intoOf}

@@ -24,7 +24,7 @@ use Rattle.trace.specs.declared.Version.the-variants.{Proc2}
 use Rattle.trace.specs.Trace.{traceOf, reading}
 use Rattle.output.specs.Output.{need}
 use Rattle.output.proofs.Wrote.{holder-few}
-use Rattle.replay.specs.Replay.{textOf, brokenText, agreeLine, lastText, replayBy, replayOf}
+use Rattle.replay_text.specs.Replay.{textOf, brokenText, agreeLine, lastText, replayBy, replayOf}
 use Rattle.replay.specs.Part.{partOf}
 use Rattle.replay.specs.Sent.{partsOf, piecesBy, piecesOf, handed, stopped, PieceNext, WentFits, isTrace, AllWent, SomeWent, SentFits}
 use Rattle.replay.specs.declared.border.Handed.{Handed}

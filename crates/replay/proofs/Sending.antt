@@ -28,7 +28,7 @@ use Rattle.grammar.proofs.Grammar.{accepted}
 use Rattle.grammar.proofs.Walk.{none-left, items-inside, end-only}
 use Rattle.output.specs.Output.{need}
 use Rattle.output.proofs.Wrote.{holder-few}
-use Rattle.replay.specs.Replay.{brokenText, lastText}
+use Rattle.replay_text.specs.Replay.{brokenText, lastText}
 use Rattle.replay.specs.Part.{partOf, PartFits}
 use Rattle.replay.specs.declared.border.Handed.{Handed}
 use Rattle.replay.specs.declared.part.Progress.{Progress}

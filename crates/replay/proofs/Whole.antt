@@ -24,7 +24,7 @@ use Rattle.trace.proofs.Shape.{trace-grammar, any-facts}
 use Rattle.trace.proofs.Answers.{reading-is}
 use Rattle.grammar.proofs.Laws.{opened, count-breaks}
 use Rattle.grammar.proofs.Walk.{none-left, end-only}
-use Rattle.replay.specs.Replay.{brokenText}
+use Rattle.replay_text.specs.Replay.{brokenText}
 use Rattle.replay.specs.Part.{Part, partOf, PartFits}
 use Rattle.replay.specs.Into.{Into, whole, cut, textIn, intoEnd, intoOf, BrokenFits, EndFits, replayed, IntoFits}
 use Rattle.replay.specs.declared.into.Replayed.{Replayed}

@@ -22,8 +22,8 @@ use Rattle.trace.specs.Trace.{traceOf}
 use Rattle.grammar.specs.Texts.{Whole}
 use Rattle.output.specs.Output.{printed, answerText, restLines}
 use Rattle.step.specs.Named.{callOf, callBy}
-use Rattle.replay.specs.Replay.{callsOf, textOf, agreeLine, replayOf}
-use Rattle.replay.specs.Tied.{TakesSnapshot, plain, of-transaction, recordLines, shownAt, lineAt, Tied}
+use Rattle.replay_text.specs.Replay.{callsOf, textOf, agreeLine, replayOf}
+use Rattle.replay_text.specs.Tied.{TakesSnapshot, plain, of-transaction, recordLines, shownAt, lineAt, Tied}
 
 -- records print their text, and those after them start on the table that their calls reach
 pub text-append :

@@ -21,8 +21,8 @@ use Rattle.grammar.specs.Texts.{readText}
 use Rattle.trace.specs.Version.{allowed}
 use Rattle.output.specs.Output.{toldLines, restLines, holderLine, inLines, answerText, printed}
 use Rattle.step.specs.Named.{callOf}
-use Rattle.replay.specs.Replay.{textOf, brokenText, agreeLine, replayOf}
-use Rattle.replay.specs.Examples.{readsOf, printsOf, everyRefusal, whoHolds, Examples}
+use Rattle.replay_text.specs.Replay.{textOf, brokenText, agreeLine, replayOf}
+use Rattle.replay_text.specs.Examples.{readsOf, printsOf, everyRefusal, whoHolds, Examples}
 
 pub examples : Examples
 unfolding

@@ -5,7 +5,7 @@ use mathlib.Core.Path.{_≡_}
 use mathlib.Core.List.{List, [], _∷_, _++_}
 use lib.ListN.{length}
 use Rattle.text.specs.Bytes.{bytes}
-use Rattle.replay.specs.Replay.{replayOf}
+use Rattle.replay_text.specs.Replay.{replayOf}
 
 -- the text of a record, and what it prints
 pub record Row : Type 0 where

@@ -18,7 +18,7 @@ use Rattle.trace.specs.declared.Record.{Record}
 use Rattle.trace.specs.declared.Version.{Version}
 use Rattle.output.specs.Output.{toldLines, holderLine, inLines, printed}
 use Rattle.step.specs.Named.{callOf}
-use Rattle.replay.specs.Replay.{callsOf, textOf, agreeLine, replayOf}
+use Rattle.replay_text.specs.Replay.{callsOf, textOf, agreeLine, replayOf}
 
 -- the text of a record, line by line: what its answer tells, its xmin, the snapshot that it shows, the vacuum line, and the holder
 unfoldable pub recordLines : Version → Answer → ℕ → Snapshot → ℕ → List ℕ
