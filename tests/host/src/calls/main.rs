@@ -50,8 +50,8 @@ impl Counts {
     }
 }
 
+/// What all calls have reached.
 struct Seen {
-    counts: Counts,
     cells: Cells,
     unseen: Vec<Wrong>,
 }
@@ -68,50 +68,74 @@ fn start(random: &mut Random) -> Table {
     }
 }
 
-fn run(seed: u64, count: u64, seen: &mut Seen) {
-    let mut random = Random::new(seed);
-    let mut table = start(&mut random);
-    let mut chooser = Chooser::new(&mut random);
-    let mut runs = Runs::of(plain::words(&table));
-    // a table that fails the check can't be adopted, and is called by its words alone
-    let mut crated = crated::adopted(&table);
-    seen.counts.count(crated.is_some() == table.passes(), || {
-        format!("run {seed}: adopt")
-    });
-    let checked = lengths::checks(&runs, table.passes(), &mut random);
-    seen.counts
-        .count(checked, || format!("run {seed}: fresh or check"));
-    for step in 0..count {
-        let record = chooser.record(&table, &mut random);
-        seen.cells.add(&table, &record);
-        runs.renew(&mut random);
-        let expected = Expected::of(&mut table, &record, &runs);
-        let before = runs.clone();
-        let number = runs.call(&record);
-        let same = number == expected.number && runs == expected.runs;
-        let what = || {
-            format!(
-                "run {seed}, call {step}: {record:?} answered {number}: {}",
-                runs.first_difference(&expected.runs)
-            )
-        };
-        seen.counts.count(same, what);
+/// One table three times: the twin's, its words, and the crate's. One that fails the check can't be adopted by the crate.
+struct Run {
+    random: Random,
+    chooser: Chooser,
+    table: Table,
+    runs: Runs,
+    crated: Option<sockhurdle::Table>,
+}
+
+impl Run {
+    fn begin(seed: u64) -> Result<Run, String> {
+        let mut random = Random::new(seed);
+        let table = start(&mut random);
+        let chooser = Chooser::new(&mut random);
+        let runs = Runs::of(plain::words(&table));
+        let crated = crated::adopted(&table);
+        if crated.is_some() != table.passes() {
+            return Err("adopt".to_string());
+        }
+        if !lengths::checks(&runs, table.passes(), &mut random) {
+            return Err("fresh or check".to_string());
+        }
+        Ok(Run {
+            random,
+            chooser,
+            table,
+            runs,
+            crated,
+        })
+    }
+
+    /// One call on each of them; what is wrong with it.
+    fn call(&mut self, seen: &mut Seen) -> Result<(), String> {
+        let random = &mut self.random;
+        let record = self.chooser.record(&self.table, random);
+        seen.cells.add(&self.table, &record);
+        self.runs.renew(random);
+        let expected = Expected::of(&mut self.table, &record, &self.runs);
+        let before = self.runs.clone();
+        let number = self.runs.call(&record);
+        if number != expected.number || self.runs != expected.runs {
+            let differs = self.runs.first_difference(&expected.runs);
+            return Err(format!("{record:?} answered {number}: {differs}"));
+        }
         seen.unseen
             .retain(|wrong| !wrong.differs(&record, &before, &expected));
-        if let Some(crated) = &mut crated {
+        if let Some(crated) = &mut self.crated {
             let told = crated::told(crated, &record);
-            let same = told == expected.told && crated.words() == runs.table();
-            seen.counts.count(same, || {
-                format!("run {seed}, call {step}: {record:?} by the crate: {told:?}")
-            });
+            if told != expected.told || crated.words() != self.runs.table() {
+                return Err(format!("{record:?} by the crate: {told:?}"));
+            }
         }
-        if random.once_in(16) {
-            let kept = lengths::refused(&before, &record, &mut random, &mut seen.cells);
-            seen.counts.count(kept, || {
-                format!("run {seed}, call {step}: {record:?} with other lengths")
-            });
+        let other = random.once_in(16);
+        if other && !lengths::refused(&before, &record, random, &mut seen.cells) {
+            return Err(format!("{record:?} with other lengths"));
         }
+        Ok(())
     }
+}
+
+/// A run of so many calls on one table; the first that is wrong.
+fn run(seed: u64, count: u64, seen: &mut Seen) -> Result<(), String> {
+    let mut run = Run::begin(seed).map_err(|what| format!("table {seed}: {what}"))?;
+    for call in 0..count {
+        let called = run.call(seen);
+        called.map_err(|what| format!("table {seed}, call {call}: {what}"))?;
+    }
+    Ok(())
 }
 
 fn numbers() -> Option<(u64, u64)> {
@@ -125,32 +149,27 @@ fn main() {
         eprintln!("usage: calls SEED COUNT");
         exit(2);
     };
-    let counts = Counts {
+    let mut counts = Counts {
         passed: 0,
         failed: 0,
     };
     let mut seen = Seen {
-        counts,
         cells: Cells::none(),
         unseen: WRONGS.to_vec(),
     };
     let runs = count.div_ceil(RUN);
     for number in 0..runs {
-        run(seed + number, RUN.min(count - number * RUN), &mut seen);
+        let said = run(seed + number, RUN.min(count - number * RUN), &mut seen);
+        counts.count(said.is_ok(), || said.unwrap_err());
     }
     println!("{count} calls on {runs} tables");
     for seed in seed..seed + CAPTURED {
-        let same = captured::replays(seed);
-        seen.counts.count(same, || {
+        counts.count(captured::replays(seed), || {
             format!("captured run {seed}: its replay ends elsewhere")
         });
     }
     println!("{CAPTURED} captured runs of {} threads", captured::THREADS);
-    let Seen {
-        mut counts,
-        cells,
-        unseen,
-    } = seen;
+    let Seen { cells, unseen } = seen;
     let empty = cells.empty();
     println!(
         "{} of {} cells reached",
