@@ -1,3 +1,2 @@
-pub mod Part
 pub mod Into
 pub mod Sent

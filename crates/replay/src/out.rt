@@ -7,7 +7,7 @@ use crate::border::nothing;
 use crate::into::Replayed;
 use crate::into::put_broken;
 use crate::last::last_lines;
-use crate::part::run_part;
+use replay_part::run_part;
 use trace::Reading;
 use trace::Version;
 ghost use Prim.Native.Nat.{_≤_};

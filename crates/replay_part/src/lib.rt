@@ -3,8 +3,10 @@ use table::Table;
 use text::Put;
 use trace::RecordAt;
 use trace::Version;
-ghost use Rattle.trace.specs.Trace.{Boundary};
-ghost use Rattle.replay.specs.Part.{PartFits};
+ghost use mathlib.Core.Path.{_≡_};
+ghost use lib.ListN.{length};
+ghost use Rattle.text.specs.Write.{spliced};
+ghost use Rattle.replay_part.specs.Course.{courseOf, progressOf};
 
 // Where a part of a run stopped: the table, the place of the next record, the bytes written.
 pub struct Progress {
@@ -13,12 +15,15 @@ pub struct Progress {
     pub filled: usize,
 }
 
-// Runs the records under this header from `from` on until none is left, or the next one has no room.
+// Runs the records under this header from `from` on until none is left, what follows is none, or the next one has no room.
 pub fn run_part(version: Version, s: &[u8], from: usize, table: Table, buf: &mut [u8]) -> Progress
     ensures { λ r. do
-      slots ← ⟦kinds::SLOTS⟧ .entry
-      ⌜ (Boundary (now (s .entry)) from →
-          PartFits version slots (now (s .entry)) from table (now (buf .entry)) (now (buf .exit)) r) ⌝ }
+      n ← ⟦kinds::SLOTS⟧ .entry
+      ⌜ r ≡ progressOf (courseOf version n (length (now (buf .entry))) (now (s .entry)) from 0 table) ⌝ }
+    ensures { λ _. do
+      n ← ⟦kinds::SLOTS⟧ .entry
+      ⌜ now (buf .exit)
+          ≡ spliced (now (buf .entry)) 0 (courseOf version n (length (now (buf .entry))) (now (s .entry)) from 0 table .text) ⌝ }
 {
     let mut t = table;
     let mut at = from;

@@ -1,5 +1,5 @@
--- Where a run of records stands. The invariant of `run_part`, `Running`: what was printed stands at the buffer's start, and the part of
--- all the records is that text and the part of the records left, from the table as it is now. What a part is stands in specs/Part.antt.
+-- Where a run of records stands. The invariant of `run_part`, `Running`: what was printed stands at the buffer's start, and the run from the
+-- first place on is that text and the run from the present place on, from the table as it is now (specs/Course.antt).
 use Prim.Native.Nat.{ℕ, _+_, _≤_}
 use mathlib.Core.Path.{_≡_, refl, sym, ap, _∙_}
 use mathlib.Core.Bool.{Bool, true, false}
@@ -16,16 +16,14 @@ use Rattle.text.specs.Write.{spliced}
 use Rattle.text.proofs.Splice.{splice-none, splice-append}
 use Rattle.trace.specs.declared.Record.{Record}
 use Rattle.trace.specs.declared.Version.{Version}
-use Rattle.trace.specs.declared.RecordAt.the-variants.{Is}
-use Rattle.trace.specs.Record.{anyForm, recordAt}
-use Rattle.trace.specs.Trace.{recordsFrom, Boundary}
-use Rattle.trace.proofs.Shape.{any-facts}
-use Rattle.trace.proofs.Answers.{record-is}
-use Rattle.grammar.proofs.Walk.{next-item, none-left}
+use Rattle.trace.specs.declared.RecordAt.the-variants.{Is, Broken}
+use Rattle.trace.specs.Record.{recordAt}
 use Rattle.output.specs.Output.{printed, fits, putText, leftText}
 use Rattle.step.specs.Named.{callOf}
 use Rattle.step.specs.Step.{ranOf, leftOf, ran, ranLeft}
-use Rattle.replay.specs.Part.{withText, partOf, PartFits}
+use Rattle.replay_part.specs.declared.Progress.{Progress}
+use Rattle.replay_part.specs.Course.{printing, staying, courseOf, progressOf}
+use Rattle.replay_part.proofs.Courses.{course-over, course-broken, course-full, course-next}
 use Rattle.step.specs.declared.Ran.{Ran}
 
 -- a text that leaves the length as it was ends inside
@@ -86,13 +84,17 @@ pub record Running (v : Version) (n : ℕ) (s : List ℕ) (from : ℕ) (t₀ : T
   pub count : filled ≡ length done
   pub inside : filled ≤ length xs
   pub few : length (t .txids) ≡ n
-  pub boundary : Boundary s at
-  pub rest : partOf v n (length xs) 0 t₀ (recordsFrom s from) ≡ withText done (partOf v n (length xs) filled t (recordsFrom s at))
+  pub rest : courseOf v n (length xs) s from 0 t₀ ≡ printing done (courseOf v n (length xs) s at filled t)
 
 module _ (v : Version) (n : ℕ) (s : List ℕ) (from : ℕ) (t₀ : Table) (xs : List ℕ) where
-  pub running-start : length (t₀ .txids) ≡ n → Boundary s from → Running v n s from t₀ xs xs t₀ from 0
-  running-start k h =
-      record { done = []; text = splice-none xs 0; size = refl; count = refl; inside = omega arith; few = k; boundary = h; rest = refl }
+  -- what a run leaves that has ended: its answer, and its text at the buffer's start
+  abbrev pub Ended : List ℕ → Progress → Type 0
+  Ended ys r =
+      (r ≡ progressOf (courseOf v n (length xs) s from 0 t₀)) × (ys ≡ spliced xs 0 (courseOf v n (length xs) s from 0 t₀ .text))
+
+  pub running-start : length (t₀ .txids) ≡ n → Running v n s from t₀ xs xs t₀ from 0
+  running-start k =
+      record { done = []; text = splice-none xs 0; size = refl; count = refl; inside = omega arith; few = k; rest = refl }
 
   module _ {ys : List ℕ} {t : Table} {at filled : ℕ} (w : Running v n s from t₀ xs ys t at filled) where
     -- one record more
@@ -100,9 +102,7 @@ module _ (v : Version) (n : ℕ) (s : List ℕ) (from : ℕ) (t₀ : Table) (xs 
         (r : Record) (e : ℕ) {o : Ran} {zs : List ℕ} {past : ℕ} {u : Table} → recordAt s at ≡ Is r e →
         RanThere v n t (callOf r) ys filled zs o → o .put ≡ Past past → length zs ≡ length ys → u ≡ applied t (o .change) →
         length (u .txids) ≡ n → Running v n s from t₀ xs zs u e past
-    unfolding partOf
     running-more r e {o} {zs} {past} {u} q a p k made few′ =
-        let m = next-item anyForm any-facts s at r e (w .boundary) (record-is s at q) in
         let out = printed v n t (callOf r) in
         let many = shown n t (callOf r) .count in
         let put = sym p ∙ a .put in
@@ -119,54 +119,34 @@ module _ (v : Version) (n : ℕ) (s : List ℕ) (from : ℕ) (t₀ : Table) (xs 
           count = omega (arith, end, w .count, length-append (w .done) out);
           inside = omega (arith, end, bound, w .size);
           few = few′;
-          boundary = m .again;
-          rest = w .rest ∙ rw (m .first, ok, next, end, append-assoc);
+          rest = w .rest ∙ rw (course-next v n (length xs) s at filled t r e q ok, next, end, append-assoc);
         }
+
+    -- it stops where it stands
+    stopping : (zs : List ℕ) → zs ≡ spliced xs 0 (w .done) → courseOf v n (length xs) s at filled t ≡ staying at t →
+        Ended zs (record { table = t; at = at; filled = filled })
+    stopping zs z stop =
+        let whole : courseOf v n (length xs) s from 0 t₀ ≡ record { text = w .done; table = t; at = at } =
+        w .rest ∙ rw (stop, append-nil) in
+        (rw (whole, w .count), rw whole z)
+
+    -- what follows is no record
+    pub running-broken :
+        {k : ℕ} → (at ≡ length s → ⊥) → recordAt s at ≡ Broken k → Ended ys (record { table = t; at = at; filled = filled })
+    running-broken h q = stopping ys (w .text) (course-broken v n (length xs) s at filled t h q)
 
     -- the next record has no room
     pub running-full :
         (r : Record) (e : ℕ) {o : Ran} {zs : List ℕ} → recordAt s at ≡ Is r e → RanThere v n t (callOf r) ys filled zs o →
-        o .put ≡ NoRoom → PartFits v n s from t₀ xs zs (record { table = t; at = at; filled = filled })
-    unfolding partOf
+        o .put ≡ NoRoom → Ended zs (record { table = t; at = at; filled = filled })
     running-full r e {o} {zs} q a p =
-        let m = next-item anyForm any-facts s at r e (w .boundary) (record-is s at q) in
         let out = printed v n t (callOf r) in
         let many = shown n t (callOf r) .count in
         let put = sym p ∙ a .put in
         let no : fits v n (length xs) filled many ≡ false = rw (← w .size) (not-put-fits v n ys filled many out put) in
         let same = not-put-left v n ys filled many out put (a .left) in
-        let stop : partOf v n (length xs) filled t (recordsFrom s at) ≡ record { text = []; table = t; left = recordsFrom s at } =
-        rw (m .first, no) in
-        stopped zs (same ∙ w .text) stop
-      where
-        stopped :
-            (zs : List ℕ) → zs ≡ spliced xs 0 (w .done) →
-            partOf v n (length xs) filled t (recordsFrom s at) ≡ record { text = []; table = t; left = recordsFrom s at } →
-            PartFits v n s from t₀ xs zs (record { table = t; at = at; filled = filled })
-        stopped zs z stop =
-            let whole : partOf v n (length xs) 0 t₀ (recordsFrom s from) ≡ record { text = w .done; table = t; left = recordsFrom s at } =
-            w .rest ∙ rw (stop, append-nil) in
-            record {
-              text = rw whole z;
-              filled = rw whole (w .count);
-              table = rw whole;
-              left = rw whole;
-              boundary = w .boundary;
-              inside = w .inside;
-            }
+        stopping zs (same ∙ w .text) (course-full v n (length xs) s at filled t r e q no)
 
     -- no record is left
-    pub running-over : at ≡ length s → PartFits v n s from t₀ xs ys (record { table = t; at = at; filled = filled })
-    unfolding partOf
-    running-over h =
-        let none = none-left anyForm any-facts s at h in
-        let whole : partOf v n (length xs) 0 t₀ (recordsFrom s from) ≡ record { text = w .done; table = t; left = recordsFrom s at } =
-        w .rest ∙ rw (none, append-nil) in
-        record {
-          text = rw whole (w .text);
-          filled = rw whole (w .count);
-          table = rw whole;
-          left = rw whole;
-          boundary = w .boundary;
-          inside = w .inside;
-        }
+    pub running-over : at ≡ length s → Ended ys (record { table = t; at = at; filled = filled })
+    running-over h = stopping ys (w .text) (course-over v n (length xs) s at filled t h)

@@ -21,7 +21,7 @@ use Rattle.settled.specs.Snapshots.{noSnapshot}
 use Rattle.model.specs.Tally.{snapshotOf}
 use Rattle.output.specs.Output.{printed, need, fits}
 use Rattle.step.specs.Named.{callOf}
-use Rattle.replay.specs.Part.{Part, withText, partOf}
+use Rattle.replay_part.specs.Part.{Part, withText, partOf}
 
 -- a snapshot lists no more ids than the table has slots
 accepted-few : (n : ℕ) (t : Table) (c : Call) → shownAccepted n t c .count ≤ length (t .txids)

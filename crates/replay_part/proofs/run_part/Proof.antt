@@ -1,19 +1,16 @@
--- The invariant, `Running` (crate's proofs/Running.antt): what was printed stands at the buffer's start, and the part of the whole is
--- that text and the part of the records left, from the table as it is now. It is kept where the run started at a record.
+-- The invariant, `Running` (crate's proofs/Running.antt): what was printed stands at the buffer's start, and the run from the first
+-- place on is that text and the run from the present place on, from the table as it is now.
 use Prim.Native.Nat.{_-_}
 use mathlib.Core.Path.{_≡_, refl, sym, ap, _∙_}
 use native.Mathlib.Omega.{arith}
 use lib.ListN.{length, length-map}
 use Rattle.model.proofs.Stores.{stored-txid-long, stored-xmin-long, stored-pin-long, stored-applied}
-use Rattle.trace.specs.Trace.{Boundary}
-use Rattle.trace.specs.Record.{anyForm}
 use Rattle.trace.proofs.Shape.{any-facts}
 use Rattle.trace.proofs.Answers.{record-is}
-use Rattle.grammar.proofs.Walk.{none-broken}
-use Rattle.replay.proofs.Running.{Running, ran-there, running-start, running-more, running-full, running-over}
+use Rattle.replay_part.proofs.Running.{Running, ran-there, running-start, running-more, running-broken, running-full, running-over}
 use borrow.Author.Needs.{needs}
-use Rattle.replay.proofs.part.run_part.Statement.{statement}
-use Rattle.replay.proofs.part.run_part.Tie as tie
+use Rattle.replay_part.proofs.run_part.Statement.{statement}
+use Rattle.replay_part.proofs.run_part.Tie as tie
 
 abbrev Inv-loop : tie.InvT-loop
 Inv-loop version s from buf₀ t₀ at₀ filled₀ buf t at filled =
@@ -21,13 +18,13 @@ Inv-loop version s from buf₀ t₀ at₀ filled₀ buf t at filled =
     × (length (t .txids) ≡ length (t₀ .txids))
     × (length (t .«snapshot_xmins») ≡ length (t₀ .«snapshot_xmins»))
     × (length (t .pins) ≡ length (t₀ .pins))
-    × (Boundary s from → Running version (length (t₀ .txids)) s from t₀ buf₀ buf t at filled)
+    × Running version (length (t₀ .txids)) s from t₀ buf₀ buf t at filled
 
 abbrev μ-loop : tie.MeasureT-loop
 μ-loop version s from buf₀ t₀ at₀ filled₀ buf t at filled = length s - at
 
 loop-holds : tie.Need-loop-holds Inv-loop μ-loop
-loop-holds c = (refl, refl, refl, refl, λ h. running-start _ _ _ _ _ _ refl h)
+loop-holds c = (refl, refl, refl, refl, running-start _ _ _ _ _ _ refl)
 
 next-record-requires : tie.Need-next-record-requires Inv-loop μ-loop
 next-record-requires c κs = search needs
@@ -43,11 +40,12 @@ same-length c = c .before .before .before .before .loop .inv .0
 
 returns : tie.Need-returns Inv-loop μ-loop
 returns c =
-    λ h.
     let asked = c .before .before in
-    let l = asked .before .before .loop in
+    let looped = asked .before .before in
+    let l = looped .loop in
+    let size = simp length-map at (looped .before .before .before .good .1 .1 .1 .0 .1 .1 .0 .1 .0 .1) in
     let broken = sym (asked .next-record .ensures) ∙ c .enum-told .given .1 in
-    absurd (none-broken anyForm any-facts _ _ _ (l .inv .4 h .boundary) (asked .before .loop-test .taken) (record-is _ _ broken))
+    running-broken _ _ _ _ _ _ (rw size at (l .inv .4)) (asked .before .loop-test .taken) broken
 
 run-record-requires : tie.Need-run-record-requires Inv-loop μ-loop
 run-record-requires c κs = search needs
@@ -67,7 +65,6 @@ same-length-2 c =
 
 returns-2 : tie.Need-returns-2 Inv-loop μ-loop
 returns-2 c =
-    λ h.
     let ran = c .before .before .before .before .before in
     let read = ran .before .before .before .before .before .before .before in
     let found = read .before .before .before .before in
@@ -76,8 +73,8 @@ returns-2 c =
     let size = simp length-map at (looped .before .before .before .good .1 .1 .1 .0 .1 .1 .0 .1 .0 .1) in
     let q = sym (found .before .before .next-record .ensures) ∙ found .found .given .1 in
     let o = ran .run-record .ensures in
-    let there = ran-there (l .inv .1 ∙ size) (o .0) (o .1) in
-    running-full _ _ _ _ _ _ (rw size at (l .inv .4 h)) _ _ q there (c .enum-told2 .given .1)
+    let there = ran-there {t = l .t} (l .inv .1 ∙ size) (o .0) (o .1) in
+    running-full _ _ _ _ _ _ (rw size at (l .inv .4)) _ _ q there (c .enum-told2 .given .1)
 
 store-txid-requires : tie.Need-store-txid-requires Inv-loop μ-loop
 store-txid-requires c κs = search needs
@@ -130,13 +127,12 @@ loop-again c =
       long ∙ l .inv .1,
       long′ ∙ l .inv .2,
       long″ ∙ l .inv .3,
-      λ h.
-          let q = sym (found .before .before .next-record .ensures) ∙ found .found .given .1 in
+      let q = sym (found .before .before .next-record .ensures) ∙ found .found .given .1 in
           let o = ran .run-record .ensures in
-          let there = ran-there txids (o .0) (o .1) in
+          let there = ran-there {t = l .t} txids (o .0) (o .1) in
           let made = stored-applied _ (l .t) (ran .run-record .result .change) txids xmins pins one two three in
           rw size
-          (running-more _ _ _ _ _ _ (rw size at (l .inv .4 h)) _ _ q there (put .put .given .1) kept made (long ∙ txids)),
+          (running-more _ _ _ _ _ _ (rw size at (l .inv .4)) _ _ q there (put .put .given .1) kept made (long ∙ txids)),
     )
 
 same-length-3 : tie.Need-same-length-3 Inv-loop μ-loop
@@ -144,11 +140,10 @@ same-length-3 c = c .before .loop .inv .0
 
 returns-3 : tie.Need-returns-3 Inv-loop μ-loop
 returns-3 c =
-    λ h.
     let l = c .before .loop in
     let s = c .before .before .before .before in
     let size = simp length-map at (s .good .1 .1 .1 .0 .1 .1 .0 .1 .0 .1) in
-    running-over _ _ _ _ _ _ (rw size at (l .inv .4 h)) (c .loop-test .left)
+    running-over _ _ _ _ _ _ (rw size at (l .inv .4)) (c .loop-test .left)
 
 pub run-part-spec : {M : Type 1} → statement M
 run-part-spec =

@@ -12,7 +12,7 @@ use Rattle.trace.specs.declared.Version.{Version}
 use Rattle.trace.specs.Trace.{recordsFrom, Boundary}
 use Rattle.output.specs.Output.{printed, fits}
 use Rattle.step.specs.Named.{callOf}
-use Rattle.replay.specs.declared.part.Progress.{Progress}
+use Rattle.replay_part.specs.declared.Progress.{Progress}
 
 -- what the records print that have room in size bytes from `at` on, the table after them, and the records left
 pub record Part : Type 0 where
