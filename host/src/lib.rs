@@ -1,6 +1,24 @@
-//! The proved settled test, usable test and table check of Sockhurdle, for a host in Rust.
+//! The proved table, settled test, usable test and table check of Sockhurdle, for a host in Rust.
 //!
-//! A reader holds a [`SnapshotRef`]: xmax, and the ids that were in flight. It asks which versions it may use:
+//! A [`Table`] is one run of words in the host's memory; each of the ten calls works there, in place. [`Shared`] has one behind a lock,
+//! with the clock, for many threads:
+//!
+//! ```
+//! use sockhurdle::{Refusal, Shared};
+//!
+//! let shared = Shared::fresh();
+//! let mut encode = shared.begin()?; // a re-encode marks what it makes by its id
+//! encode.on_abort(|id| { /* remove what `id` made, and strike it out as ender */ });
+//! let new = encode.id();
+//! let page = shared.pin()?; // a page asks of its snapshot
+//! encode.finish()?;
+//! assert!(!page.settled(new)?); // and sees nothing half
+//! let (line, _) = shared.vacuum(); // what an id below the line replaced may go
+//! assert!(new.0 >= line); // the page still reads what `new` replaced
+//! # Ok::<(), Refusal>(())
+//! ```
+//!
+//! A reader in another process, or over other memory, holds a [`SnapshotRef`]: xmax, and the ids that were in flight. It asks which versions it may use:
 //!
 //! ```
 //! use sockhurdle::{Refusal, SnapshotRef, Txid};
@@ -31,18 +49,25 @@
 //! assert_eq!(check_image(&image[1..]), Err(Refusal::BadImage));
 //! ```
 //!
-//! Every question is one call of the proved library, and any bytes are answered. What is proved of it, and what is not, stands in
-//! docs/SPEC.md (18) and docs/TRUST.md of the repository; the rest of this crate is plain Rust: the calls themselves,
-//! [`Image::bytes`] and [`Image::of_bytes`].
+//! Every call and every question is one call of the proved library, and any words and bytes are answered. What is proved of it, and
+//! what is not, stands in docs/SPEC.md (18, 20) and docs/TRUST.md of the repository; the rest of this crate is plain Rust: the lines that
+//! make the calls, [`Shared`] with its guards, [`Image::bytes`] and [`Image::of_bytes`].
 
+mod capture;
+mod guards;
 mod image;
 mod raw;
 mod refusal;
+mod shared;
 mod snapshot;
+mod table;
 
+pub use guards::{Pin, Transaction};
 pub use image::{IMAGE_LEN, Image, PINS, SLOTS, Slot, check_image};
 pub use refusal::Refusal;
-pub use snapshot::{SnapshotRef, Txid};
+pub use shared::Shared;
+pub use snapshot::{Snapshot, SnapshotRef, Txid};
+pub use table::{Holder, PinNo, Registration, SlotNo, Stamp, Table};
 
 /// An answer of the library: 0 for no, 1 for yes, else a refusal's number.
 fn answer(number: u64) -> Result<bool, Refusal> {

@@ -1,6 +1,8 @@
 //! The crate's and the header's constants are the library's.
 
-use sockhurdle::{IMAGE_LEN, Image, PINS, Refusal, SLOTS, SnapshotRef, Txid, check_image};
+use sockhurdle::{
+    IMAGE_LEN, Image, PINS, PinNo, Refusal, SLOTS, SlotNo, SnapshotRef, Txid, check_image,
+};
 
 #[test]
 fn an_image_has_that_length() {
@@ -39,7 +41,24 @@ fn the_header_says_the_same() {
     };
     assert_eq!(defined("SOCKHURDLE_SLOTS"), SLOTS as u64);
     assert_eq!(defined("SOCKHURDLE_PINS"), PINS as u64);
+    let (slot, pin, id) = (SlotNo(0), PinNo(0), Txid(1));
+    let mismatch = Refusal::SlotOwnershipMismatch {
+        slot,
+        expected: id,
+        observed: id,
+    };
     let refusals = [
+        ("SOCKHURDLE_NO_FREE_SLOT", Refusal::NoFreeSlot { id }),
+        ("SOCKHURDLE_INVALID_SLOT", Refusal::InvalidSlot { slot }),
+        ("SOCKHURDLE_SLOT_OWNERSHIP_MISMATCH", mismatch),
+        ("SOCKHURDLE_CLOCK_EXHAUSTED", Refusal::ClockExhausted),
+        ("SOCKHURDLE_BAD_RESERVATION", Refusal::BadReservation),
+        ("SOCKHURDLE_BAD_CLOCK", Refusal::BadClock),
+        ("SOCKHURDLE_BAD_SAMPLE", Refusal::BadSample),
+        ("SOCKHURDLE_WILD_JUMP", Refusal::WildJump),
+        ("SOCKHURDLE_NO_FREE_PIN", Refusal::NoFreePin),
+        ("SOCKHURDLE_INVALID_PIN", Refusal::InvalidPin { pin }),
+        ("SOCKHURDLE_FREE_PIN", Refusal::FreePin { pin }),
         ("SOCKHURDLE_ZERO_TXID", Refusal::ZeroTxid),
         ("SOCKHURDLE_BAD_SNAPSHOT", Refusal::BadSnapshot),
         ("SOCKHURDLE_BAD_IMAGE", Refusal::BadImage),

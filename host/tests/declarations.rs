@@ -1,7 +1,18 @@
-//! What this crate and the C header declare is what crate `host_calls` exports: the same functions, with the same parameters by
-//! kind, name and order.
+//! What this crate and the C header declare is what the crates export: the same functions, with the same parameters by kind, name
+//! and order.
 
-/// A function's name, and of each parameter its name and kind: 'n' for a number, 'b' for bytes, 'l' for their length.
+/// The sources of the exports.
+const SOURCES: [&str; 6] = [
+    include_str!("../../crates/host_calls/src/lib.rt"),
+    include_str!("../../crates/place_tables/src/lib.rt"),
+    include_str!("../../crates/place_calls/src/lib.rt"),
+    include_str!("../../crates/place_vacuum/src/lib.rt"),
+    include_str!("../../crates/place_snapshots/src/lib.rt"),
+    include_str!("../../crates/place_pins/src/lib.rt"),
+];
+
+/// A function's name, and of each parameter its name and kind: 'n' for a number, 's' for a short one, 'b' for bytes, 'w' for words,
+/// 'm' for words that are written, 'l' for a length.
 type Declared = (String, Vec<(String, char)>);
 
 /// The texts between the parentheses that follow `start`, each with the name before them.
@@ -31,6 +42,11 @@ fn of_rust(text: &str, start: &str) -> Vec<Declared> {
                 let name = name.trim().to_string();
                 match kind.trim() {
                     "u64" => vec![(name, 'n')],
+                    "u16" => vec![(name, 's')],
+                    "&[u64]" => vec![(name.clone(), 'w'), (name + "_len", 'l')],
+                    "&mut [u64]" => vec![(name.clone(), 'm'), (name + "_len", 'l')],
+                    "*const u64" => vec![(name, 'w')],
+                    "*mut u64" => vec![(name, 'm')],
                     "&[u8]" => vec![(name.clone(), 'b'), (name + "_len", 'l')],
                     "*const u8" => vec![(name, 'b')],
                     "usize" => vec![(name, 'l')],
@@ -48,7 +64,10 @@ fn of_c(text: &str) -> Vec<Declared> {
     let parameter = |part: &str| {
         let part = part.trim();
         let kinds = [
+            ("uint64_t *", 'm'),
+            ("const uint64_t *", 'w'),
             ("uint64_t ", 'n'),
+            ("uint16_t ", 's'),
             ("const uint8_t *", 'b'),
             ("size_t ", 'l'),
         ];
@@ -58,31 +77,60 @@ fn of_c(text: &str) -> Vec<Declared> {
         });
         found.unwrap_or_else(|| panic!("the parameter {part}"))
     };
-    let all = functions(text, "\nuint64_t ").into_iter();
-    sorted(
-        all.map(|(name, list)| (name, list.split(',').map(parameter).collect()))
-            .collect(),
-    )
+    let all = ["\nuint64_t ", "\nsize_t "].map(|start| functions(text, start));
+    let named = |(name, list): (String, String)| {
+        let list = list.split(',').filter(|part| *part != "void");
+        (name, list.map(parameter).collect())
+    };
+    sorted(all.into_iter().flatten().map(named).collect())
 }
 
 #[test]
 fn the_declarations_are_the_exports() {
-    let exports = of_rust(
-        include_str!("../../crates/host_calls/src/lib.rt"),
-        "pub extern \"C\" fn ",
+    let start = "pub extern \"C\" fn ";
+    let exports = sorted(
+        SOURCES
+            .iter()
+            .flat_map(|text| of_rust(text, start))
+            .collect(),
     );
     assert!(!exports.is_empty());
-    assert_eq!(of_rust(include_str!("../src/raw.rs"), "pub fn "), exports);
+    let raw = include_str!("../src/raw.rs").replace("pub safe fn ", "pub fn ");
+    assert_eq!(of_rust(&raw, "pub fn "), exports);
     assert_eq!(of_c(include_str!("../sockhurdle_host.h")), exports);
-    // every one answers a number of 64 bits
-    let answering = |text: &str, end: &str| text.matches(end).count();
-    let source = include_str!("../../crates/host_calls/src/lib.rt");
-    let exported = source.split("pub extern \"C\" fn ").skip(1);
-    assert!(
-        exported
-            .map(|rest| rest.lines().next())
-            .all(|line| { line.is_some_and(|line| line.ends_with(") -> u64")) })
-    );
-    let raw = include_str!("../src/raw.rs");
-    assert_eq!(answering(raw, "-> u64;"), exports.len());
+}
+
+/// What stands behind the arrow of each function, by name.
+fn answers(text: &str, start: &str, end: [char; 2]) -> Vec<(String, String)> {
+    let found = text.split(start).skip(1);
+    let mut all: Vec<_> = found
+        .map(|rest| {
+            let (name, rest) = rest.split_once('(').expect("a name");
+            let (_, rest) = rest.split_once("->").expect("an answer");
+            let kind = rest.split(end).next().expect("its type");
+            (name.to_string(), kind.trim().to_string())
+        })
+        .collect();
+    all.sort();
+    all
+}
+
+#[test]
+fn the_declarations_answer_as_the_exports() {
+    let exports = SOURCES.iter();
+    let exports = exports.flat_map(|text| answers(text, "pub extern \"C\" fn ", ['\n', '{']));
+    let mut exports: Vec<_> = exports.collect();
+    exports.sort();
+    let raw = include_str!("../src/raw.rs").replace("pub safe fn ", "pub fn ");
+    assert_eq!(answers(&raw, "pub fn ", [';', ';']), exports);
+    // the header has no arrow: a number of 64 bits, but for the count of words
+    let header = include_str!("../sockhurdle_host.h");
+    for (name, kind) in exports {
+        let c = if kind == "usize" {
+            "size_t"
+        } else {
+            "uint64_t"
+        };
+        assert!(header.contains(&format!("\n{c} {name}(")), "{name}");
+    }
 }

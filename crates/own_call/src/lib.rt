@@ -15,7 +15,7 @@ ghost use Rattle.model.specs.Tables.{lentSlots};
 ghost use Rattle.model.specs.Calls.{own, refusal, snapshotDecision, snapshotOutcome};
 
 // Refusals 2, 4, 3, 7, 8, in this order.
-fn own_test(
+pub fn own_test(
     txids: &[u64],
     was: Counters,
     slot: SlotNo,

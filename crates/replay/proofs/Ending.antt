@@ -15,7 +15,7 @@ use Rattle.text.proofs.Splice.{line-length, splice-append}
 use Rattle.trace.specs.declared.Version.{Version}
 use Rattle.trace.specs.declared.Version.the-variants.{Proc1, Proc2, Proc3}
 use Rattle.output.specs.Wrote.{Wrote}
-use Rattle.replay.specs.Replay.{agreeKey, agreeLine, lastText}
+use Rattle.replay_text.specs.Replay.{agreeKey, agreeLine, lastText}
 
 -- the second line has room behind the first
 pub room-behind :

@@ -1,12 +1,8 @@
-pub mod Running
 pub mod Ends
 pub mod Unique
 pub mod Whole
 pub mod Parts
-pub mod Room
 pub mod Next
 pub mod Pieces
 pub mod Sending
-pub mod Tied
-pub mod Examples
 pub mod Ending

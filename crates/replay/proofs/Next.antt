@@ -13,11 +13,11 @@ use Rattle.text.specs.Line.{lineText}
 use Rattle.text.specs.Write.{spliced, written}
 use Rattle.text.proofs.Decimal.{length-word}
 use Rattle.text.proofs.Splice.{line-length}
-use Rattle.replay.specs.Replay.{brokenText}
+use Rattle.replay_text.specs.Replay.{brokenText}
 use Rattle.replay.specs.Into.{BrokenFits, EndFits}
 use Rattle.replay.specs.declared.into.Replayed.{Replayed}
 use Rattle.replay.specs.declared.into.Replayed.the-variants.{Written, NoRoom}
-use Rattle.replay.proofs.Running.{inside-of}
+use Rattle.replay_part.proofs.Running.{inside-of}
 
 -- a buffer with a text put at its start begins with it
 pub begins-with : (xs t : List ℕ) {ys : List ℕ} → ys ≡ spliced xs 0 t → take (length t) ys ≡ t

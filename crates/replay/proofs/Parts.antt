@@ -1,5 +1,6 @@
 -- Parts of a run, one after the other, are the run (by induction on the records); and a replay that went in whole is the trace's
--- answers, all that it prints but the second engine's line. What a part is stands in specs/Part.antt, what goes into a buffer in specs/Into.antt.
+-- answers, all that it prints but the second engine's line. What a part is stands in crate replay_part (specs/Part), what goes into a
+-- buffer in specs/Into.antt.
 use Prim.Native.Nat.{ℕ, _+_, _≤_}
 use mathlib.Core.Path.{_≡_, refl, sym, ap, _∙_}
 use mathlib.Core.Bool.{Bool, true, false, cond}
@@ -24,9 +25,9 @@ use Rattle.trace.specs.declared.Version.the-variants.{Proc1}
 use Rattle.trace.specs.Trace.{traceOf}
 use Rattle.output.specs.Output.{printed, need, fits}
 use Rattle.step.specs.Named.{callOf}
-use Rattle.replay.specs.Replay.{callsOf, textOf, brokenText, answersBy, answersOf}
-use Rattle.replay.specs.Part.{Part, withText, partOf}
-use Rattle.replay.proofs.Room.{room-fits}
+use Rattle.replay_text.specs.Replay.{callsOf, textOf, brokenText, answersBy, answersOf}
+use Rattle.replay_part.specs.Part.{Part, withText, partOf}
+use Rattle.replay_part.proofs.Room.{room-fits}
 use Rattle.replay.specs.Into.{whole, cut, textIn, intoEnd, intoBy, intoOf}
 
 -- what a part printed, and then what its table prints for the records it left, is what all the records print

@@ -1,5 +1,5 @@
 -- The pieces in which a text is handed on: one after the other they are the text, and there are no more than records and one. What
--- pieces are stands in specs/Sent.antt; that a part leaves fewer records, in Room.antt.
+-- pieces are stands in specs/Sent.antt; that a part leaves fewer records is of crate replay_part (proofs/Room).
 use Prim.Native.Nat.{ℕ, zero, suc, _+_, _≤_, _<_, _^_}
 use mathlib.Core.Path.{_≡_, refl, sym, ap, subst, _∙_}
 use mathlib.Core.Bool.{Bool, true, false}
@@ -24,8 +24,8 @@ use Rattle.trace.specs.declared.Version.the-variants.{Proc2}
 use Rattle.trace.specs.Trace.{traceOf, reading}
 use Rattle.output.specs.Output.{need}
 use Rattle.output.proofs.Wrote.{holder-few}
-use Rattle.replay.specs.Replay.{textOf, brokenText, agreeLine, lastText, replayBy, replayOf}
-use Rattle.replay.specs.Part.{partOf}
+use Rattle.replay_text.specs.Replay.{textOf, brokenText, agreeLine, lastText, replayBy, replayOf}
+use Rattle.replay_part.specs.Part.{partOf}
 use Rattle.replay.specs.Sent.{partsOf, piecesBy, piecesOf, handed, stopped, PieceNext, WentFits, isTrace, AllWent, SomeWent, SentFits}
 use Rattle.replay.specs.declared.border.Handed.{Handed}
 use Rattle.replay.specs.declared.border.Stopped.{Stopped}
@@ -33,7 +33,7 @@ use Rattle.replay.specs.declared.border.Went.{Went}
 use Rattle.replay.specs.declared.border.Went.the-variants.{On, Failed}
 use Rattle.replay.specs.declared.out.Sent.{Sent}
 use Rattle.replay.proofs.Parts.{parts-join}
-use Rattle.replay.proofs.Room.{part-good, part-goes-on}
+use Rattle.replay_part.proofs.Room.{part-good, part-goes-on}
 use Rattle.replay.proofs.Next.{begins-with}
 
 parts-joined :

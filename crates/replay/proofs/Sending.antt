@@ -28,12 +28,12 @@ use Rattle.grammar.proofs.Grammar.{accepted}
 use Rattle.grammar.proofs.Walk.{none-left, items-inside, end-only}
 use Rattle.output.specs.Output.{need}
 use Rattle.output.proofs.Wrote.{holder-few}
-use Rattle.replay.specs.Replay.{brokenText, lastText}
-use Rattle.replay.specs.Part.{partOf, PartFits}
+use Rattle.replay_text.specs.Replay.{brokenText, lastText}
+use Rattle.replay_part.specs.Part.{partOf, PartFits}
 use Rattle.replay.specs.declared.border.Handed.{Handed}
-use Rattle.replay.specs.declared.part.Progress.{Progress}
+use Rattle.replay_part.specs.declared.Progress.{Progress}
 use Rattle.replay.specs.Sent.{partsOf, piecesOf, handed, isTrace, PieceNext, AllWent}
-use Rattle.replay.proofs.Room.{part-good, part-goes-on}
+use Rattle.replay_part.proofs.Room.{part-good, part-goes-on}
 use Rattle.replay.proofs.Pieces.{pieces-few, no-parts, piece-next, all-went}
 
 -- refusal 9 is the one piece of a text that is no trace

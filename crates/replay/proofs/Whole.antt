@@ -1,5 +1,5 @@
 -- A whole replay into a buffer, by what was read and how far its records went: what `replay_into` promises, from what `run_part` did.
--- The promise stands in specs/Into.antt; the loop's invariant is `Running`, in Running.antt.
+-- The promise stands in specs/Into.antt; what a part leaves, in crate replay_part (specs/Part).
 use Prim.Native.Nat.{ℕ, _+_}
 use mathlib.Core.Path.{_≡_, refl, sym, ap, _∙_}
 use mathlib.Core.Bool.{Bool, true, false}
@@ -24,8 +24,8 @@ use Rattle.trace.proofs.Shape.{trace-grammar, any-facts}
 use Rattle.trace.proofs.Answers.{reading-is}
 use Rattle.grammar.proofs.Laws.{opened, count-breaks}
 use Rattle.grammar.proofs.Walk.{none-left, end-only}
-use Rattle.replay.specs.Replay.{brokenText}
-use Rattle.replay.specs.Part.{Part, partOf, PartFits}
+use Rattle.replay_text.specs.Replay.{brokenText}
+use Rattle.replay_part.specs.Part.{Part, partOf, PartFits}
 use Rattle.replay.specs.Into.{Into, whole, cut, textIn, intoEnd, intoOf, BrokenFits, EndFits, replayed, IntoFits}
 use Rattle.replay.specs.declared.into.Replayed.{Replayed}
 use Rattle.replay.specs.declared.into.Replayed.the-variants.{Written, NoRoom}

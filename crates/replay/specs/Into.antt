@@ -15,8 +15,8 @@ use Rattle.trace.specs.declared.Version.{Version}
 use Rattle.trace.specs.Trace.{traceOf}
 use Rattle.replay.specs.declared.into.Replayed.{Replayed}
 use Rattle.replay.specs.declared.into.Replayed.the-variants.{Written, NoRoom}
-use Rattle.replay.specs.Replay.{brokenText}
-use Rattle.replay.specs.Part.{partOf}
+use Rattle.replay_text.specs.Replay.{brokenText}
+use Rattle.replay_part.specs.Part.{partOf}
 
 -- what a replay into a buffer of size bytes leaves at its start: the whole text, or as much of it as had room
 pub data Into : Type 0 where

@@ -19,8 +19,8 @@ use Rattle.replay.specs.declared.border.Went.{Went}
 use Rattle.replay.specs.declared.border.Went.the-variants as went
 use Rattle.replay.specs.declared.out.Sent.{Sent}
 use Rattle.replay.specs.declared.out.Sent.the-variants.{All, Refused, Failed}
-use Rattle.replay.specs.Replay.{brokenText, lastText, replayOf}
-use Rattle.replay.specs.Part.{partOf}
+use Rattle.replay_text.specs.Replay.{brokenText, lastText, replayOf}
+use Rattle.replay_part.specs.Part.{partOf}
 
 -- the parts of a run, each as many records as have room in size bytes; the first number is at least how many records there are
 unfoldable pub partsOf : ℕ → Version → ℕ → ℕ → Table → List Record → List (List ℕ)

@@ -1,6 +1,6 @@
 // A whole replay into one lent buffer.
-use crate::part::run_part;
 use kinds::Refusal;
+use replay_part::run_part;
 use text::Put;
 use trace::Reading;
 ghost use Rattle.replay.specs.Into.{IntoFits, BrokenFits, EndFits};

@@ -12,7 +12,7 @@ ghost use Rattle.text.specs.Write.{spliced};
 ghost use Rattle.trace.specs.declared.Reading.the-variants.{Whole};
 ghost use Rattle.trace.specs.Trace.{reading};
 ghost use Rattle.output.specs.Wrote.{Wrote};
-ghost use Rattle.replay.specs.Replay.{agreeKey, lastText};
+ghost use Rattle.replay_text.specs.Replay.{agreeKey, lastText};
 
 // The number of records at the buffer's start: 29 bytes hold the line, whatever the count is. Answers its length.
 fn last_line(buf: &mut [u8], count: usize) -> usize

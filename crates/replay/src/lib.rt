@@ -3,7 +3,6 @@ mod border;
 mod into;
 mod last;
 mod out;
-mod part;
 
 pub use border::Handed;
 pub use border::Stopped;

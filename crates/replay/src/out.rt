@@ -7,7 +7,7 @@ use crate::border::nothing;
 use crate::into::Replayed;
 use crate::into::put_broken;
 use crate::last::last_lines;
-use crate::part::run_part;
+use replay_part::run_part;
 use trace::Reading;
 use trace::Version;
 ghost use Prim.Native.Nat.{_≤_};
@@ -16,7 +16,7 @@ ghost use lib.ListN.{length};
 ghost use Rattle.text.specs.Write.{spliced};
 ghost use Rattle.trace.specs.declared.Reading.the-variants.{Whole, Broken};
 ghost use Rattle.trace.specs.Trace.{reading};
-ghost use Rattle.replay.specs.Replay.{brokenText};
+ghost use Rattle.replay_text.specs.Replay.{brokenText};
 ghost use Rattle.replay.specs.Sent.{SentFits};
 
 // How a replay to a descriptor ended: all of a trace's answers went; the text is no trace, and all of refusal 9 went; or

@@ -1,12 +1,21 @@
 -- What is put for a decided call.
 use Prim.Native.Nat.{ℕ}
 use mathlib.Core.List.{List, []}
+use Rattle.kinds.specs.declared.refusal.Refusal.{Refusal}
+use Rattle.model.specs.declared.Counters.{Counters}
+use Rattle.model.specs.declared.change.SlotChange.the-variants.{Stays}
+use Rattle.model.specs.declared.answer.Answer.the-variants.{Refused}
 use Rattle.model.specs.declared.answer.Decision.{Decision}
 use Rattle.model.specs.declared.answer.SnapshotDecision.{SnapshotDecision}
+use Rattle.model.specs.Changes.{change}
 use Rattle.model.specs.Answers.{numbersOf, numbersBeside, listing}
 use Rattle.trace.specs.declared.Version.{Version}
 use Rattle.output.specs.Output.{answerText, putText, leftText}
 use Rattle.step.specs.declared.Ran.{Ran}
+
+-- a refused call that consumes nothing
+abbrev pub refusedCall : Counters → Refusal → Decision
+refusedCall was r = record { change = change Stays was; answer = Refused r }
 
 -- a call that shows no snapshot tells of one of zeros, and lists nothing
 abbrev pub plainText : Version → Decision → List ℕ

@@ -1,11 +1,14 @@
 // The text of what was decided.
 use crate::Ran;
+use kinds::Refusal;
 use table::Answer;
 use table::Change;
+use table::Counters;
 use table::Decision;
+use table::SlotChange;
 use trace::Version;
 ghost use mathlib.Core.Path.{_≡_};
-ghost use Rattle.step.specs.Put.{plainRan, plainLeft, listingRan, listingLeft};
+ghost use Rattle.step.specs.Put.{refusedCall, plainRan, plainLeft, listingRan, listingLeft};
 
 // Of a call that shows no snapshot.
 pub fn put_plain(version: Version, decided: Decision, buf: &mut [u8], at: usize) -> Ran
@@ -22,6 +25,25 @@ pub fn put_plain(version: Version, decided: Decision, buf: &mut [u8], at: usize)
     let no_ids = [0u64; 1];
     let put = output::put_answer(version, buf, at, numbers, &no_ids);
     Ran { put, change }
+}
+
+// Of a snapshot call that is refused. It shows a snapshot of zeros, which no list is made for.
+pub fn put_refused(version: Version, was: Counters, r: Refusal, buf: &mut [u8], at: usize) -> Ran
+    ensures { λ o. do
+      n ← ⟦kinds::SLOTS⟧ .entry
+      ⌜ o ≡ plainRan version n (refusedCall was r) (now (buf .entry)) at ⌝ }
+    ensures { λ _. do
+      n ← ⟦kinds::SLOTS⟧ .entry
+      ⌜ now (buf .exit) ≡ plainLeft version n (refusedCall was r) (now (buf .entry)) at ⌝ }
+{
+    let decided = Decision {
+        change: Change {
+            slot: SlotChange::Stays,
+            counters: was,
+        },
+        answer: Answer::Refused(r),
+    };
+    put_plain(version, decided, buf, at)
 }
 
 // Of a snapshot call, which lists the ids in flight. It takes the parts of what was decided, the ids lent: handed on whole, they

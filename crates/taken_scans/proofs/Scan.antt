@@ -14,8 +14,11 @@ use borrow.Author.Tests.{eq-eqb, ne-eqb, eqb-true}
 use Rattle.kinds.specs.Kinds.{saturatingNext}
 use Rattle.settled.specs.declared.Snapshot.{Snapshot}
 use Rattle.model.specs.Tally.{active, minimum, maximum, places, snapshotOf}
+use Rattle.model.proofs.Tally.{active-length}
 use Rattle.turns.proofs.Turns.{past-eight}
+use Rattle.taken_scans.specs.declared.snapshot.Taken.{Taken}
 use Rattle.taken_scans.specs.Empty.{allEmpty}
+use Rattle.taken_scans.specs.Taken.{takenOf}
 use Rattle.taken_scans.proofs.Slots.{active-miss, active-hit, active-none}
 
 -- the places that a scan has filled, where it began with n zeros
@@ -31,35 +34,44 @@ places-are n ids h =
     (ap (λ (l : List ℕ). ids ++ l)
     (drop-at (replicate (length ids) zero) (replicate rest zero) (length ids) (length-replicate (length ids) zero)))
 
--- start is the list of places where the scan begins
-pub record Scanned (sample : ℕ) (txids start ids : List ℕ) (count low high i : ℕ) : Type 0 where
-  pub within : i ≤ length txids
-  pub fewer : count ≤ i
-  pub filled : sets start 0 (active txids) ≡ sets ids count (active (drop i txids))
-  pub counted : length (active txids) ≡ count + length (active (drop i txids))
-  pub lowest : minimum sample (active txids) ≡ minimum low (active (drop i txids))
-  pub highest : maximum 0 (active txids) ≡ maximum high (active (drop i txids))
+-- from one place of a scan to another: what is still to be found from the former on is found so far, or from the latter on
+pub record Scanned
+    (txids start : List ℕ) (count₀ low₀ high₀ i₀ : ℕ) (ids : List ℕ) (count low high i : ℕ) : Type 0
+  where
+    pub within : i ≤ length txids
+    pub fewer : count ≤ i
+    pub filled : sets start count₀ (active (drop i₀ txids)) ≡ sets ids count (active (drop i txids))
+    pub counted : count₀ + length (active (drop i₀ txids)) ≡ count + length (active (drop i txids))
+    pub lowest : minimum low₀ (active (drop i₀ txids)) ≡ minimum low (active (drop i txids))
+    pub highest : maximum high₀ (active (drop i₀ txids)) ≡ maximum high (active (drop i txids))
 
-module _ {sample : ℕ} {txids : List ℕ} where
-  none-yet : (ids : List ℕ) → Scanned sample txids ids ids 0 sample 0 0
-  none-yet ids =
-      record { within = omega arith; fewer = omega arith; filled = refl; counted = omega arith; lowest = refl; highest = refl }
+pub none-yet :
+    {txids : List ℕ} (ids : List ℕ) (count low high i : ℕ) → i ≤ length txids → count ≤ i →
+    Scanned txids ids count low high i ids count low high i
+none-yet ids count low high i h f =
+    record { within = h; fewer = f; filled = refl; counted = refl; lowest = refl; highest = refl }
 
-  -- a scan begins with zeros in all places
-  pub scanned-zeros :
-      (n m : ℕ) {end : ℕ} → end ≡ min n m → {ids : List ℕ} → ids ≡ replicate n 0 →
-      Scanned sample txids (replicate (length ids) 0) ids 0 sample 0 0
-  scanned-zeros n m b {ids} e =
-      let zero : ℕ = 0 in
-      let same : replicate (length ids) zero ≡ ids = rw e (ap (λ (k : ℕ). replicate k zero) (length-replicate n zero)) in
-      rw same (none-yet ids)
+pub further :
+    {txids start ids : List ℕ} {count₀ low₀ high₀ i₀ count low high i : ℕ} →
+    Scanned txids start count₀ low₀ high₀ i₀ ids count low high i →
+    {ids′ : List ℕ} {count′ low′ high′ i′ : ℕ} → Scanned txids ids count low high i ids′ count′ low′ high′ i′ →
+    Scanned txids start count₀ low₀ high₀ i₀ ids′ count′ low′ high′ i′
+further s t =
+    record {
+      within = t .within;
+      fewer = t .fewer;
+      filled = s .filled ∙ t .filled;
+      counted = s .counted ∙ t .counted;
+      lowest = s .lowest ∙ t .lowest;
+      highest = s .highest ∙ t .highest;
+    }
 
-module _ {sample : ℕ} {txids start : List ℕ} where
-  module _ {ids : List ℕ} {count low high i : ℕ} (s : Scanned sample txids start ids count low high i) where
+module _ {txids start : List ℕ} {count₀ low₀ high₀ i₀ : ℕ} where
+  module _ {ids : List ℕ} {count low high i : ℕ} (s : Scanned txids start count₀ low₀ high₀ i₀ ids count low high i) where
     -- over slots that add no active id
     pub scanned-on :
         {j : ℕ} → i ≤ j → j ≤ length txids → active (drop i txids) ≡ active (drop j txids) →
-        Scanned sample txids start ids count low high j
+        Scanned txids start count₀ low₀ high₀ i₀ ids count low high j
     scanned-on h l m =
         record {
           within = l;
@@ -70,12 +82,13 @@ module _ {sample : ℕ} {txids start : List ℕ} where
           highest = rw m at (s .highest);
         }
 
-    pub scanned-miss : i < length txids → getD txids i 0 ≡ 0 → Scanned sample txids start ids count low high (i + 1)
+    pub scanned-miss :
+        i < length txids → getD txids i 0 ≡ 0 → Scanned txids start count₀ low₀ high₀ i₀ ids count low high (i + 1)
     scanned-miss h e = scanned-on (omega arith) (omega (arith, h)) (active-miss txids i h e)
 
     pub scanned-hit :
         {x low′ high′ : ℕ} → i < length txids → x ≡ getD txids i 0 → (x ≡ 0 → ⊥) → low′ ≡ min low x → high′ ≡ max high x →
-        Scanned sample txids start (set ids count x) (count + 1) low′ high′ (i + 1)
+        Scanned txids start count₀ low₀ high₀ i₀ (set ids count x) (count + 1) low′ high′ (i + 1)
     unfolding minimum maximum
     scanned-hit {x} h q e l g =
         let m : active (drop i txids) ≡ x ∷ active (drop (i + 1) txids) =
@@ -89,75 +102,80 @@ module _ {sample : ℕ} {txids start : List ℕ} where
           highest = rw g (rw m at (s .highest));
         }
 
-    -- the scan is over
-    module _ (h : length txids ≤ i) (n : ℕ) (fits : length txids ≤ n) (z : start ≡ replicate n 0) where
-      none : active (drop i txids) ≡ []
-      none = active-none txids i h
-
-      count-is : length (active txids) ≡ count
-      count-is = omega (arith, ap length none, s .counted)
-
-      ids-are : places n (active txids) ≡ ids
-      ids-are =
-          sym (places-are n (active txids) (omega (arith, count-is, s .fewer, s .within)))
-          ∙ ap (λ (l : List ℕ). sets l 0 (active txids)) (sym z)
-          ∙ s .filled
-          ∙ ap (sets ids count) none
-
-      low-is : minimum sample (active txids) ≡ low
-      unfolding minimum
-      low-is = s .lowest ∙ ap (minimum low) none
-
-      high-is : maximum 0 (active txids) ≡ high
-      unfolding maximum
-      high-is = s .highest ∙ ap (maximum high) none
-
-      pub scanned-nothing :
-          count ≡ 0 → _≡_ {A = Snapshot} (record { xmin = low; xmax = sample; ids = ids; count = count }) (snapshotOf n txids sample)
-      unfolding snapshotOf
-      scanned-nothing e = rw (ids-are, count-is, low-is, eq-eqb _ _ e)
-
-      pub scanned-some :
-          {xmax : ℕ} → (count ≡ 0 → ⊥) → xmax ≡ max sample (saturatingNext high) →
-          _≡_ {A = Snapshot} (record { xmin = low; xmax = xmax; ids = ids; count = count }) (snapshotOf n txids sample)
-      unfolding snapshotOf
-      scanned-some e m = rw (ids-are, count-is, low-is, high-is, ne-eqb _ _ e, m)
-
--- a scan of at most n slots, where n is the number of places
+-- the scan of all of them is over
 module _
-    {sample k : ℕ} {ids : List ℕ} {count low high i end : ℕ} (n : ℕ) (txids : List ℕ) (size : k ≡ n)
-    (s : Scanned sample (take k txids) (replicate k 0) ids count low high i) (bound : end ≡ min n (length txids))
+    {txids start ids : List ℕ} {sample count low high i : ℕ} (s : Scanned txids start 0 sample 0 0 ids count low high i)
+    (h : length txids ≤ i)
+  where
+    none : active (drop i txids) ≡ []
+    none = active-none txids i h
+
+    count-is : length (active txids) ≡ count
+    count-is = omega (arith, ap length none, s .counted)
+
+    low-is : minimum sample (active txids) ≡ low
+    unfolding minimum
+    low-is = s .lowest ∙ ap (minimum low) none
+
+    high-is : maximum 0 (active txids) ≡ high
+    unfolding maximum
+    high-is = s .highest ∙ ap (maximum high) none
+
+    pub scanned-ids : ids ≡ sets start 0 (active txids)
+    scanned-ids = sym (s .filled ∙ ap (sets ids count) none)
+
+    pub scanned-nothing :
+        count ≡ 0 → _≡_ {A = Taken} (record { xmin = low; xmax = sample; count = count }) (takenOf txids sample)
+    unfolding takenOf
+    scanned-nothing e = rw (count-is, low-is, eq-eqb _ _ e)
+
+    pub scanned-some :
+        {xmax : ℕ} → (count ≡ 0 → ⊥) → xmax ≡ max sample (saturatingNext high) →
+        _≡_ {A = Taken} (record { xmin = low; xmax = xmax; count = count }) (takenOf txids sample)
+    unfolding takenOf
+    scanned-some e m = rw (count-is, low-is, high-is, ne-eqb _ _ e, m)
+
+-- a scan of at most k slots, where k is the number of places
+module _
+    (k : ℕ) (txids : List ℕ) {start ids : List ℕ} {count₀ low₀ high₀ i₀ count low high i end : ℕ}
+    (s : Scanned (take k txids) start count₀ low₀ high₀ i₀ ids count low high i) (bound : end ≡ min k (length txids))
   where
     short : length (take k txids) ≡ end
-    short = length-take k txids ∙ rw size (sym bound)
+    short = length-take k txids ∙ sym bound
 
     -- slot i is there, and is the one that is read
     pub here : i < end → i < length (take k txids)
     here h = omega (arith, short)
 
     pub read : i < end → getD (take k txids) i 0 ≡ getD txids i 0
-    read h = getD-take k txids i 0 (omega (arith, size))
+    read h = getD-take k txids i 0 (omega (arith, bound))
 
-    pub scanned-eight : i + 8 ≤ end → allEmpty txids i ≡ true → Scanned sample (take k txids) (replicate k 0) ids count low high (i + 8)
+    pub scanned-eight :
+        i + 8 ≤ end → allEmpty txids i ≡ true →
+        Scanned (take k txids) start count₀ low₀ high₀ i₀ ids count low high (i + 8)
     scanned-eight h e =
         let first = take k txids in
         let past : (j : ℕ) → j < end → eqb (getD txids j 0) 0 ≡ true → active (drop j first) ≡ active (drop (j + 1) first) =
         λ j l q. active-miss first j (omega (arith, short, l))
-        (getD-take k txids j 0 (omega (arith, size, l)) ∙ eqb-true (getD txids j 0) 0 q) in
+        (getD-take k txids j 0 (omega (arith, bound, l)) ∙ eqb-true (getD txids j 0) 0 q) in
         scanned-on s (omega arith) (omega (arith, short, h))
         (past-eight (λ j. active (drop j first)) (λ m. eqb (getD txids m 0) 0) end past i h e)
 
-    pub room : i < end → count < n
-    room h = omega (arith, s .fewer)
+    pub room : i < end → count < k
+    room h = omega (arith, s .fewer, bound)
 
-    pub over-nothing :
-        end ≤ i → count ≡ 0 →
-        _≡_ {A = Snapshot} (record { xmin = low; xmax = sample; ids = ids; count = count }) (snapshotOf n (take n txids) sample)
-    over-nothing h e =
-        rw (← size) (scanned-nothing s (omega (arith, short)) k (omega (arith, short, size)) refl e)
+    pub over : end ≤ i → length (take k txids) ≤ i
+    over h = omega (arith, short)
 
-    pub over-some :
-        {xmax : ℕ} → end ≤ i → (count ≡ 0 → ⊥) → xmax ≡ max sample (saturatingNext high) →
-        _≡_ {A = Snapshot} (record { xmin = low; xmax = xmax; ids = ids; count = count }) (snapshotOf n (take n txids) sample)
-    over-some h e m =
-        rw (← size) (scanned-some s (omega (arith, short)) k (omega (arith, short, size)) refl e m)
+-- what was taken into n zeros is the snapshot's
+pub taken-shown :
+    (n : ℕ) (txids : List ℕ) (sample : ℕ) {start ids : List ℕ} {t : Taken} → start ≡ replicate n 0 →
+    t ≡ takenOf (take (length start) txids) sample → ids ≡ sets start 0 (active (take (length start) txids)) →
+    _≡_ {A = Snapshot} (record { xmin = t .xmin; xmax = t .xmax; ids = ids; count = t .count }) (snapshotOf n (take n txids) sample)
+unfolding takenOf snapshotOf
+taken-shown n txids sample {start} {ids} z t e =
+    let zero : ℕ = 0 in
+    let size : length start ≡ n = ap length z ∙ length-replicate n zero in
+    let few : length (active (take n txids)) ≤ n = omega (arith, active-length (take n txids), length-take n txids) in
+    let shown : ids ≡ places n (active (take n txids)) = rw size at e ∙ rw z (places-are n (active (take n txids)) few) in
+    rw (t, shown, size)

@@ -4,4 +4,6 @@ mod oldest;
 mod snapshot;
 
 pub use oldest::oldest_retained;
+pub use snapshot::Taken;
+pub use snapshot::take_into;
 pub use snapshot::take_snapshot;

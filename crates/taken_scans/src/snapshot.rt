@@ -1,18 +1,27 @@
 // The scan that the snapshot calls make.
 use crate::eight::all_empty;
-use kinds::SLOTS;
 use settled::Snapshot;
 use turns::shorter;
 ghost use mathlib.Core.Path.{_≡_};
-ghost use lib.ListN.{take};
-ghost use Rattle.model.specs.Tally.{snapshotOf};
+ghost use lib.ListN.{length, take};
+ghost use lib.Seq.{sets};
+ghost use Rattle.model.specs.Tally.{active, snapshotOf};
+ghost use Rattle.taken_scans.specs.Taken.{takenOf};
 
-// What a snapshot with this sample holds; a slot past the snapshot's places is not read.
-pub fn take_snapshot(txids: &[u64], sample: u64) -> Snapshot
-    ensures { λ r. do n ← ⟦kinds::SLOTS⟧ .entry; ⌜ r ≡ snapshotOf n (take n (now (txids .entry))) sample ⌝ }
+// A snapshot without its ids.
+pub struct Taken {
+    pub xmin: u64,
+    pub xmax: u64,
+    pub count: usize,
+}
+
+// A snapshot with this sample, into a lent run: the ids go into the first places, the others stay. A slot past the run's places is
+// not read.
+pub fn take_into(txids: &[u64], sample: u64, ids: &mut [u64]) -> Taken
+    ensures { λ r. ⌜ r ≡ takenOf (take (length (now (ids .entry))) (now (txids .entry))) sample ⌝ }
+    ensures { λ _. ⌜ now (ids .exit) ≡ sets (now (ids .entry)) 0 (active (take (length (now (ids .entry))) (now (txids .entry)))) ⌝ }
 {
-    let end = shorter(SLOTS, txids.len());
-    let mut ids = kinds::zeros();
+    let end = shorter(ids.len(), txids.len());
     let mut count: usize = 0;
     let mut low = sample;
     let mut high: u64 = 0;
@@ -39,19 +48,31 @@ pub fn take_snapshot(txids: &[u64], sample: u64) -> Snapshot
         }
     }
     if count == 0 {
-        return Snapshot {
+        return Taken {
             xmin: low,
             xmax: sample,
-            ids,
             count,
         };
     }
     let above = kinds::saturating_next(high);
     let xmax = kinds::greater(sample, above);
-    Snapshot {
+    Taken {
         xmin: low,
         xmax,
-        ids,
         count,
+    }
+}
+
+// What a snapshot with this sample holds; a slot past the snapshot's places is not read.
+pub fn take_snapshot(txids: &[u64], sample: u64) -> Snapshot
+    ensures { λ r. do n ← ⟦kinds::SLOTS⟧ .entry; ⌜ r ≡ snapshotOf n (take n (now (txids .entry))) sample ⌝ }
+{
+    let mut ids = kinds::zeros();
+    let taken = take_into(txids, sample, &mut ids);
+    Snapshot {
+        xmin: taken.xmin,
+        xmax: taken.xmax,
+        ids,
+        count: taken.count,
     }
 }

@@ -53,8 +53,7 @@ pub fn culprits<'a>(story: &'a Story) -> Vec<Culprit<'a>> {
     all
 }
 
-/// A stretch of records in which the line had one holder: from a vacuum that named it to the next that named another, or to
-/// the record at which it let go.
+/// A stretch of records in which the line had one holder: of those that were named and have not let go, the one named last.
 #[derive(Debug, PartialEq)]
 pub struct Reign {
     pub at: HoldAt,
@@ -64,25 +63,27 @@ pub struct Reign {
 
 pub fn reigns(story: &Story) -> Vec<Reign> {
     let mut all: Vec<Reign> = Vec::new();
-    for step in story.vacuums() {
-        let at = match step.holder {
-            Holder::Hold(at) => Some(at),
-            _ => None,
-        };
-        if let Some(last) = all.last_mut() {
-            if Some(last.at) == at {
-                continue;
-            }
-            last.to = Some(last.to.map_or(step.number, |to| to.min(step.number)));
+    let mut holding: Vec<HoldAt> = Vec::new();
+    let mut now = None;
+    for step in &story.steps {
+        holding.retain(|at| story.hold(*at).1.to.is_none_or(|to| to > step.number));
+        if let (true, Holder::Hold(at)) = (step.is_vacuum(), step.holder) {
+            holding.retain(|one| *one != at);
+            holding.push(at);
         }
-        if let Some(at) = at {
-            let to = story.hold(at).1.to;
-            all.push(Reign {
-                at,
-                from: step.number,
-                to,
-            });
+        let last = holding.last().copied();
+        if last == now {
+            continue;
         }
+        if let Some(former) = all.last_mut().filter(|_| now.is_some()) {
+            former.to = Some(step.number);
+        }
+        now = last;
+        all.extend(now.map(|at| Reign {
+            at,
+            from: step.number,
+            to: None,
+        }));
     }
     all
 }
@@ -137,7 +138,8 @@ mod tests {
         assert_eq!(reigns(&story), expected);
     }
 
-    /// Slot 1 is named, then slot 0 takes a snapshot as old and is named in its place, while slot 1 still holds.
+    /// Slot 1 is named, then slot 0 takes a snapshot as old and is named in its place, while slot 1 still holds: when slot 0 ends,
+    /// it is slot 1 again.
     #[test]
     fn a_reign_ends_where_another_is_named() {
         let text = made_up::trace(
@@ -149,6 +151,7 @@ mod tests {
                 "vacuum 0 0 0 7 7",
                 "own 0 5 0 7 3",
                 "vacuum 0 0 0 7 7",
+                "end 0 5 0 0 0",
             ],
         );
         let said = made_up::output(&[
@@ -158,12 +161,13 @@ mod tests {
             "0 0 0 0 0 0 3 0 1",
             "0 0 0 0 3 7 3 2 0",
             "0 0 0 0 0 0 3 0 0",
+            "0 0 0 0 0 0 3 0 0",
         ]);
         let story = made_up::story_of(&text, &said);
         let spans: Vec<_> = reigns(&story)
             .iter()
             .map(|one| (one.at.stay, one.from, one.to))
             .collect();
-        assert_eq!(spans, [(1, 4, Some(6)), (0, 6, None)]);
+        assert_eq!(spans, [(1, 4, Some(6)), (0, 6, Some(7)), (1, 7, None)]);
     }
 }

@@ -24,6 +24,13 @@ pub struct Step<'a> {
     pub holder: Holder,
 }
 
+impl Step<'_> {
+    /// Whether it is an accepted vacuum.
+    pub fn is_vacuum(&self) -> bool {
+        self.record.op == "vacuum" && self.answer.accepted()
+    }
+}
+
 /// A registration, or a pin, from its taking to its end; `to` is the record that ended it.
 #[derive(Debug, PartialEq)]
 pub struct Stay {
@@ -82,9 +89,7 @@ impl<'a> Story<'a> {
 
     /// The accepted vacuums.
     pub fn vacuums(&self) -> impl Iterator<Item = &Step<'a>> {
-        self.steps
-            .iter()
-            .filter(|step| step.record.op == "vacuum" && step.answer.accepted())
+        self.steps.iter().filter(|step| step.is_vacuum())
     }
 
     /// Clock and line at the end.

@@ -83,7 +83,7 @@ fn corners(layout: &Layout, heights: &[Option<f64>]) -> Vec<(f64, f64)> {
 fn axis(svg: &mut Svg, layout: &Layout) {
     let (frame, chart) = (&layout.frame, layout.chart);
     svg.words(LEFT - 8.0, chart.top - 12.0, "name", "ids");
-    for id in layout.ids.ticks(13.0 / chart.height) {
+    for id in layout.ids.ticks(18.0 / chart.height) {
         let y = layout.y(id);
         svg.stroke([LEFT, y, frame.end(), y], "grid", "");
         svg.words(LEFT - 8.0, y + 3.5, "tick left", &id.to_string());

@@ -7,8 +7,8 @@ const RIGHT: f64 = 28.0;
 const NARROWEST: f64 = 1.25;
 const WIDEST: f64 = 44.0;
 const DRAWN: f64 = 1000.0;
-/// The legend needs this much.
-const LEAST: f64 = 900.0;
+/// So that the words of a short trace have room.
+const LEAST: f64 = 600.0;
 
 pub struct Frame {
     pub records: usize,

@@ -48,13 +48,32 @@ impl Ids {
         }
     }
 
-    /// Some of the ids, from the least to the largest, at least `apart` from each other.
+    /// Some of the ids, from the least on, at least `apart` from each other: round ones where there are enough of them.
     pub fn ticks(&self, apart: f64) -> Vec<u64> {
+        let round = self.spaced(apart, self.step(apart));
+        if self.cuts.is_empty() && round.len() > 2 {
+            return round;
+        }
+        self.spaced(apart, 1)
+    }
+
+    /// The least of 1, 2, 5, 10, 20 and so on that stands `apart` to scale.
+    fn step(&self, apart: f64) -> u64 {
+        let (least, most) = (self.values.first(), self.values.last());
+        let range = most.zip(least).map_or(0, |(most, least)| most - least);
+        let tens = (0..19).map(|tens| 10u64.pow(tens));
+        let steps = tens.flat_map(|ten| [1, 2, 5].map(|digit| digit * ten));
+        let mut enough = steps.filter(|step| *step as f64 >= apart * range as f64);
+        enough.next().unwrap_or(1)
+    }
+
+    /// The least, and of those that the step divides each that is far enough from the one before.
+    fn spaced(&self, apart: f64, step: u64) -> Vec<u64> {
         let mut ticks: Vec<u64> = Vec::new();
         for &value in &self.values {
-            let free = ticks
-                .last()
-                .is_none_or(|&last| self.height(value) - self.height(last) >= apart);
+            let free = ticks.last().is_none_or(|&last| {
+                value % step == 0 && self.height(value) - self.height(last) >= apart * 0.75
+            });
             if free {
                 ticks.push(value);
             }
@@ -99,8 +118,9 @@ mod tests {
     }
 
     #[test]
-    fn ticks_keep_apart() {
-        let ids = Ids::of(1..=101);
-        assert_eq!(ids.ticks(0.25), [1, 26, 51, 76, 101]);
+    fn ticks_are_round_and_keep_apart() {
+        assert_eq!(Ids::of(1..=101).ticks(0.2), [1, 20, 40, 60, 80, 100]);
+        assert_eq!(Ids::of(1..=5).ticks(0.1), [1, 2, 3, 4, 5]);
+        assert_eq!(Ids::of([7, 13, 19].into_iter()).ticks(0.1), [7, 13, 19]);
     }
 }

@@ -82,15 +82,18 @@ pub fn refused_height(story: &Story, frame: &Frame) -> f64 {
     MARKS + levels as f64 * LEVEL
 }
 
+/// Of refusals of one kind that stand closer than their name is wide, the first has it.
 fn names(story: &Story, frame: &Frame) -> Vec<Label> {
-    let refused = story.steps.iter().filter(|step| !step.answer.accepted());
-    let wanted: Vec<(f64, Vec<String>)> = refused
-        .map(|step| {
-            let number = step.answer.number;
-            let wordings = vec![refusals::name(number), number.to_string()];
-            (frame.at(step.number) - 4.0, wordings)
-        })
-        .collect();
+    let mut wanted: Vec<(f64, Vec<String>)> = Vec::new();
+    let (mut last, mut end) = (0, f64::MIN);
+    for step in story.steps.iter().filter(|step| !step.answer.accepted()) {
+        let number = step.answer.number;
+        let (x, name) = (frame.at(step.number) - 4.0, refusals::name(number));
+        if number != last || x >= end {
+            (last, end) = (number, x + labels::width(&name) + 4.0);
+            wanted.push((x, vec![name, number.to_string()]));
+        }
+    }
     labels::packed(&wanted, frame.width(), LEVELS)
 }
 
@@ -107,6 +110,17 @@ mod tests {
         refused(&mut svg, &Layout::of(&story, 0.0));
         assert_eq!(svg.text.matches("class=\"refused\"").count(), 1);
         assert!(svg.text.contains(">16 FreePin</text>"));
+    }
+
+    /// A hundred ends of nothing: names that stand beside each other, on one level but for what the edge moves.
+    #[test]
+    fn refusals_of_one_kind_share_a_name() {
+        let text = made_up::trace("proc-2", &["end 0 0 0 0 0"; 100]);
+        let said = made_up::output(&["4 0 0 0 0 0 1 0 0"; 100]);
+        let story = made_up::story_of(&text, &said);
+        let names = names(&story, &Frame::of(100));
+        assert!(names.len() > 5 && names.len() < 20);
+        assert!(names.iter().rev().skip(1).all(|label| label.level == 0));
     }
 
     #[test]

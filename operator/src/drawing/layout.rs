@@ -38,7 +38,7 @@ const HELD: f64 = 22.0;
 const BETWEEN: f64 = 8.0;
 
 impl<'a> Layout<'a> {
-    /// Below a legend that ends at `top`.
+    /// From `top` on.
     pub fn of(story: &'a Story<'a>, top: f64) -> Layout<'a> {
         let frame = Frame::of(story.steps.len());
         let band = |top: f64, height: f64| Band { top, height };

@@ -1,13 +1,12 @@
-//! What the marks mean, in plain words, over the picture.
+//! What the marks mean, in plain words, over the picture: a list that a narrow window breaks into more lines.
 
-use super::labels;
-use super::svg::Svg;
+use super::svg::{Svg, short};
 use crate::account::places::Place;
 use crate::account::story::{Stay, Story};
 
-const LINE: f64 = 20.0;
+/// A sign's room.
 const SIGN: f64 = 30.0;
-const INDENT: f64 = 8.0;
+const HIGH: f64 = 16.0;
 
 /// How a sign is drawn: by the class of a stroke, of a bar, or of a mark.
 enum Sign {
@@ -55,27 +54,25 @@ fn entries(story: &Story, cut: bool) -> impl Iterator<Item = (&'static Sign, &'s
     wanted.map(|(_, sign, words)| (sign, *words))
 }
 
-/// Draws it from the top, and answers where it ends.
-pub fn draw(svg: &mut Svg, story: &Story, cut: bool, width: f64) -> f64 {
-    let (mut x, mut top) = (INDENT, 4.0);
+pub fn list(story: &Story, cut: bool) -> String {
+    let (wide, high) = (short(SIGN), short(HIGH));
+    let mut text = "<ul class=\"legend\">\n".to_string();
     for (sign, words) in entries(story, cut) {
-        let wide = SIGN + 6.0 + labels::width(words) + 14.0;
-        if x > INDENT && x + wide > width {
-            x = INDENT;
-            top += LINE;
-        }
-        draw_sign(svg, sign, x, top + LINE / 2.0);
-        svg.words(x + SIGN + 6.0, top + LINE / 2.0 + 4.0, "legend", words);
-        x += wide;
+        let mut svg = Svg::default();
+        draw_sign(&mut svg, sign);
+        text.push_str(&format!(
+            "<li><svg aria-hidden=\"true\" width=\"{wide}\" height=\"{high}\">{}</svg>{words}</li>\n",
+            svg.text
+        ));
     }
-    top + LINE
+    text + "</ul>\n"
 }
 
-fn draw_sign(svg: &mut Svg, sign: &Sign, x: f64, y: f64) {
-    let middle = x + SIGN / 2.0;
+fn draw_sign(svg: &mut Svg, sign: &Sign) {
+    let (middle, y) = (SIGN / 2.0, HIGH / 2.0);
     match sign {
-        Stroke(class) => svg.stroke([x, y, x + SIGN, y], class, ""),
-        Bar(class) => svg.rect([x, y - 6.0, SIGN, 12.0], class, ""),
+        Stroke(class) => svg.stroke([0.0, y, SIGN, y], class, ""),
+        Bar(class) => svg.rect([0.0, y - 6.0, SIGN, 12.0], class, ""),
         Diamond => svg.diamond(middle, y, 5.0, "holder", ""),
         Cross => svg.cross(middle, y, 4.0, "refused", ""),
     }
@@ -99,23 +96,12 @@ mod tests {
     }
 
     #[test]
-    fn entries_stay_inside_the_picture() {
+    fn each_entry_has_its_sign_and_its_words() {
         let (text, said) = made_up::with_pins();
-        let mut svg = Svg::default();
-        let end = draw(&mut svg, &made_up::story_of(&text, &said), true, 900.0);
-        assert!(end > LINE);
-        for entry in svg.text.split("<text").skip(1) {
-            let x: f64 = entry
-                .split("x=\"")
-                .nth(1)
-                .unwrap()
-                .split('"')
-                .next()
-                .unwrap()
-                .parse()
-                .unwrap();
-            let words = entry.split('>').nth(1).unwrap().split('<').next().unwrap();
-            assert!(x + labels::width(words) <= 900.0, "{words}");
-        }
+        let list = list(&made_up::story_of(&text, &said), true);
+        assert_eq!(list.matches("<li><svg").count(), 10);
+        assert!(list.contains("</svg>the clock</li>"));
+        assert_eq!(list.matches("class=\"holder\"").count(), 1);
+        assert_eq!(list.matches("class=\"refused\"").count(), 1);
     }
 }

@@ -1,9 +1,10 @@
 //! The marks over the chart: each record's column, to point at, and the vacuums, with lines down to who held the line.
 
+use super::frame::LEFT;
 use super::labels;
 use super::layout::Layout;
 use super::svg::Svg;
-use crate::account::story::Holder;
+use crate::account::story::{Holder, Step};
 use crate::account::words;
 
 /// More vacuums than these have no line down to their holder, which would hide the rows.
@@ -53,14 +54,22 @@ pub fn vacuums(svg: &mut Svg, layout: &Layout) {
 pub fn lines(svg: &mut Svg, layout: &Layout) {
     let half = layout.frame.mark();
     let (mut free, mut height, mut told) = (f64::MIN, f64::MIN, None);
-    for step in layout.story.vacuums() {
+    let vacuums: Vec<&Step> = layout.story.vacuums().collect();
+    for (place, step) in vacuums.iter().enumerate() {
         let (x, y) = (layout.frame.at(step.number), layout.y(step.answer.line));
         let line = format!("line {}", step.answer.line);
         let wide = labels::width(&line) + 4.0;
-        // To the right of the mark, or to the left of one at the edge.
-        let right = x + half + 2.0;
-        let at_edge = right + wide > layout.frame.width();
-        let place = if at_edge { x - half - wide } else { right };
+        // To the right of the mark, or to the left of it where the edge or the next line is too near.
+        let next = vacuums[place..]
+            .iter()
+            .find(|next| next.answer.line != step.answer.line);
+        let end = next.map_or(layout.frame.width(), |next| layout.frame.at(next.number));
+        let (left, right) = (x - half - wide, x + half + 2.0);
+        let place = if right + wide > end && left >= LEFT {
+            left
+        } else {
+            right
+        };
         let room = place >= free || (y - height).abs() >= 12.0;
         if room && told != Some(step.answer.line) {
             svg.words(place, y - 5.0, "value", &line);

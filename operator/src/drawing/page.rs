@@ -21,10 +21,7 @@ pub fn page(name: &str, story: &Story) -> String {
         "<p class=\"summary\">{}</p>\n",
         escaped(&tables::summary(story))
     );
-    body.push_str(&format!(
-        "<figure class=\"wide\">\n{}</figure>\n",
-        picture(story)
-    ));
+    body.push_str(&picture(story));
     body.push_str(&format!(
         "<h2>Who held the line, longest first</h2>\n{}<p>{HELD}</p>\n",
         tables::culprits_table(story)

@@ -1,7 +1,6 @@
-//! The whole picture: the legend, the ids, who held the line, the refused calls, and the rows.
+//! The whole picture: the legend, then in one drawing the ids, who held the line, the refused calls, and the rows.
 
-use super::frame::Frame;
-use super::layout::{self, Layout};
+use super::layout::Layout;
 use super::svg::{Svg, short};
 use super::{chart, lanes, legend, marks, rows};
 use crate::account::story::Story;
@@ -13,10 +12,7 @@ patternTransform=\"rotate(45)\"><rect class=\"hatch-ground\" width=\"6\" height=
 
 pub fn picture(story: &Story) -> String {
     let mut svg = Svg::default();
-    let width = Frame::of(story.steps.len()).width();
-    let cut = !layout::ids(story).cuts.is_empty();
-    let top = legend::draw(&mut svg, story, cut, width);
-    let layout = Layout::of(story, top);
+    let layout = Layout::of(story, 0.0);
     chart::draw(&mut svg, &layout);
     marks::columns(&mut svg, &layout);
     marks::vacuums(&mut svg, &layout);
@@ -27,10 +23,11 @@ pub fn picture(story: &Story) -> String {
     marks::guides(&mut svg, &layout);
     lanes::refused(&mut svg, &layout);
     rows::bars(&mut svg, &layout);
-    let (width, height) = (short(width), short(layout.bottom()));
+    let (width, height) = (short(layout.frame.width()), short(layout.bottom()));
+    let legend = legend::list(story, !layout.ids.cuts.is_empty());
     format!(
-        "<svg role=\"img\" aria-label=\"The records from left to right, with who held the line\" \
-         width=\"{width}\" height=\"{height}\" viewBox=\"0 0 {width} {height}\">\n{HATCH}{}</svg>\n",
+        "{legend}<figure class=\"wide\">\n<svg role=\"img\" aria-label=\"The records from left to right, with who held the line\" \
+         width=\"{width}\" height=\"{height}\" viewBox=\"0 0 {width} {height}\">\n{HATCH}{}</svg>\n</figure>\n",
         svg.text
     )
 }

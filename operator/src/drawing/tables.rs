@@ -18,9 +18,12 @@ pub fn summary(story: &Story) -> String {
     };
     let who = words::stay(first.stay);
     let span = words::span(first.hold.from, first.hold.to);
-    let back = words::counted(first.back, "id");
+    let back = match first.back {
+        0 => "no vacuum that named it had sampled more".to_string(),
+        back => format!("the line {} back", words::counted(back, "id")),
+    };
     format!(
-        "{end} The longest hold of the line was that of {who}: it kept xmin {} {span}, and the line {back} back.",
+        "{end} The longest hold of the line was that of {who}: it kept xmin {} {span}, and {back}.",
         first.hold.xmin
     )
 }

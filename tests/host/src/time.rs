@@ -1,5 +1,7 @@
-//! Times the library for hosts against plain Rust on the same bytes; run it by bench/host. Both sides answer every question alike
-//! before a clock starts.
+//! Times the library for hosts against plain Rust: the questions on the same bytes, where both sides answer alike before a clock
+//! starts, and the calls on tables in memory. Run it by bench/host.
+
+mod time_calls;
 
 use sockhurdle::{Image, Slot, SnapshotRef, Txid, check_image};
 use std::collections::HashSet;
@@ -130,4 +132,8 @@ fn main() {
     lists();
     println!();
     images();
+    println!();
+    time_calls::calls();
+    println!();
+    time_calls::shared();
 }

@@ -136,6 +136,14 @@ fn links(line: &str) -> impl Iterator<Item = &str> {
     line.split("](").skip(1).filter_map(|l| l.split_once(')')).map(|(l, _)| l)
 }
 
+/// What a link calls the headings of a page: in small letters, with `-` for blanks and without marks.
+fn anchors(text: &str) -> BTreeSet<String> {
+    let marked = |c: &char| c.is_alphanumeric() || matches!(c, ' ' | '-' | '_');
+    let headings = written_lines(text).into_iter().filter(|l| l.starts_with('#'));
+    let words = headings.map(|l| l.trim_start_matches('#').trim().to_lowercase());
+    words.map(|w| w.chars().filter(marked).collect::<String>().replace(' ', "-")).collect()
+}
+
 pub fn check(tree: &Tree, declared: &BTreeSet<(String, String)>, report: &mut Report) {
     let names = Names::new(tree, declared);
     for document in tree.documents() {
@@ -144,8 +152,9 @@ pub fn check(tree: &Tree, declared: &BTreeSet<(String, String)>, report: &mut Re
         let mut seen = BTreeSet::new();
         for line in written_lines(&text) {
             for link in links(line).filter(|l| !l.starts_with("http")) {
-                let path = joined(folder, link.split('#').next().unwrap_or(""));
-                let there = link.starts_with('#') || names.paths.contains(&path);
+                let (path, heading) = link.split_once('#').unwrap_or((link, ""));
+                let path = if path.is_empty() { document.clone() } else { joined(folder, path) };
+                let there = names.paths.contains(&path) && (heading.is_empty() || anchors(&tree.text(&path)).contains(heading));
                 report.expect(there, || format!("{document}: {link} is not there"));
             }
             for word in backquoted(line).filter_map(|s| s.split_whitespace().next()) {
@@ -240,11 +249,27 @@ fn plain(line: &str) -> String {
     format!("{indent}{rest}").trim_end().to_string()
 }
 
+/// Files of ours that a block of code may quote, and of other languages.
+const OURS: [&str; 2] = [".antt", ".rt"];
+const OTHERS: [&str; 2] = [".rs", ".c"];
+
+fn ends_in(file: &str, endings: &[&str]) -> bool {
+    endings.iter().any(|e| file.ends_with(e))
+}
+
+/// The lines of such a file without its comments and without empty ones.
+fn code_lines(tree: &Tree, file: &str) -> Vec<String> {
+    let own = ends_in(file, &OURS);
+    let text = if own { tree.bare(file).to_string() } else { tree.text(file) };
+    text.lines().filter(|l| own || !l.trim_start().starts_with("//")).map(plain).filter(|l| !l.is_empty()).collect()
+}
+
 /// A block of code after a link to a file of definitions or code quotes that file: each of its paragraphs stands there
-/// whole, and its comments too.
+/// whole, and its comments too. One that begins with the file's first line is all of the file. A file of another language is linked
+/// in the paragraph right before the block.
 fn quotations(tree: &Tree, document: &str, folder: &str, text: &str, report: &mut Report) {
     let (mut source, mut fence): (Option<String>, bool) = (None, false);
-    let mut paragraph: Vec<String> = Vec::new();
+    let (mut paragraph, mut block): (Vec<String>, Vec<&str>) = (Vec::new(), Vec::new());
     for line in by_hand(text) {
         let Some(file) = source.clone().filter(|_| fence) else {
             if line.starts_with("```") {
@@ -252,26 +277,31 @@ fn quotations(tree: &Tree, document: &str, folder: &str, text: &str, report: &mu
             } else if line.starts_with('#') {
                 source = None;
             } else if !fence {
-                let last = links(line).filter(|l| l.ends_with(".antt") || l.ends_with(".rt")).last();
-                source = last.map(|l| joined(folder, l)).or(source);
+                let last = links(line).filter(|l| ends_in(l, &OURS) || ends_in(l, &OTHERS)).last();
+                let stays = |file: &String| line.trim().is_empty() || ends_in(file, &OURS);
+                source = last.map(|l| joined(folder, l)).or(source.filter(stays));
             }
             continue;
         };
         let raw = tree.text(&file);
         let closes = line.starts_with("```");
-        if line.trim_start().starts_with(if file.ends_with(".rt") { "//" } else { "--" }) {
+        if line.trim_start().starts_with(if file.ends_with(".antt") { "--" } else { "//" }) {
             report.expect(raw.lines().any(|l| l.trim_end() == line), || format!("{document} quotes, and {file} has not: {line}"));
         } else if !closes && !line.trim().is_empty() {
             paragraph.push(plain(line));
         } else if !paragraph.is_empty() {
-            let there: Vec<String> = tree.bare(&file).lines().map(plain).filter(|l| !l.is_empty()).collect();
-            let whole = there.windows(paragraph.len()).any(|w| w == paragraph);
+            let whole = code_lines(tree, &file).windows(paragraph.len()).any(|w| w == paragraph);
             report.expect(whole, || format!("{document} quotes, and {file} has not whole: {}", paragraph.join(" / ")));
             paragraph.clear();
         }
-        if closes {
-            (fence, source) = (false, None);
+        if !closes {
+            block.push(line);
+            continue;
         }
+        let all = block.first() != raw.lines().next().as_ref() || block.iter().copied().eq(raw.lines());
+        report.expect(all, || format!("{document} begins as {file} does, and does not quote all of it"));
+        block.clear();
+        (fence, source) = (false, None);
     }
 }
 

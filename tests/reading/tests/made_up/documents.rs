@@ -24,6 +24,17 @@ fn names_files_and_links_are_there() {
 }
 
 #[test]
+fn a_link_into_a_page_finds_its_heading() {
+    let text = |link: &str| page(&format!("# The rules, `all` of them\n\n## 1.2 Ids\n\n```\n# No heading\n```\n\n[x]({link})\n"));
+    for good in ["#the-rules-all-of-them", "#12-ids", "D.md#12-ids", "D.md"] {
+        assert_eq!(text(good), Vec::<String>::new(), "{good}");
+    }
+    for bad in ["#ids", "#no-heading", "D.md#12", "E.md#12-ids"] {
+        assert_eq!(text(bad).len(), 1, "{bad}");
+    }
+}
+
+#[test]
 fn what_a_comment_declares_is_not_there() {
     let files = [("crates/a/proofs/P.antt", "-- P.\n{-\npub so-it-is : So\n-}\n"), ("docs/D.md", "`so-it-is`\n")];
     assert!(fails(&crate_a("", &files), "documents", "so-it-is is not there"));
@@ -34,6 +45,23 @@ fn quotations_stand_in_their_file_whole() {
     let quote = |block: &str| page(&format!("From [S](../crates/a/specs/S.antt):\n\n```\n{block}\n```\n"));
     assert_eq!(quote("-- a number\ng : ℕ → ℕ\ng x = x + 7\n\nrecord R (n : ℕ) where\n  -- first\n  a : ℕ\n  b : ℕ"), Vec::<String>::new());
     for bad in ["g x = x + 8", "-- another", "record R (n : ℕ) where\n  b : ℕ", "g x = x + 7\n  b : ℕ"] {
+        assert_eq!(quote(bad).len(), 1, "{bad}");
+    }
+}
+
+#[test]
+fn a_program_is_quoted_whole_or_in_part() {
+    let program = "// A host.\nfn main() {\n    // begins\n    begin();\n}\n";
+    let quote = |block: &str| {
+        let text = format!("From [it](../host/examples/it.rs):\n\n```rust\n{block}```\n");
+        failures(&crate_a("", &[("docs/D.md", &text), ("host/examples/it.rs", program)]), "documents")
+    };
+    for good in [program, "fn main() {\n    begin();\n", "    begin();\n"] {
+        assert_eq!(quote(good), Vec::<String>::new(), "{good}");
+    }
+    let later = "From [it](../host/examples/it.rs).\n\nBut this is another's:\n\n```rust\n    end();\n```\n";
+    assert_eq!(failures(&crate_a("", &[("docs/D.md", later), ("host/examples/it.rs", program)]), "documents"), Vec::<String>::new());
+    for bad in ["// A host.\nfn main() {\n    begin();\n}\n", "// A host.\n", "    end();\n", "    // ends\n"] {
         assert_eq!(quote(bad).len(), 1, "{bad}");
     }
 }

@@ -7,6 +7,7 @@ use Rattle.grammar.proofs.Laws.{opened}
 use Rattle.trace.specs.Trace.{traceGrammar}
 use Rattle.trace.proofs.Shape.{trace-grammar}
 use Rattle.trace.proofs.Answers.{reading-is}
+use Rattle.replay_part.proofs.Fits.{part-fits}
 use Rattle.replay.proofs.Whole.{into-broken, part-none, into-whole, into-cut}
 use borrow.Author.Needs.{needs}
 use Rattle.replay.proofs.into.replay_into.Statement.{statement}
@@ -72,9 +73,10 @@ returns-2 c =
     let a = asked .before .before .before .args in
     let e = sym (asked .read-trace .ensures) ∙ read .reading2 .given .1 in
     let first = found .first-record .ensures in
-    let part = ran .run-part .ensures (rw first (opened traceGrammar trace-grammar _ _ _ (reading-is _ e) .boundary)) in
-    let p = rw (first, made .fresh .ensures) at part in
     let kept = ran .run-part .kept .1 .1 .1 .1 .0 in
+    let part =
+    part-fits (ran .run-part .ensures) kept (rw first (opened traceGrammar trace-grammar _ _ _ (reading-is _ e) .boundary)) in
+    let p = rw (first, made .fresh .ensures) at part in
     into-whole _ (a .s .now) (a .out .now) _ _ e p (tested .if2 .taken) kept (put .put-records2 .ensures)
 
 same-length-3 : tie.Need-same-length-3
@@ -102,7 +104,9 @@ returns-4 c =
     let a = asked .before .before .before .args in
     let e = sym (asked .read-trace .ensures) ∙ read .reading2 .given .1 in
     let first = found .first-record .ensures in
-    let part = ran .run-part .ensures (rw first (opened traceGrammar trace-grammar _ _ _ (reading-is _ e) .boundary)) in
+    let kept = ran .run-part .kept .1 .1 .1 .1 .0 in
+    let part =
+    part-fits (ran .run-part .ensures) kept (rw first (opened traceGrammar trace-grammar _ _ _ (reading-is _ e) .boundary)) in
     let p = rw (first, made .fresh .ensures) at part in
     into-cut _ (a .s .now) (a .out .now) _ _ e p (c .if2 .left)
 

@@ -1,7 +1,7 @@
 -- There is room for the longest number, so the line is put (output's proofs/Wrote.antt); and its number is 1.
 use native.Mathlib.Omega.{arith}
 use Rattle.output.proofs.Wrote.{line-wrote, line-put-there}
-use Rattle.replay.specs.Replay.{agreeKey}
+use Rattle.replay_text.specs.Replay.{agreeKey}
 use borrow.Author.Needs.{needs}
 use Rattle.replay.proofs.last.agree_line.Statement.{statement}
 use Rattle.replay.proofs.last.agree_line.Tie as tie

@@ -8,6 +8,7 @@ use lib.ListN.{length}
 use borrow.Author.Needs.{needs}
 use Rattle.trace.specs.Trace.{recordsFrom}
 use Rattle.replay.specs.declared.border.Handed.{Handed}
+use Rattle.replay_part.proofs.Fits.{part-fits}
 use Rattle.replay.proofs.Next.{put-inside}
 use Rattle.replay.proofs.Pieces.{pieces-joined, went-on, went-stopped, some-went}
 use Rattle.replay.proofs.Sending.{Sending, from-fresh, to-fresh, sending-start, part-next, part-less, sending-part}
@@ -57,7 +58,7 @@ hand-on-requires c κs =
     let loop = turn .before in
     let fresh = loop .before .before .before in
     let w = from-fresh (fresh .fresh .ensures) (loop .loop .inv .1) in
-    let p = ran .run-part .ensures (w .boundary) in
+    let p = part-fits (ran .run-part .ensures) (ran .run-part .kept .1 .1 .1 .1 .0) (w .boundary) in
     let size = loop .loop .inv .0 ∙ sym (fresh .before .large-buffer .ensures) in (
       omega (arith, p .inside, ran .run-part .kept .1 .1 .1 .1 .0),
       part-next _ _ _ _ w p size (omega arith) (turn .loop-test .taken),
@@ -77,7 +78,7 @@ returns c =
     let loop = turn .before in
     let fresh = loop .before .before .before in
     let w = from-fresh (fresh .fresh .ensures) (loop .loop .inv .1) in
-    let p = ran .run-part .ensures (w .boundary) in
+    let p = part-fits (ran .run-part .ensures) (ran .run-part .kept .1 .1 .1 .1 .0) (w .boundary) in
     let size = loop .loop .inv .0 ∙ sym (fresh .before .large-buffer .ensures) in
     let next = part-next _ _ _ _ w p size (omega arith) (turn .loop-test .taken) in
     let same = w .same ∙ ap (λ (h : Handed). h .to) (loop .before .nothing .ensures) ∙ toZ-ofZ (fresh .before .before .before .fits .to) in
@@ -92,7 +93,7 @@ loop-less c =
     let loop = turn .before in
     let fresh = loop .before .before .before in
     let w = from-fresh (fresh .fresh .ensures) (loop .loop .inv .1) in
-    let p = ran .run-part .ensures (w .boundary) in
+    let p = part-fits (ran .run-part .ensures) (ran .run-part .kept .1 .1 .1 .1 .0) (w .boundary) in
     let size = loop .loop .inv .0 ∙ sym (fresh .before .large-buffer .ensures) in
     part-less _ _ _ _ w p size (omega arith) (turn .loop-test .taken)
 
@@ -104,7 +105,7 @@ loop-again c =
     let loop = turn .before in
     let fresh = loop .before .before .before in
     let w = from-fresh (fresh .fresh .ensures) (loop .loop .inv .1) in
-    let p = ran .run-part .ensures (w .boundary) in
+    let p = part-fits (ran .run-part .ensures) (ran .run-part .kept .1 .1 .1 .1 .0) (w .boundary) in
     let size = loop .loop .inv .0 ∙ sym (fresh .before .large-buffer .ensures) in
     let more = sending-part _ _ _ _ w p size (omega arith) (turn .loop-test .taken) in
     let on = went-on _ (handed .hand-on .ensures) (c .before .before .went .given .1) in

@@ -1,0 +1,4 @@
+pub mod Courses
+pub mod Running
+pub mod Room
+pub mod Fits

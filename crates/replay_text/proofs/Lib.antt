@@ -1,0 +1,2 @@
+pub mod Tied
+pub mod Examples
