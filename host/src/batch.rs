@@ -50,7 +50,7 @@ pub fn batch(line: u64, versions: &[Version], decisions: &mut [u8]) -> Result<()
     let number = unsafe {
         raw::sockhurdle_batch(
             line,
-            versions.as_ptr(),
+            versions.as_ptr().cast(),
             versions.len(),
             decisions.as_mut_ptr(),
             decisions.len(),

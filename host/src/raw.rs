@@ -1,8 +1,6 @@
 //! The exports of the crates `host_calls`, `place_tables`, `place_calls`, `place_vacuum`, `place_snapshots`, `place_pins` and
 //! `place_batch`. A slice is two arguments there: a pointer and a length, in bytes, words or versions.
 
-use crate::Version;
-
 unsafe extern "C" {
     pub fn sockhurdle_settled(xmax: u64, list: *const u8, list_len: usize, id: u64) -> u64;
     pub fn sockhurdle_usable(xmax: u64, list: *const u8, list_len: usize, id: u64, own: u64)
@@ -104,7 +102,7 @@ unsafe extern "C" {
 
     pub fn sockhurdle_batch(
         line: u64,
-        versions: *const Version,
+        versions: *const [u64; 2],
         versions_len: usize,
         run: *mut u8,
         run_len: usize,

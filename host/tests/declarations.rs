@@ -53,7 +53,7 @@ fn of_rust(text: &str, start: &str) -> Vec<Declared> {
                     "&mut [u8]" => vec![(name.clone(), 'c'), (name + "_len", 'l')],
                     "*mut u8" => vec![(name, 'c')],
                     "&[[u64; 2]]" => vec![(name.clone(), 'p'), (name + "_len", 'l')],
-                    "*const Version" => vec![(name, 'p')],
+                    "*const [u64; 2]" => vec![(name, 'p')],
                     "usize" => vec![(name, 'l')],
                     other => panic!("{name} has the type {other}"),
                 }
