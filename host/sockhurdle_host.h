@@ -76,6 +76,7 @@ uint64_t sockhurdle_check_image(const uint8_t *image, size_t image_len);
 #define SOCKHURDLE_BAD_CLOCK 7               /* the clock is below the table's */
 #define SOCKHURDLE_BAD_SAMPLE 8              /* the sample is 0 or above the clock */
 #define SOCKHURDLE_NO_ROOM 12                /* a run has no room for the answer */
+#define SOCKHURDLE_ENDED_BEFORE 17           /* of a batch: the ender of a version is below its maker */
 #define SOCKHURDLE_WILD_JUMP 13              /* the number lies too far above the clock */
 #define SOCKHURDLE_NO_FREE_PIN 14            /* all pins are taken */
 #define SOCKHURDLE_INVALID_PIN 15            /* no pin has this number */
@@ -104,6 +105,17 @@ uint64_t sockhurdle_vacuum(uint64_t *table, size_t table_len, uint64_t clock, ui
 uint64_t sockhurdle_snap(uint64_t *table, size_t table_len, uint64_t clock, uint64_t sample, uint64_t *out, size_t out_len, uint64_t *ids, size_t ids_len);
 uint64_t sockhurdle_own(uint64_t *table, size_t table_len, uint16_t slot, uint64_t id, uint64_t clock, uint64_t sample, uint64_t *out, size_t out_len, uint64_t *ids, size_t ids_len);
 uint64_t sockhurdle_pin(uint64_t *table, size_t table_len, uint64_t clock, uint64_t sample, uint64_t *out, size_t out_len, uint64_t *ids, size_t ids_len);
+
+/* A version that a vacuum asks about: its maker's id and its ender's, 0 where it is alive. An ender that was given up is told as 0. */
+struct sockhurdle_version {
+    uint64_t maker;
+    uint64_t ender;
+};
+
+/* Decides which versions may be removed by a line, 1 for each that may go, else 0, in the first bytes of `run`. 0, or refusal 12 where
+   `run` has fewer bytes than there are versions or `out` has no word, then 4 or 17 of the first bad version, whose place is then in
+   the first word of `out`. A refusal writes no decision. */
+uint64_t sockhurdle_batch(uint64_t line, const struct sockhurdle_version *versions, size_t versions_len, uint8_t *run, size_t run_len, uint64_t *out, size_t out_len);
 
 /* Puts a number as its 8 bytes. */
 static inline void sockhurdle_put(uint8_t *at, uint64_t number)

@@ -6,7 +6,7 @@
 //!
 //! It ends with 0 where nothing was found in that time, and with 1 as soon as something is: with a fault that is what has to happen.
 
-use sockhurdle::{Refusal, Shared, Snapshot, Transaction, Txid};
+use sockhurdle::{Refusal, Shared, Snapshot, Transaction, Txid, batch};
 use std::fmt;
 use std::process::exit;
 use std::sync::Mutex;
@@ -314,43 +314,44 @@ impl Store {
         Ok(())
     }
 
-    /// The ender as the vacuum is told it: 0 for none, and for one that was given up.
-    fn ender_told(&self, version: &Version) -> u64 {
-        match version.ender {
-            Some(by) if !by.given_up || self.fault == Fault::AbortedEnder => by.id.0,
-            _ => 0,
-        }
+    /// A version as the vacuum is told it: one whose ender was given up is alive.
+    fn told(&self, version: &Version) -> sockhurdle::Version {
+        let ends = |by: &Ender| !by.given_up || self.fault == Fault::AbortedEnder;
+        let ender = version.ender.filter(ends).map(|by| by.id);
+        sockhurdle::Version::new(version.maker, ender)
     }
 
-    /// Removes what may go by a line: the batch's rule (docs/SPEC.md, 17.2), in plain Rust, since the library has no batch.
-    fn remove(&self, line: u64) -> usize {
+    /// Removes what may go by a line, as the batch decides.
+    fn remove(&self, line: u64) -> Result<usize, Refusal> {
         let halves = self.photos.iter().flat_map(|photo| &photo.halves);
         let removed = halves.map(|half| {
             let mut versions = locked(half);
+            let told: Vec<_> = versions.iter().map(|version| self.told(version)).collect();
+            let mut may_go = vec![0; told.len()];
+            batch(line, &told, &mut may_go)?;
             let before = versions.len();
-            versions.retain(|version| {
-                let ender = self.ender_told(version);
-                ender == 0 || ender >= line
-            });
-            before - versions.len()
+            let mut decided = may_go.into_iter();
+            versions.retain(|_| decided.next() == Some(0));
+            Ok(before - versions.len())
         });
         removed.sum()
     }
 
-    fn vacuum(&self) {
+    fn vacuum(&self) -> Result<(), Refusal> {
         let (line, _) = self.shared.vacuum();
         let line = match self.fault {
             Fault::VacuumAtTheSample => self.shared.clock(),
             _ => line,
         };
-        let removed = self.remove(line);
+        let removed = self.remove(line)?;
         self.counts.vacuums.fetch_add(1, Relaxed);
         self.counts.removed.fetch_add(removed as u64, Relaxed);
+        Ok(())
     }
 
     fn vacuums(&self) -> Result<(), Refusal> {
         while !self.stop.load(Relaxed) {
-            self.vacuum();
+            self.vacuum()?;
             thread::sleep(Duration::from_micros(200));
         }
         Ok(())
@@ -455,7 +456,9 @@ fn main() -> Result<(), Refusal> {
         exit(1);
     }
     // all have left: of each half the last coding stays, and nothing else
-    store.vacuum();
+    store
+        .vacuum()
+        .expect("the versions of the store are in order");
     let halves = store.photos.iter().flat_map(|photo| &photo.halves);
     let left: usize = halves.map(|half| locked(half).len()).sum();
     println!(

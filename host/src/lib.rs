@@ -53,6 +53,7 @@
 //! what is not, stands in docs/SPEC.md (18, 20) and docs/TRUST.md of the repository; the rest of this crate is plain Rust: the lines that
 //! make the calls, [`Shared`] with its guards, [`Image::bytes`] and [`Image::of_bytes`].
 
+mod batch;
 mod capture;
 mod guards;
 mod image;
@@ -62,6 +63,7 @@ mod shared;
 mod snapshot;
 mod table;
 
+pub use batch::{Version, batch};
 pub use guards::{Pin, Transaction};
 pub use image::{IMAGE_LEN, Image, PINS, SLOTS, Slot, check_image};
 pub use refusal::Refusal;

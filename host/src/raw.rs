@@ -1,5 +1,5 @@
-//! The exports of the crates `host_calls`, `place_tables`, `place_calls`, `place_vacuum`, `place_snapshots` and `place_pins`. A slice is
-//! two arguments there: a pointer and a length, in bytes or in words.
+//! The exports of the crates `host_calls`, `place_tables`, `place_calls`, `place_vacuum`, `place_snapshots`, `place_pins` and
+//! `place_batch`. A slice is two arguments there: a pointer and a length, in bytes, words or versions.
 
 unsafe extern "C" {
     pub fn sockhurdle_settled(xmax: u64, list: *const u8, list_len: usize, id: u64) -> u64;
@@ -96,6 +96,16 @@ unsafe extern "C" {
         table_len: usize,
         clock: u64,
         sample: u64,
+        out: *mut u64,
+        out_len: usize,
+    ) -> u64;
+
+    pub fn sockhurdle_batch(
+        line: u64,
+        versions: *const [u64; 2],
+        versions_len: usize,
+        run: *mut u8,
+        run_len: usize,
         out: *mut u64,
         out_len: usize,
     ) -> u64;

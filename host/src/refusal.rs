@@ -17,6 +17,8 @@ pub enum Refusal {
     },
     /// 4: the id is 0, which no transaction has.
     ZeroTxid,
+    /// 4: the maker of the version at this place is 0.
+    ZeroMaker { place: usize },
     /// 5: the clock has no number left.
     ClockExhausted,
     /// 6: the reserved number is 0, below the clock, or the largest of all.
@@ -27,6 +29,8 @@ pub enum Refusal {
     BadSample,
     /// 10: the list has more ids than a table has slots.
     BadSnapshot,
+    /// 12: a run of decisions is shorter than the versions.
+    NoRoom,
     /// 13: the reserved number lies too far above the clock.
     WildJump,
     /// 14: every pin is taken.
@@ -35,6 +39,8 @@ pub enum Refusal {
     InvalidPin { pin: PinNo },
     /// 16: the pin is free.
     FreePin { pin: PinNo },
+    /// 17: the ender of the version at this place is below its maker.
+    EndedBefore { place: usize },
     /// 18: the bytes have the length of no list, or of no image; the words have that of no table.
     BadImage,
 }
@@ -45,16 +51,18 @@ impl Refusal {
             Refusal::NoFreeSlot { .. } => 1,
             Refusal::InvalidSlot { .. } => 2,
             Refusal::SlotOwnershipMismatch { .. } => 3,
-            Refusal::ZeroTxid => 4,
+            Refusal::ZeroTxid | Refusal::ZeroMaker { .. } => 4,
             Refusal::ClockExhausted => 5,
             Refusal::BadReservation => 6,
             Refusal::BadClock => 7,
             Refusal::BadSample => 8,
             Refusal::BadSnapshot => 10,
+            Refusal::NoRoom => 12,
             Refusal::WildJump => 13,
             Refusal::NoFreePin => 14,
             Refusal::InvalidPin { .. } => 15,
             Refusal::FreePin { .. } => 16,
+            Refusal::EndedBefore { .. } => 17,
             Refusal::BadImage => 18,
         }
     }
@@ -63,6 +71,17 @@ impl Refusal {
     #[cold]
     pub(crate) fn of(number: u64) -> Refusal {
         Refusal::told(number, 0, 0, 0)
+    }
+
+    /// Of a batch, with the place of its bad version.
+    #[cold]
+    pub(crate) fn of_batch(number: u64, place: usize) -> Refusal {
+        match number {
+            4 => Refusal::ZeroMaker { place },
+            12 => Refusal::NoRoom,
+            17 => Refusal::EndedBefore { place },
+            other => unreachable!("the proved library never answers {other}"),
+        }
     }
 
     /// Of a call, with the numbers that it told.
@@ -109,15 +128,20 @@ impl fmt::Display for Refusal {
                 slot.0, observed.0, expected.0
             ),
             Refusal::ZeroTxid => f.write_str("the id is 0"),
+            Refusal::ZeroMaker { place } => write!(f, "the maker of version {place} is 0"),
             Refusal::ClockExhausted => f.write_str("the clock has no number left"),
             Refusal::BadReservation => f.write_str("the number may not be reserved"),
             Refusal::BadClock => f.write_str("the clock is below the table's"),
             Refusal::BadSample => f.write_str("the sample is 0 or above the clock"),
             Refusal::BadSnapshot => f.write_str("more ids than slots"),
+            Refusal::NoRoom => f.write_str("fewer decisions than versions"),
             Refusal::WildJump => f.write_str("the number lies too far above the clock"),
             Refusal::NoFreePin => f.write_str("no pin is free"),
             Refusal::InvalidPin { pin } => write!(f, "no pin is number {}", pin.0),
             Refusal::FreePin { pin } => write!(f, "pin {} is free", pin.0),
+            Refusal::EndedBefore { place } => {
+                write!(f, "the ender of version {place} is below its maker")
+            }
             Refusal::BadImage => f.write_str("bytes of another length"),
         }
     }

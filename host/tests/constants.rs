@@ -55,6 +55,8 @@ fn the_header_says_the_same() {
         ("SOCKHURDLE_BAD_RESERVATION", Refusal::BadReservation),
         ("SOCKHURDLE_BAD_CLOCK", Refusal::BadClock),
         ("SOCKHURDLE_BAD_SAMPLE", Refusal::BadSample),
+        ("SOCKHURDLE_NO_ROOM", Refusal::NoRoom),
+        ("SOCKHURDLE_ENDED_BEFORE", Refusal::EndedBefore { place: 0 }),
         ("SOCKHURDLE_WILD_JUMP", Refusal::WildJump),
         ("SOCKHURDLE_NO_FREE_PIN", Refusal::NoFreePin),
         ("SOCKHURDLE_INVALID_PIN", Refusal::InvalidPin { pin }),

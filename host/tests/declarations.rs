@@ -2,17 +2,18 @@
 //! and order.
 
 /// The sources of the exports.
-const SOURCES: [&str; 6] = [
+const SOURCES: [&str; 7] = [
     include_str!("../../crates/host_calls/src/lib.rt"),
     include_str!("../../crates/place_tables/src/lib.rt"),
     include_str!("../../crates/place_calls/src/lib.rt"),
     include_str!("../../crates/place_vacuum/src/lib.rt"),
     include_str!("../../crates/place_snapshots/src/lib.rt"),
     include_str!("../../crates/place_pins/src/lib.rt"),
+    include_str!("../../crates/place_batch/src/lib.rt"),
 ];
 
 /// A function's name, and of each parameter its name and kind: 'n' for a number, 's' for a short one, 'b' for bytes, 'w' for words,
-/// 'm' for words that are written, 'l' for a length.
+/// 'm' for words that are written, 'c' for bytes that are, 'p' for versions, 'l' for a length.
 type Declared = (String, Vec<(String, char)>);
 
 /// The texts between the parentheses that follow `start`, each with the name before them.
@@ -49,6 +50,10 @@ fn of_rust(text: &str, start: &str) -> Vec<Declared> {
                     "*mut u64" => vec![(name, 'm')],
                     "&[u8]" => vec![(name.clone(), 'b'), (name + "_len", 'l')],
                     "*const u8" => vec![(name, 'b')],
+                    "&mut [u8]" => vec![(name.clone(), 'c'), (name + "_len", 'l')],
+                    "*mut u8" => vec![(name, 'c')],
+                    "&[[u64; 2]]" => vec![(name.clone(), 'p'), (name + "_len", 'l')],
+                    "*const [u64; 2]" => vec![(name, 'p')],
                     "usize" => vec![(name, 'l')],
                     other => panic!("{name} has the type {other}"),
                 }
@@ -69,6 +74,8 @@ fn of_c(text: &str) -> Vec<Declared> {
             ("uint64_t ", 'n'),
             ("uint16_t ", 's'),
             ("const uint8_t *", 'b'),
+            ("uint8_t *", 'c'),
+            ("const struct sockhurdle_version *", 'p'),
             ("size_t ", 'l'),
         ];
         let found = kinds.iter().find_map(|(kind, letter)| {
