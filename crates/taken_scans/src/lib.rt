@@ -1,5 +1,6 @@
 // What the taken slots hold, over lent columns of any length: the oldest xmin, and the ids of a snapshot.
 mod eight;
+mod least;
 mod oldest;
 mod snapshot;
 

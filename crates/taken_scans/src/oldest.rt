@@ -1,5 +1,7 @@
 // The scan that oldest and vacuum make.
 use crate::eight::all_empty;
+use crate::least::least_of_eight;
+use crate::least::retained_or;
 use turns::shorter;
 ghost use mathlib.Core.Path.{_≡_};
 ghost use Rattle.model.specs.Tally.{oldestOf};
@@ -18,15 +20,12 @@ pub fn oldest_retained<'a>(txids: &'a [u64], xmins: &'a [u64], sample: u64) -> u
                 i += 8;
                 continue;
             }
+            low = least_of_eight(txids, xmins, i, low);
+            i += 8;
+            continue;
         }
-        let stop = i + shorter(8, left);
-        while i < stop {
-            let at = i;
-            i += 1;
-            if txids[at] != 0 {
-                low = kinds::lesser(low, xmins[at]);
-            }
-        }
+        low = kinds::lesser(low, retained_or(txids[i], xmins[i], low));
+        i += 1;
     }
     low
 }
