@@ -1,4 +1,6 @@
 // The numbers of an answer, case by case.
+#![tactic(auto)]
+
 ghost use Rattle.std.specs.Prelude.{◌≡◌};
 ghost use Rattle.model.specs.Answers.{accepted_with, tells_of, xmin_told, holder_told, numbers_of};
 

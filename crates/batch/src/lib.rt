@@ -1,5 +1,7 @@
 // Which versions the vacuum may remove (SPEC 17): one decision for each of a batch, or none at all where a version is bad.
 // A version is its maker's id and its ender's, 0 for still alive.
+#![tactic(auto)]
+
 ghost use Rattle.std.specs.Prelude.{◌≡◌, length, ◌≤◌};
 ghost use Rattle.batch.specs.Batch.{ended_below, version_test, judged_from, decision_of, decisions, in_front, batch_of, decisions_left};
 

@@ -1,6 +1,8 @@
 // Decides a batch that is given as numbers: on standard input a line `n=` and a number for each, first the line, the length
 // of the run of decisions and the number of versions, then maker and ender of each. Prints the answer and its place, then the
 // run: 0 and 1 for decisions, and the letters that it held before where none was written. The tests put batches to it, good and bad.
+#![tactic(auto)]
+
 use batch::Batched;
 use libc::{STDIN_FILENO, STDOUT_FILENO};
 use text::Number;

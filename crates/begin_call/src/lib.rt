@@ -1,4 +1,6 @@
 // Begin: reserve, then the lowest empty slot becomes (n, n).
+#![tactic(auto)]
+
 ghost use Rattle.std.specs.Prelude.{◌≡◌};
 ghost use Rattle.model.specs.Tables.{lent_txids};
 ghost use Rattle.model.specs.Calls.{begin, decision, outcome};

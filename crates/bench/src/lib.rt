@@ -1,5 +1,7 @@
 // The jobs that bench/ times: each is done over and over on a half-full table, and answers a checksum. All lend the columns;
 // begin and end also pass the table by value, which shows what its copies cost.
+#![tactic(auto)]
+
 mod begin_end;
 mod fill;
 mod oldest;

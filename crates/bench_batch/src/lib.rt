@@ -1,4 +1,6 @@
 // A batch decided by one call: what bench/batch times. It promises nothing but safety.
+#![tactic(auto)]
+
 use batch::Batched;
 
 // The refusal's number, 0 where the batch is decided.

@@ -1,5 +1,7 @@
 // The settled test asked over and over, lent and by value, and the usable test lent: what bench/settled times. It promises nothing
 // but safety.
+#![tactic(auto)]
+
 mod lent_usable;
 
 ghost use Rattle.std.specs.Prelude.{◌≡◌};

@@ -1,4 +1,6 @@
 // How a change is stored: column by column where the table is owned in place, or whole on a table by value, which copies it.
+#![tactic(auto)]
+
 ghost use Rattle.std.specs.Prelude.{◌≡◌};
 ghost use Rattle.kinds.specs.Kinds.{pin_count};
 ghost use Rattle.model.specs.Changes.{applied};

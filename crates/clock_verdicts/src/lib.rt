@@ -1,4 +1,6 @@
 // The tests of a reserved number and of an observation against the clock, each with its order of refusals.
+#![tactic(auto)]
+
 ghost use Rattle.std.specs.Prelude.{◌≡◌};
 ghost use Rattle.model.specs.Tests.{reservation_test, observation_test};
 

@@ -1,4 +1,6 @@
 // The counters after a reservation, and after an observation.
+#![tactic(auto)]
+
 ghost use Rattle.std.specs.Prelude.{◌≡◌};
 ghost use Rattle.model.specs.Changes.{observed};
 ghost use Rattle.counters.specs.Reserved.{reserved_from};

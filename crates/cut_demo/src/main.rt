@@ -1,4 +1,6 @@
 // Cuts a captured run: reads a trace on standard input and writes its records 3 to 7, under its own header.
+#![tactic(auto)]
+
 use kinds::Refusal;
 use libc::{STDERR_FILENO, STDIN_FILENO, STDOUT_FILENO};
 use trace_writer::{RowsRead, Wrote};

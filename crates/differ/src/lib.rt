@@ -1,4 +1,6 @@
 // The part of the table check that holds slots against each other.
+#![tactic(auto)]
+
 ghost use Rattle.std.specs.Prelude.{◌≡◌, false, drop};
 ghost use Rattle.listed.specs.Listed.{listed};
 ghost use Rattle.model.specs.Check.{differ};

@@ -1,4 +1,6 @@
 // End: the slot becomes (0, 0), nothing else moves.
+#![tactic(auto)]
+
 ghost use Rattle.std.specs.Prelude.{◌≡◌};
 ghost use Rattle.model.specs.Tables.{lent_txids};
 ghost use Rattle.model.specs.Calls.{end, decision, outcome};

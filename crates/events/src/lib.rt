@@ -1,4 +1,6 @@
 // What others did to the table while one waited, as text: a header and events of six lines, read and judged line by line.
+#![tactic(auto)]
+
 mod lines;
 mod names;
 mod whole;

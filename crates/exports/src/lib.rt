@@ -1,5 +1,7 @@
 // The replay and the check of a wait for a host in C or Rust, linked as a static library. sockhurdle.h beside this folder
 // declares these functions for C; a slice is a pointer and a length there.
+#![tactic(auto)]
+
 mod waits;
 
 ghost use Rattle.std.specs.Prelude.{◌≡◌, length};

@@ -1,4 +1,6 @@
 // Finish: end and stamp in one section. All checks come first, so a bad stamp leaves the transaction registered.
+#![tactic(auto)]
+
 ghost use Rattle.std.specs.Prelude.{◌≡◌};
 ghost use Rattle.kinds.specs.Verdicts.{then};
 ghost use Rattle.model.specs.Tables.{lent_txids};

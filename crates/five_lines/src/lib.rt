@@ -1,4 +1,6 @@
 // The five lines of numbers under the line that names an item: slot, id, a fourth, clock and sample.
+#![tactic(auto)]
+
 ghost use Rattle.std.specs.Prelude.{◌≡◌};
 ghost use Rattle.text.specs.Line.{field_at};
 ghost use Rattle.text.specs.FiveLines.{limit, fields_at};

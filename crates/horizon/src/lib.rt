@@ -1,5 +1,7 @@
 // What oldest and vacuum find: the oldest retained xmin, of slots and pins, and who holds it. A pin is scanned as a slot that retains
 // what it holds.
+#![tactic(auto)]
+
 ghost use Rattle.std.specs.Prelude.{◌≡◌};
 ghost use Rattle.model.specs.Tally.{active, minimum, oldest_of, holder_of, pin_holder_of};
 

@@ -1,5 +1,7 @@
 // The settled test, the usable test and the table check for a host in C or Rust (SPEC 18), linked as a static library: on
 // numbers and bytes. host/sockhurdle_host.h declares these functions for C; a slice is a pointer and a length there.
+#![tactic(auto)]
+
 ghost use Rattle.std.specs.Prelude.{◌≡◌};
 ghost use Rattle.kinds.specs.Refusals.{told};
 ghost use Rattle.image.specs.Lists.{count_of};

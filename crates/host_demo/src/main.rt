@@ -2,6 +2,8 @@
 // A line says a call with what it was handed, `clock/sample` for an observation; what it answers, in the words of
 // a replayed record (SPEC 10.2); and after `|` the table that came back, a slot as txid/snapshot_xmin. Every line of the file
 // `stdout` was worked out by hand from the rules, before the program had been run.
+#![tactic(auto)]
+
 mod accepted;
 mod calls;
 mod checking;

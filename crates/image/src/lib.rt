@@ -1,4 +1,6 @@
 // Ids and tables as bytes (SPEC 18): each number is 8 bytes, the least first.
+#![tactic(auto)]
+
 mod search;
 mod words;
 

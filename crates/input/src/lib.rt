@@ -1,5 +1,7 @@
 // Reading an input to its end. Of the bytes that a read puts into a buffer no contract can say anything; what is proved
 // is that they lie inside it and that the reading ends. A read that fails is told from the end of the input here.
+#![tactic(auto)]
+
 ghost use Rattle.std.specs.Prelude.{length};
 ghost use Rattle.input.specs.Input.{InputFits};
 

@@ -15,6 +15,7 @@ pub struct Told {
 }
 
 // Every printer asks here, so that a new refusal touches this crate alone.
+#[tactic(auto, unfolding(crate::specs::Refusals::told))]
 pub fn tell(r: Refusal) -> Told
     ensures { result ≡ told r }
 {

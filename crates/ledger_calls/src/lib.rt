@@ -1,5 +1,7 @@
 // What one call does and answers, told by numbers alone: each of the ten in the words of SPEC 5, on columns that the second engine
 // worked out of its list.
+#![tactic(auto)]
+
 mod asked;
 mod op;
 mod parts;

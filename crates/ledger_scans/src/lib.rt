@@ -1,5 +1,7 @@
 // The scans of the second engine, over columns that it worked out itself. They share no line with the table's own: oldest and its
 // holder come of one walk downwards.
+#![tactic(auto)]
+
 mod flight;
 mod free;
 mod held;

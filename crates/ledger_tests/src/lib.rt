@@ -1,4 +1,6 @@
 // The refusals as numbers: 0 where the call may be made. Each test in the order of SPEC 3.
+#![tactic(auto)]
+
 ghost use Rattle.std.specs.Prelude.{◌≡◌, get_or};
 ghost use Rattle.kinds.specs.Kinds.{number, slot, pin_no, txid};
 ghost use Rattle.kinds.specs.Verdicts.{tells};

@@ -1,4 +1,6 @@
 // Whether an id stands among the ids of a snapshot.
+#![tactic(auto)]
+
 ghost use Rattle.std.specs.Prelude.{◌≡◌, ◌+◌, ◌≤◌, length, take, drop};
 ghost use Rattle.listed.specs.Listed.{listed};
 

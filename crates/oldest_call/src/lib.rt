@@ -1,5 +1,7 @@
 // The oldest retained xmin: the smallest of sample, the snapshot_xmin of taken slots and the taken pins, after the observation;
 // and who holds it.
+#![tactic(auto)]
+
 ghost use Rattle.std.specs.Prelude.{◌≡◌};
 ghost use Rattle.model.specs.Tables.{lent};
 ghost use Rattle.model.specs.Calls.{oldest, decision, outcome};

@@ -1,4 +1,6 @@
 // An op as a number, from 1 in the order of SPEC 9.2, so that a row of zeros names none.
+#![tactic(auto)]
+
 ghost use Rattle.std.specs.Prelude.{◌≡◌};
 ghost use Rattle.op_numbers.specs.Numbers.{op_number, try_number, op_numbered};
 

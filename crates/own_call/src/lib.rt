@@ -1,4 +1,6 @@
 // A transaction's snapshot, whose xmin its slot then retains.
+#![tactic(auto)]
+
 ghost use Rattle.std.specs.Prelude.{◌≡◌};
 ghost use Rattle.model.specs.Tables.{lent_slots};
 ghost use Rattle.model.specs.Calls.{own, refusal, snapshot_decision, snapshot_outcome};

@@ -1,5 +1,7 @@
 // A pinned snapshot: it uses the larger of sample and vacuum line as its sample, so that nothing below the line is in flight in
 // it, and the lowest free pin holds its xmin.
+#![tactic(auto)]
+
 ghost use Rattle.std.specs.Prelude.{◌≡◌};
 ghost use Rattle.model.specs.Tables.{lent_to_pin};
 ghost use Rattle.model.specs.Calls.{pin, snapshot_decision, snapshot_outcome};

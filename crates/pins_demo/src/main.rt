@@ -1,5 +1,7 @@
 // A page that reads without registering: a plain snapshot is not safe from the vacuum, a pinned one is until it is released. Each
 // line of the file `stdout` was worked out by hand from SPEC 5.9 and 5.10, before the program had been run.
+#![tactic(auto)]
+
 use kinds::{PINS, PinNo, Txid};
 use settled::{Settled, Snapshot};
 use table::{Answer, SnapshotOutcome, Table};

@@ -1,5 +1,7 @@
 // A table in a host's memory (SPEC 20): one run of words, which is read and written where it lies, and a short run for the numbers
 // of an answer. What the calls in place share; they stand in the crates above.
+#![tactic(auto)]
+
 mod shape;
 mod told;
 mod words;

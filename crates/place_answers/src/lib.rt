@@ -1,4 +1,6 @@
 // What a call that lists ids leaves in the host's runs (SPEC 20): its change stored, its answer told beside what was taken.
+#![tactic(auto)]
+
 ghost use Rattle.std.specs.Prelude.{◌≡◌};
 ghost use Rattle.place.specs.Words.{stored_words};
 ghost use Rattle.place.specs.Shapes.{told_in, plain_numbers};

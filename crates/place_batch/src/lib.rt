@@ -1,4 +1,6 @@
 // The batch decision for a host in Rust or C (SPEC 20.4): which versions of a run the vacuum may remove.
+#![tactic(auto)]
+
 ghost use Rattle.std.specs.Prelude.{◌≡◌, length};
 ghost use Rattle.kinds.specs.Refusals.{told};
 ghost use Rattle.place_batch.specs.Batched.{batch_number, batch_run, batch_out};

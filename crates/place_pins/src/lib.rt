@@ -1,6 +1,8 @@
 // The pinned snapshot and the release on a table in the host's memory (SPEC 20), for a host in Rust or C. Each answers its refusal's
 // number, or 0, and writes the other numbers of its answer into `out`. 18 is answered for a table of another length and 12 where a
 // run is too short; then nothing is written. A refused snapshot leaves `ids`.
+#![tactic(auto)]
+
 ghost use Rattle.std.specs.Prelude.{◌≡◌};
 ghost use Rattle.kinds.specs.Kinds.{pin_no};
 ghost use Rattle.model.specs.Calls.{pin as pinned, unpin};

@@ -2,6 +2,8 @@
 // refusal's number, or 0, writes the other numbers of its answer into `out` and the ids in flight into the first places of `ids`.
 // 18 is answered for a table of another length and 12 where `out` or `ids` is too short; then nothing is written. A refused call
 // leaves `ids`.
+#![tactic(auto)]
+
 ghost use Rattle.std.specs.Prelude.{◌≡◌};
 ghost use Rattle.kinds.specs.Kinds.{slot as slotNo, txid};
 ghost use Rattle.model.specs.Calls.{snap, own};

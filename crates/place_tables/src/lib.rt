@@ -1,4 +1,6 @@
 // A table's words that the host makes or finds (SPEC 20): how many they are, the fresh table, and the table check.
+#![tactic(auto)]
+
 ghost use Rattle.std.specs.Prelude.{◌≡◌, length, replicate};
 ghost use Rattle.place.specs.Words.{size_of};
 ghost use Rattle.place_tables.specs.Tables.{fresh_number, fresh_after, check_number};

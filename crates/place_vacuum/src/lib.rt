@@ -1,6 +1,8 @@
 // Oldest and vacuum on a table in the host's memory (SPEC 20), for a host in Rust or C. Each answers its refusal's number, or 0, and
 // writes the other numbers of its answer into `out`, the holder too. 18 is answered for a table of another length and 12 for an
 // `out` that is too short; then nothing is written.
+#![tactic(auto)]
+
 ghost use Rattle.std.specs.Prelude.{◌≡◌};
 ghost use Rattle.model.specs.Calls.{oldest, vacuum};
 ghost use Rattle.place.specs.Calls.{number_of, tableAfter, outAfter};

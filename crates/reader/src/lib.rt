@@ -1,5 +1,7 @@
 // A trace reader: it holds the lent trace and its position, and walks. Asked, it answers what it found and the reader
 // moved on. Whoever has a text and a place calls `next_record`, which makes a reader and asks it once.
+#![tactic(auto)]
+
 ghost use Rattle.std.specs.Prelude.{◌≡◌};
 ghost use Rattle.trace.specs.Record.{record_at};
 ghost use Rattle.reader.specs.Reader.{standing, past_of, step_of};

@@ -1,5 +1,7 @@
 // The whole case (SPEC 10.7), walked through by one trace reader that is handed on: each record in its own
 // words, and the place past it. Then what stands at the end, and a record whose second line breaks a rule.
+#![tactic(auto)]
+
 ghost use Rattle.std.specs.Prelude.{◌≡◌};
 ghost use Rattle.reader.specs.Reader.{step_of};
 

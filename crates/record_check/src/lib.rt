@@ -1,4 +1,6 @@
 // The table check over a lent run of slot records: the host's shared segment, read where it lies.
+#![tactic(auto)]
+
 ghost use Rattle.std.specs.Prelude.{◌≡◌, ◌<◌, length, get_or};
 ghost use Rattle.record_check.specs.Run.{empty_slot, zero_columns, columns_of, gathered_passes, run_passes};
 

@@ -1,4 +1,6 @@
 // Runs the table check on good and damaged runs of slot records, and prints a line for each case.
+#![tactic(auto)]
+
 mod lend;
 mod runs;
 

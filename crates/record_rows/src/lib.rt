@@ -1,4 +1,6 @@
 // A record as a row of six numbers: its op's number, slot, id, stamp, clock and sample. A run of records is a `&[[u64; 6]]`.
+#![tactic(auto)]
+
 mod rows;
 
 pub use rows::{record_of, row_of};

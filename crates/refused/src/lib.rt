@@ -1,4 +1,6 @@
 // A refused snapshot call: no slot changes, the counters stay, and beside the refusal stands the snapshot of zeros.
+#![tactic(auto)]
+
 ghost use Rattle.std.specs.Prelude.{◌≡◌};
 ghost use Rattle.settled.specs.Snapshots.{no_snapshot};
 ghost use Rattle.model.specs.declared.change.SlotChange.TheVariants.{Stays};

@@ -1,4 +1,6 @@
 // The replay: a captured trace in, the answers of its calls out.
+#![tactic(auto)]
+
 mod border;
 mod into;
 mod last;

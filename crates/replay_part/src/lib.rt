@@ -1,4 +1,6 @@
 // As many records as have room in a lent buffer, run one after the other on a table that the loop owns.
+#![tactic(auto)]
+
 ghost use Rattle.std.specs.Prelude.{◌≡◌, length};
 ghost use Rattle.text.specs.Write.{spliced};
 ghost use Rattle.replay_part.specs.Course.{course_of, progress_of};

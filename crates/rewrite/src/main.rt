@@ -1,5 +1,7 @@
 // Reads a trace on standard input and writes it again, from its records: the same bytes. What went wrong is said in
 // words on standard error, and nothing is then written.
+#![tactic(auto)]
+
 mod again;
 
 use kinds::Refusal;

@@ -1,6 +1,8 @@
 // Writes the trace of rows that are given as numbers: on standard input a line `n=` and a number for each, first the
 // header's (1, 2 or 3), the size of the buffer and the number of rows, then six for each row. Prints the answer, then the whole buffer, which
 // held dots, so that bytes past the text can be looked at. The tests put rows to it, good and bad.
+#![tactic(auto)]
+
 use libc::{STDIN_FILENO, STDOUT_FILENO};
 use text::Number;
 use trace::Version;

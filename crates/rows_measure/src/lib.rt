@@ -1,5 +1,7 @@
 // A run of rows, judged and measured: which record a row is, and how long the run's text is. A writer asks before it
 // writes a byte.
+#![tactic(auto)]
+
 ghost use Rattle.std.specs.Prelude.{◌+◌, ◌≤◌, min, ◌≡◌, length};
 ghost use Rattle.text.specs.Decimal.{decimal};
 ghost use Rattle.trace.specs.Op.{op_name};

@@ -1,4 +1,6 @@
 // The records of a text as rows in a lent run.
+#![tactic(auto)]
+
 ghost use Rattle.std.specs.Prelude.{◌≤◌, ◌≡◌, length};
 ghost use Rattle.trace.specs.Trace.{first_record, records_from, Boundary};
 ghost use Rattle.rows_reader.specs.Reading.{rows_of, in_front, read_of, rows_left};

@@ -1,4 +1,6 @@
 // Two texts, byte by byte.
+#![tactic(auto)]
+
 ghost use Rattle.std.specs.Prelude.{◌≡◌};
 ghost use Rattle.same_bytes.specs.Same.{equal_bytes};
 

@@ -1,4 +1,6 @@
 // The scans of the slots for one of them, over lent columns of any length.
+#![tactic(auto)]
+
 mod eight;
 mod holder;
 mod lowest;

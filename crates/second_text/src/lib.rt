@@ -1,4 +1,6 @@
 // What the second engine answers to a record's call, put as text, against the text that was printed for it.
+#![tactic(auto)]
+
 ghost use Rattle.std.specs.Prelude.{◌≡◌};
 ghost use Rattle.same_bytes.specs.Same.{equal_bytes};
 ghost use Rattle.second_text.specs.Second.{second_text};

@@ -1,5 +1,7 @@
 // A whole host: a tile is coded, and coded anew while a page shows it; the vacuum takes the old one once no page needs it. It has
 // one thread. One with more locks before each call on the table and unlocks when the table that came back is stored.
+#![tactic(auto)]
+
 use kinds::{Stamp, Txid};
 use settled::Settled;
 use table::{Answer, Table};

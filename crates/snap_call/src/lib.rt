@@ -1,4 +1,6 @@
 // A plain snapshot, for a reader that isn't registered: no slot changes.
+#![tactic(auto)]
+
 ghost use Rattle.std.specs.Prelude.{◌≡◌};
 ghost use Rattle.model.specs.Tables.{lent_slots};
 ghost use Rattle.model.specs.Calls.{snap, snapshot_decision, snapshot_outcome};

@@ -1,5 +1,7 @@
 // Replays a captured trace: standard input in, standard output out. The language gives a program no exit status, so
 // what went wrong is said in words on standard error; the command operator/replay has a status.
+#![tactic(auto)]
+
 use libc::{STDERR_FILENO, STDIN_FILENO, STDOUT_FILENO};
 
 fn main() {

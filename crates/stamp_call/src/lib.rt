@@ -1,4 +1,6 @@
 // The publication stamp: the clock moves past it, the rest stays.
+#![tactic(auto)]
+
 ghost use Rattle.std.specs.Prelude.{◌≡◌, []};
 ghost use Rattle.model.specs.Tables.{lent_txids};
 ghost use Rattle.model.specs.Calls.{stamp, decision, outcome};

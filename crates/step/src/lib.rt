@@ -1,4 +1,6 @@
 // One record of a trace: its call decided on the lent columns, and its answer written. The change is the caller's to make.
+#![tactic(auto)]
+
 mod listing;
 mod put;
 mod record;

@@ -1,5 +1,7 @@
 // The slot table under one name: the fresh table, the ten calls by value, the same calls decided on lent columns, and how a
 // change that was decided is stored. What stands above the table knows this crate and the model's definitions.
+#![tactic(auto)]
+
 mod holds;
 
 ghost use Rattle.std.specs.Prelude.{◌≡◌};

@@ -1,4 +1,6 @@
 // The table check, for tables that somebody else wrote: the host's shared segment.
+#![tactic(auto)]
+
 mod numbers;
 mod pins;
 mod slots;

@@ -1,4 +1,6 @@
 // The length of a table's text, before a byte of it is written.
+#![tactic(auto)]
+
 ghost use Rattle.std.specs.Prelude.{◌+◌, ◌*◌, ◌≤◌, ◌≡◌, length};
 ghost use Rattle.text.specs.Decimal.{decimal};
 ghost use Rattle.table_text.specs.TableText.{lines_under, table_text};

@@ -1,4 +1,6 @@
 // The text of a table, and reading it. Crate table_writer writes it.
+#![tactic(auto)]
+
 mod read;
 
 use model::Table;

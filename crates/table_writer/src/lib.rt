@@ -1,4 +1,6 @@
 // The text of a table, measured and written. Crate table_text has what it is, and reads it.
+#![tactic(auto)]
+
 mod lines;
 mod write;
 

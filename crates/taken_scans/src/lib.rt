@@ -1,4 +1,6 @@
 // What the taken slots hold, over lent columns of any length: the oldest xmin, and the ids of a snapshot.
+#![tactic(auto)]
+
 mod eight;
 mod oldest;
 mod snapshot;

@@ -1,5 +1,7 @@
 // Numbers and fixed byte strings of a text: what they are, and reading them at a place. Crate text_writer writes them,
 // crate five_lines reads five of them.
+#![tactic(auto)]
+
 mod read;
 
 pub use read::{bytes_at, field_at};

@@ -1,4 +1,6 @@
 // What a tile's decoder gets: one of two lent byte runs comes back as a part, never as a copy.
+#![tactic(auto)]
+
 ghost use Rattle.std.specs.Prelude.{◌≡◌};
 ghost use Rattle.tiles.specs.Tiles.{choice, fitted, length_test, NumberFits, PartFits};
 

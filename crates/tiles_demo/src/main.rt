@@ -1,5 +1,7 @@
 // What a decoder is handed: an older and a newer coding of one tile, asked of one snapshot. Each line of the file `stdout`
 // was worked out by hand from SPEC 7.4, before the program had been run.
+#![tactic(auto)]
+
 use kinds::{SLOTS, Txid};
 use settled::Snapshot;
 

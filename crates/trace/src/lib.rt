@@ -1,4 +1,6 @@
 // Captured runs as text: a header and records of six lines. Crate trace_lines reads and judges them line by line.
+#![tactic(auto)]
+
 mod ops;
 mod versions;
 mod whole;

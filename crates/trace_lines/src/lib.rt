@@ -1,4 +1,6 @@
 // The lines of a trace: a record, and a whole text, read and judged line by line.
+#![tactic(auto)]
+
 mod lines;
 mod ops;
 mod versions;

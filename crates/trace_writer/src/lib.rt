@@ -1,5 +1,7 @@
 // Captured runs as rows of numbers: the text of a run of rows. The rows of a text are read in crate rows_reader, and handed
 // on from here.
+#![tactic(auto)]
+
 mod lines;
 mod write;
 

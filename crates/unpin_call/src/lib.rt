@@ -1,4 +1,6 @@
 // The release of a pin: it is free again, and nothing else moves.
+#![tactic(auto)]
+
 ghost use Rattle.std.specs.Prelude.{◌≡◌};
 ghost use Rattle.model.specs.Tables.{lent_pins};
 ghost use Rattle.model.specs.Calls.{unpin, decision, outcome};

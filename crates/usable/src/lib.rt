@@ -1,5 +1,7 @@
 // The usable test: which versions a reader may use. Settled is what all readers of a snapshot agree on; a transaction
 // may besides use what it made itself, although its own id is in flight.
+#![tactic(auto)]
+
 ghost use Rattle.std.specs.Prelude.{◌≡◌, cond, eqb};
 ghost use Rattle.usable.specs.Usable.{UsableFits};
 

@@ -1,4 +1,6 @@
 // Vacuum: what oldest finds, and whom it names; then the line is the larger of the former line and what was found.
+#![tactic(auto)]
+
 ghost use Rattle.std.specs.Prelude.{◌≡◌};
 ghost use Rattle.model.specs.Tables.{lent};
 ghost use Rattle.model.specs.Calls.{vacuum, decision, outcome};

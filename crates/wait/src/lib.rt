@@ -1,5 +1,7 @@
 // The check of what happened while one waited for the lock: an entry table, an owner or none, and events as text go in; an
 // answer comes back. Crate wait_rules has the rule of each event and the owner.
+#![tactic(auto)]
+
 mod check;
 mod run;
 

@@ -1,4 +1,6 @@
 // The check of a wait as text: the texts of a table and of a wait go in, a verdict and a table come out.
+#![tactic(auto)]
+
 mod lines;
 mod measure;
 

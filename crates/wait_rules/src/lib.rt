@@ -1,4 +1,6 @@
 // One event of a wait: when it may happen, and what it changes.
+#![tactic(auto)]
+
 mod change;
 mod rules;
 

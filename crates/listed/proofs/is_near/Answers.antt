@@ -1,0 +1,10 @@
+-- The tree of eight comparisons is `listed` of the eight places: `listed-near` in Listed.antt.
+use Rattle.listed.proofs.Listed.{listed-near}
+use native.Mathlib.Omega.{arith}
+use borrow.Author.Rules.{rules}
+use Rattle.listed.proofs.is_near.Goals as goal
+
+pub returns : goal.returns
+returns c =
+    let a = c.args in
+    listed-near a.x a.ids.now a.i (omega arith)
