@@ -16,8 +16,8 @@ import sys
 
 W = r"[^\s(){}\[\].;,:@\"«»\\∷λ]+"
 HEAD = r"(?:abbrev pub |unfoldable pub |pub |abbrev |unfoldable |mutual )?"
-# where two names would fall together, the lemma is told apart
-APART = {"frees-pin": "frees_the_pin"}
+# where two names would fall together, the lemma is told apart; a name that the library has too stays
+APART = {"frees-pin": "frees_the_pin", "and-false": "and-false"}
 
 
 def read(path):

@@ -19,7 +19,7 @@ use trace::{Reading, Record, RecordAt, Version};
 const MOST: usize = 252 + 24 * SLOTS;
 
 // Whether the second engine's text is the table's, and what the call changes in the table.
-#[derive(Drop)]
+#[derive(Clone, Copy)]
 pub struct Both {
     pub same: bool,
     pub change: Change,

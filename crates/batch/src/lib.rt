@@ -8,7 +8,7 @@ ghost use Rattle.batch.specs.Batch.{ended_below, version_test, judged_from, deci
 use kinds::{Refusal, Verdict};
 
 // The decisions are written; or nothing is, and beside a refusal for a bad version stands its place.
-#[derive(Drop)]
+#[derive(Clone, Copy)]
 pub enum Batched {
     Decided,
     Refused { refusal: Refusal, place: usize },

@@ -14,7 +14,7 @@ const ROOM: usize = 2048;
 const MOST: usize = 2048;
 
 // A number and the place past its line; 0 where none stands.
-#[derive(Drop)]
+#[derive(Clone, Copy)]
 struct Found {
     number: u64,
     past: usize,

@@ -9,7 +9,7 @@ pub use lines::event_at;
 pub use whole::{LONGEST, first_event, read_wait};
 
 // The events that a wait can name.
-#[derive(Drop)]
+#[derive(Clone, Copy)]
 pub enum Kind {
     Register,
     End,
@@ -19,7 +19,7 @@ pub enum Kind {
 }
 
 // One event of a wait. A field that the event doesn't read is 0.
-#[derive(Drop)]
+#[derive(Clone, Copy)]
 pub struct Event {
     pub kind: Kind,
     pub slot: u16,
@@ -31,7 +31,7 @@ pub struct Event {
 
 // What stands at a place: an event, with the place past it, or the first of its six lines, from 1,
 // that breaks a rule.
-#[derive(Drop)]
+#[derive(Clone, Copy)]
 pub enum EventAt {
     Is(Event, usize),
     Broken(usize),
@@ -39,7 +39,7 @@ pub enum EventAt {
 
 // What a whole text is: so many events, or a wait that breaks a rule first at this line. Line 0
 // stands for an input that is too long.
-#[derive(Drop)]
+#[derive(Clone, Copy)]
 pub enum Reading {
     Whole(usize),
     Broken(usize),

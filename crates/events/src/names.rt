@@ -8,7 +8,7 @@ use crate::Kind;
 use text::Reads;
 
 // A kind of event, with the place past its line, or none.
-#[derive(Drop)]
+#[derive(Clone, Copy)]
 pub enum KindAt {
     Is(Kind, usize),
     Unknown,

@@ -23,7 +23,7 @@ const LINE: usize = SAMPLE + 8;
 const LENGTH: usize = LINE + 8;
 
 // What an image is read as: a table; or refusal 18, beside a table of zeros.
-#[derive(Drop)]
+#[derive(Clone, Copy)]
 pub struct ImageRead {
     pub verdict: Verdict,
     pub table: Table,

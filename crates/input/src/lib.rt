@@ -6,7 +6,7 @@ ghost use Rattle.std.specs.Prelude.{length};
 ghost use Rattle.input.specs.Input.{InputFits};
 
 // So many bytes came, and then the end, or no more had room; or a read failed.
-#[derive(Drop)]
+#[derive(Clone, Copy)]
 pub enum Input {
     All(usize),
     Failed,

@@ -5,7 +5,7 @@ ghost use Rattle.kinds.specs.Refusals.{bare, told};
 use crate::Refusal;
 
 // Its number, and the slot or the pin, the id, the txid seen in the slot and the line of text or the step that it carries; 0 where it carries none.
-#[derive(Drop)]
+#[derive(Clone, Copy)]
 pub struct Told {
     pub number: u64,
     pub slot: u64,

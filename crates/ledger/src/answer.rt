@@ -7,7 +7,7 @@ use kinds::SLOTS;
 use model::Numbers;
 
 // All that is printed of an answer: its numbers, the line after the call and the holder among them, and the ids that it lists.
-#[derive(Drop)]
+#[derive(Clone, Copy)]
 pub struct Said {
     pub numbers: Numbers,
     pub ids: [u64; SLOTS],

@@ -5,7 +5,7 @@ ghost use Rattle.ledger.specs.List.{kept_answer, kept_run};
 use kinds::{CALLS, Refusal};
 
 // How many rows are in use now; or the list is full.
-#[derive(Drop)]
+#[derive(Clone, Copy)]
 pub enum Kept {
     Used(usize),
     Refused(Refusal),

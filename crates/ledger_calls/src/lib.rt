@@ -13,7 +13,7 @@ use model::{Counters, Numbers};
 
 // What a call leaves: the slot at `place` holds (txid, xmin) now, the pin holds `held`, and the counters are these. A place that no
 // slot has says that no slot moves, and so for the pins.
-#[derive(Drop)]
+#[derive(Clone, Copy)]
 pub struct Deed {
     pub place: usize,
     pub txid: u64,
@@ -24,7 +24,7 @@ pub struct Deed {
 }
 
 // .. beside what it answers.
-#[derive(Drop)]
+#[derive(Clone, Copy)]
 pub struct Did {
     pub deed: Deed,
     pub numbers: Numbers,

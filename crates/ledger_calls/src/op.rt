@@ -2,7 +2,7 @@
 ghost use Rattle.std.specs.Prelude.{◌≡◌};
 ghost use Rattle.ledger_calls.specs.Rows.{try_op, op_of};
 
-#[derive(Drop)]
+#[derive(Clone, Copy)]
 pub enum Op {
     Begin,
     End,

@@ -6,7 +6,7 @@ ghost use Rattle.ledger_scans.specs.Flight.{flight_of};
 use kinds::SLOTS;
 
 // The numbers of a snapshot, without its list.
-#[derive(Drop)]
+#[derive(Clone, Copy)]
 pub struct Flight {
     pub xmin: u64,
     pub xmax: u64,

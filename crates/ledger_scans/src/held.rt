@@ -5,7 +5,7 @@ ghost use Rattle.std.specs.Prelude.{◌≡◌, min};
 ghost use Rattle.ledger_scans.specs.Held.{held_from, held_of};
 
 // The oldest retained xmin, and its holder.
-#[derive(Drop)]
+#[derive(Clone, Copy)]
 pub struct Held {
     pub xmin: u64,
     pub holder: u64,

@@ -3,7 +3,7 @@
 use Prim.Native.Nat.{ℕ, ◌≤◌}
 use mathlib.Core.Path.{◌≡◌, refl, sym, ◌∙◌}
 use mathlib.Core.List.{List}
-use mathlib.Core.Bool.{true, false, ◌&&◌, not, and_false, or-true}
+use mathlib.Core.Bool.{true, false, ◌&&◌, not, and-false, or-true}
 use native.Mathlib.Omega.{arith}
 use lib.Dec.{ltb, eqb}
 use lib.ListN.{length, take}
@@ -49,7 +49,7 @@ module _ (n : ℕ) (t : Table) (slot : SlotNo) (id : Txid) (clock sample : ℕ) 
     own-listed = rw (is_taken, used_places n (active t.txids)) in_flight
 
     pub own-not-settled : settled_in taken.xmax taken.ids taken.count id.0 ≡ false
-    own-not-settled = rw own-listed (and_false (ltb id.0 taken.xmax))
+    own-not-settled = rw own-listed (and-false (ltb id.0 taken.xmax))
 
     pub own-usable : usable_in taken.xmax taken.ids taken.count id.0 id.0 ≡ true
     own-usable = rw (eq-eqb id.0 id.0 refl) (or-true (settled_in taken.xmax taken.ids taken.count id.0))

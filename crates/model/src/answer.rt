@@ -3,7 +3,7 @@ use crate::{Change, Table};
 use kinds::{PinNo, Refusal, SlotNo, Stamp, Told, Txid};
 use settled::Snapshot;
 
-#[derive(Drop)]
+#[derive(Clone, Copy)]
 pub enum Answer {
     // Begin: the slot taken, and the id.
     Begun { slot: SlotNo, id: Txid },
@@ -22,7 +22,7 @@ pub enum Answer {
 }
 
 // An answer as numbers, beside the vacuum line after the call and the length of the list of ids; what isn't given is 0.
-#[derive(Drop)]
+#[derive(Clone, Copy)]
 pub struct Numbers {
     pub told: Told,
     pub xmin: u64,
@@ -33,14 +33,14 @@ pub struct Numbers {
 }
 
 // What a call decides on lent columns: who owns the table makes the change.
-#[derive(Drop)]
+#[derive(Clone, Copy)]
 pub struct Decision {
     pub change: Change,
     pub answer: Answer,
 }
 
 // Of a snapshot call. Beside a refusal stands the snapshot of zeros.
-#[derive(Drop)]
+#[derive(Clone, Copy)]
 pub struct SnapshotDecision {
     pub change: Change,
     pub answer: Answer,
@@ -48,13 +48,13 @@ pub struct SnapshotDecision {
 }
 
 // What comes back from a call on a table by value.
-#[derive(Drop)]
+#[derive(Clone, Copy)]
 pub struct Outcome {
     pub table: Table,
     pub answer: Answer,
 }
 
-#[derive(Drop)]
+#[derive(Clone, Copy)]
 pub struct SnapshotOutcome {
     pub table: Table,
     pub answer: Answer,

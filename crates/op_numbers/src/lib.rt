@@ -7,7 +7,7 @@ ghost use Rattle.op_numbers.specs.Numbers.{op_number, try_number, op_numbered};
 use trace::Op;
 
 // The op that a number names.
-#[derive(Drop)]
+#[derive(Clone, Copy)]
 pub enum OpNumbered {
     Is(Op),
     Unknown,

@@ -9,14 +9,14 @@ ghost use Rattle.reader.specs.Reader.{standing, past_of, step_of};
 use trace::RecordAt;
 
 // The lent trace, and the place in it that is read next.
-#[derive(Drop)]
+#[derive(Clone, Copy)]
 pub struct Reader<'a> {
     pub text: &'a [u8],
     pub at: usize,
 }
 
 // What a reader found, and the reader moved on.
-#[derive(Drop)]
+#[derive(Clone, Copy)]
 pub struct Step<'a> {
     pub found: RecordAt,
     pub reader: Reader<'a>,

@@ -9,7 +9,7 @@ use model::Counters;
 
 // One slot of the segment, laid out as the host lays it out.
 #[repr(C)]
-#[derive(Drop)]
+#[derive(Clone, Copy)]
 pub struct Slot {
     pub txid: u64,
     pub snapshot_xmin: u64,
@@ -17,7 +17,7 @@ pub struct Slot {
 
 // What a table has beside its slots, laid out as the host lays it out: there are as many pins as a table has, by their type.
 #[repr(C)]
-#[derive(Drop)]
+#[derive(Clone, Copy)]
 pub struct Rest {
     pub pins: [u64; PINS],
     pub clock: u64,
@@ -26,7 +26,7 @@ pub struct Rest {
 }
 
 // A run of as many records as a table has slots, by value: one array for each field of a record.
-#[derive(Drop)]
+#[derive(Clone, Copy)]
 struct Columns {
     txids: [u64; SLOTS],
     snapshot_xmins: [u64; SLOTS],

@@ -7,7 +7,7 @@ use text::Put;
 use trace::Reading;
 
 // The length of the whole output; or, where it had no room, of the part of it that was written.
-#[derive(Drop)]
+#[derive(Clone, Copy)]
 pub enum Replayed {
     Written(usize),
     NoRoom(usize),

@@ -16,7 +16,7 @@ use trace::{Reading, Version};
 
 // How a replay to a descriptor ended: all of a trace's answers went; the text is no trace, and all of refusal 9 went; or
 // a write failed, and no further one was made.
-#[derive(Drop)]
+#[derive(Clone, Copy)]
 pub enum Sent {
     All(Handed),
     Refused(Handed),

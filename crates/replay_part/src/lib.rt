@@ -12,7 +12,7 @@ use text::Put;
 use trace::{RecordAt, Version};
 
 // Where a part of a run stopped: the table, the place of the next record, the bytes written.
-#[derive(Drop)]
+#[derive(Clone, Copy)]
 pub struct Progress {
     pub table: Table,
     pub at: usize,

@@ -15,7 +15,7 @@ const ROOM: usize = 65600;
 const MOST: usize = 1600;
 
 // A number and the place past its line; 0 where none stands.
-#[derive(Drop)]
+#[derive(Clone, Copy)]
 struct Found {
     number: u64,
     past: usize,

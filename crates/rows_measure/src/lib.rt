@@ -15,14 +15,14 @@ use trace::{Op, Record, Version};
 const TOO_LONG: usize = 65537;
 
 // The record that a row is under a header, or a row that is refusal 20.
-#[derive(Drop)]
+#[derive(Clone, Copy)]
 pub enum Judged {
     Good(Record),
     Bad,
 }
 
 // The length of a run's text, at most 65,537; or some row is refusal 20.
-#[derive(Drop)]
+#[derive(Clone, Copy)]
 pub enum Measured {
     Length(usize),
     BadRow,

@@ -9,7 +9,7 @@ use kinds::Refusal;
 use trace::{Reading, RecordAt, Version};
 
 // The header of a trace and how many rows were written, or refusal 9 or 12, with nothing written.
-#[derive(Drop)]
+#[derive(Clone, Copy)]
 pub enum RowsRead {
     Rows(Version, usize),
     Refused(Refusal),

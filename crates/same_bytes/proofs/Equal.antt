@@ -21,11 +21,11 @@ unfolding equal_bytes
 other_length [] [] ne = absurd (ne refl)
 other_length [] (y ∷ ys) ne = refl
 other_length (x ∷ xs) [] ne = refl
-other_length (x ∷ xs) (y ∷ ys) ne = rw (other_length xs ys (λ e. ne (ap suc e))) (and_false (eqb x y))
+other_length (x ∷ xs) (y ∷ ys) ne = rw (other_length xs ys (λ e. ne (ap suc e))) (and-false (eqb x y))
   where
-    and_false : (b : Bool) → (b && false) ≡ false
-    and_false true = refl
-    and_false false = refl
+    and-false : (b : Bool) → (b && false) ≡ false
+    and-false true = refl
+    and-false false = refl
 
 module _ (a b : List ℕ) (i : ℕ) (h : i < length a) (k : i < length b) where
   pub same_here :

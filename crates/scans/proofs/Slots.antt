@@ -12,9 +12,9 @@ use Rattle.model.specs.Tally.{lowest_empty, holder_from}
 use Rattle.turns.proofs.Turns.{past-eight}
 use Rattle.scans.specs.Other.{all_other}
 
-and_false : (a : Bool) → (a && false) ≡ false
-and_false true = refl
-and_false false = refl
+and-false : (a : Bool) → (a && false) ≡ false
+and-false true = refl
+and-false false = refl
 
 module _ (txids : List ℕ) (i : ℕ) where
   pub empty-here : i < length txids → get_or txids i 0 ≡ 0 → lowest_empty (drop i txids) ≡ 0
@@ -36,7 +36,7 @@ module _ (txids : List ℕ) (i : ℕ) where
         holder_from i (drop i txids) (drop i xmins) x otherwise
         ≡ holder_from (i + 1) (drop (i + 1) txids) (drop (i + 1) xmins) x otherwise
     unfolding holder_from
-    holder-other h k e = rw (from txids i h, from xmins i k, ne_eqb _ _ e, and_false)
+    holder-other h k e = rw (from txids i h, from xmins i k, ne_eqb _ _ e, and-false)
 
     pub holder-empty :
         i < length txids → i < length xmins → get_or txids i 0 ≡ 0 →

@@ -10,7 +10,7 @@ use table::Change;
 use text::Put;
 
 // Where the answer's text ends, or that it had no room; and what the call changes.
-#[derive(Drop)]
+#[derive(Clone, Copy)]
 pub struct Ran {
     pub put: Put,
     pub change: Change,

@@ -11,7 +11,7 @@ use settled::Snapshot;
 use turns::shorter;
 
 // A snapshot without its ids.
-#[derive(Drop)]
+#[derive(Clone, Copy)]
 pub struct Taken {
     pub xmin: u64,
     pub xmax: u64,

@@ -7,21 +7,21 @@ mod read;
 pub use read::{bytes_at, field_at};
 
 // What stands at a place: a number, with the place past its newline, or none.
-#[derive(Drop)]
+#[derive(Clone, Copy)]
 pub enum Number {
     Is(u64, usize),
     Bad,
 }
 
 // What writing at a place did: the place past what was written, or nothing for want of room.
-#[derive(Drop)]
+#[derive(Clone, Copy)]
 pub enum Put {
     Past(usize),
     NoRoom,
 }
 
 // Which of an item's five numbers may be other than 0. `clock` and `sample` are read together.
-#[derive(Drop)]
+#[derive(Clone, Copy)]
 pub struct Reads {
     pub slot: bool,
     pub id: bool,
@@ -30,7 +30,7 @@ pub struct Reads {
 }
 
 // The five numbers.
-#[derive(Drop)]
+#[derive(Clone, Copy)]
 pub struct Values {
     pub slot: u16,
     pub id: u64,
@@ -41,7 +41,7 @@ pub struct Values {
 
 // What five lines at a place are: their numbers, with the place past them, or the first line that
 // breaks a rule, from 2 to 6.
-#[derive(Drop)]
+#[derive(Clone, Copy)]
 pub enum Fields {
     Are(Values, usize),
     Broken(usize),

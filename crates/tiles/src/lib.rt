@@ -9,7 +9,7 @@ use settled::Snapshot;
 use usable::Usable;
 
 // Which coding is handed out, or why none.
-#[derive(Drop)]
+#[derive(Clone, Copy)]
 pub enum Choice {
     Newer,
     Older,

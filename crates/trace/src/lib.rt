@@ -11,7 +11,7 @@ pub use whole::{LONGEST, first_record};
 
 // The headers that are known: `trace=proc-1`; `trace=proc-2`, whose records print their holder; and `trace=proc-3`, which is
 // printed like that and has the two ops of pins.
-#[derive(Drop)]
+#[derive(Clone, Copy)]
 pub enum Version {
     Proc1,
     Proc2,
@@ -19,7 +19,7 @@ pub enum Version {
 }
 
 // The calls that a record can name.
-#[derive(Drop)]
+#[derive(Clone, Copy)]
 pub enum Op {
     Begin,
     End,
@@ -34,7 +34,7 @@ pub enum Op {
 }
 
 // One call of a captured run. A field that the op doesn't read is 0; `slot` is the pin's number for an op of pins.
-#[derive(Drop)]
+#[derive(Clone, Copy)]
 pub struct Record {
     pub op: Op,
     pub slot: u16,
@@ -46,7 +46,7 @@ pub struct Record {
 
 // What stands at a place: a record, with the place past it, or the first of its six lines, from 1,
 // that breaks a rule.
-#[derive(Drop)]
+#[derive(Clone, Copy)]
 pub enum RecordAt {
     Is(Record, usize),
     Broken(usize),
@@ -54,7 +54,7 @@ pub enum RecordAt {
 
 // What a whole text is: a header and so many records, or a trace that breaks a rule first at this line. Line 0
 // stands for an input that is too long.
-#[derive(Drop)]
+#[derive(Clone, Copy)]
 pub enum Reading {
     Whole(Version, usize),
     Broken(usize),

@@ -6,7 +6,7 @@ use crate::Op;
 use text::Reads;
 
 // An op, with the place past its line, or none.
-#[derive(Drop)]
+#[derive(Clone, Copy)]
 pub enum OpAt {
     Is(Op, usize),
     Unknown,

@@ -5,7 +5,7 @@ ghost use Rattle.trace.specs.Version.{of_pins, allowed};
 use crate::{Op, Version};
 
 // The header of a text, with the place past its line, or none that is known.
-#[derive(Drop)]
+#[derive(Clone, Copy)]
 pub enum HeaderAt {
     Is(Version, usize),
     Unknown,

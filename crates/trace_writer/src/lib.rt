@@ -10,7 +10,7 @@ pub use rows_reader::{RowsRead, read_rows};
 pub use write::write_trace;
 
 // The length of the text that was written, or refusal 20 or 12, with nothing written.
-#[derive(Drop)]
+#[derive(Clone, Copy)]
 pub enum Wrote {
     Length(usize),
     Refused(Refusal),

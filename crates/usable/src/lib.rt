@@ -8,7 +8,7 @@ ghost use Rattle.usable.specs.Usable.{UsableFits};
 use kinds::{Refusal, SLOTS, Txid};
 use settled::{Settled, Snapshot};
 
-#[derive(Drop)]
+#[derive(Clone, Copy)]
 pub enum Usable {
     Yes,
     No,

@@ -11,7 +11,7 @@ use model::Table;
 pub use wait_rules::Owner;
 
 // The table at the end of an accepted wait, or the entry table beside a refusal.
-#[derive(Drop)]
+#[derive(Clone, Copy)]
 pub struct WaitAnswer {
     pub table: Table,
     pub verdict: Verdict,

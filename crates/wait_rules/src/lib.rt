@@ -9,7 +9,7 @@ use kinds::{SlotNo, Txid};
 pub use rules::keeps_rule;
 
 // Whose slot must not be touched: nobody's, or that of a registration.
-#[derive(Drop)]
+#[derive(Clone, Copy)]
 pub enum Owner {
     Nobody,
     Holds { slot: SlotNo, id: Txid },
