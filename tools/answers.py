@@ -179,6 +179,49 @@ class Turn:
             out += t
         return out
 
+    def goal_labels(self, goal, function):
+        """The labels of the clauses that a goal covers, where there are several."""
+        if goal.startswith("returns"):
+            kinds, kind = self.clauses.get(function, []), "ensures"
+        else:
+            m = re.match(r"(\w+?)(-.*)?-requires(-\d+)?$", goal)
+            if not m:
+                return None
+            kinds, kind = self.clauses.get(m[1], []), "requires"
+        found = [k[kind] for k in kinds if len(k[kind]) > 1 and all(k[kind])]
+        return found[0] if found else None
+
+    def labelled(self, body, names):
+        """The last tuple of the body as a record with a field for each clause."""
+        text = body.rstrip()
+        if not text.endswith(")"):
+            return body
+        depth, i = 0, len(text) - 1
+        while i >= 0:
+            depth += {")": 1, "]": 1, "}": 1, "(": -1, "[": -1, "{": -1}.get(text[i], 0)
+            if depth == 0:
+                break
+            i -= 1
+        parts, depth, start = [], 0, i + 1
+        for j in range(i + 1, len(text) - 1):
+            depth += {"(": 1, "[": 1, "{": 1, ")": -1, "]": -1, "}": -1}.get(text[j], 0)
+            if depth == 0 and text[j] == ",":
+                parts.append(text[start:j].strip())
+                start = j + 1
+        parts.append(text[start:-1].strip())
+        if len(parts) == 1:
+            return self.labelled_inside(text, i, names) or body
+        if len(parts) != len(names):
+            self.left(f"a tuple of {len(parts)} for {len(names)} clauses")
+            return body
+        if text[:i].endswith(("omega ", "grind ", "search ", "rw ", "cc ", "simp ")):
+            return body
+        return text[:i] + "record { " + "; ".join(f"{n} = {x}" for n, x in zip(names, parts)) + " }"
+
+    def labelled_inside(self, text, i, names):
+        inner = self.labelled(text[i + 1 : -1], names)
+        return text[: i + 1] + inner + ")" if inner != text[i + 1 : -1] else None
+
     def along(self, env, fields):
         head = env[fields[0]]
         if head[0] == "place":
@@ -309,6 +352,9 @@ def turn_file(path, entry, crate, words, clauses):
             continue
         new, at = t.needs[plain(need)]
         body = t.body(m[3], at, args)
+        names = t.goal_labels(new, inside.split(".")[-1])
+        if names:
+            body = t.labelled(body, names)
         kept += 1
         out_a += d["comments"] + [f"pub {new} : goal.{new}"] + d["unfolding"] + [f"{new} {' '.join(args)} =" + body, ""]
     own = f"Rattle.{name}.proofs.{inside}"

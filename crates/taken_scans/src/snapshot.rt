@@ -4,9 +4,8 @@ ghost use Rattle.std.proofs.lemmas.List.Edits.{sets};
 ghost use Rattle.model.specs.Tally.{active, snapshot_of};
 ghost use Rattle.taken_scans.specs.Taken.{taken_of};
 
-use kinds::SLOTS;
-
 use crate::eight::all_empty;
+use kinds::SLOTS;
 use settled::Snapshot;
 use turns::shorter;
 

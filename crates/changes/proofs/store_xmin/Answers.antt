@@ -1,0 +1,24 @@
+-- Each case of a change: the column as the case of `stored_xmin` has it.
+use Rattle.model.specs.Stored.{stored_xmin}
+use borrow.Author.Rules.{rules}
+use Rattle.changes.proofs.store_xmin.Goals as goal
+
+pub returns-in-Stays : goal.returns-in-Stays
+unfolding stored_xmin
+returns-in-Stays c = rw c.in-Stays.is
+
+pub returns-in-Enters : goal.returns-in-Enters
+unfolding stored_xmin
+returns-in-Enters c = rw c.in-Enters.is c.store_at.ensures
+
+pub returns-in-Leaves : goal.returns-in-Leaves
+unfolding stored_xmin
+returns-in-Leaves c = rw c.in-Leaves.is c.store_at-in-Leaves.ensures
+
+pub returns-in-Retains : goal.returns-in-Retains
+unfolding stored_xmin
+returns-in-Retains c = rw c.in-Retains.is c.store_at-in-Retains.ensures
+
+pub returns-in-Pins : goal.returns-in-Pins
+unfolding stored_xmin
+returns-in-Pins c = rw c.in-Pins.is
