@@ -90,14 +90,23 @@ class Turn:
         fields = list(fields)
         while fields and fields[0] == "before":
             parent = self.e["places"][place][1]
-            if parent is None:
-                self.left("before the start")
-                return None
-            place = self.places[parent]
+            if parent is not None:
+                place = self.places[parent]
             fields.pop(0)
         if not fields:
             return ("place", place)
         step, rest = fields[0], fields[1:]
+        # the step by its name, here or nearest before the goal: the walk back may count other steps now
+        found = place
+        while found is not None and plain(self.e["places"][found][2][0]) != plain(step):
+            parent = self.e["places"][found][1]
+            found = None if parent is None else self.places[parent]
+        if found is None:
+            found = self.goal
+            while found is not None and plain(self.e["places"][found][2][0]) != plain(step):
+                parent = self.e["places"][found][1]
+                found = None if parent is None else self.places[parent]
+        place = place if found is None else found
         name, _, (old, new), callee, _ = self.e["places"][place]
         if step in ("args", "requires", "type-inv", "type_inv", "ranges", "well-formed", "well_formed", "utf8"):
             return ("value", "c." + step.replace("-", "_") + "".join("." + self.field(f) for f in rest), None, [])
@@ -138,6 +147,7 @@ class Turn:
     def body(self, text, at, names):
         """The body of an answer at the place `at`, where names are its arguments."""
         env = {"c": ("place", self.places.get(at))}
+        self.goal = self.places.get(at)
         if env["c"][1] is None:
             self.left(f"no place {at}")
         out, i = "", 0

@@ -1,14 +1,10 @@
 -- Both columns of a table have a place for each slot, and there are as many pins as there are, so what is stored is what the
 -- change says.
-use lib.ListN.{length-map}
 use Rattle.model.proofs.Stores.{stored_applied}
-use borrow.Author.Rules.{rules}
 use Rattle.changes.proofs.apply.Goals as goal
 
 pub returns : goal.returns
 returns c =
-    let txids = simp length-map at c.well_formed.0.1.1.0.1.0.1 in
-    let xmins = simp length-map at c.well_formed.0.1.1.1.0.1.0.1 in
-    let pins = simp length-map at c.well_formed.0.1.1.1.1.0.1.0.1 in
-    stored_applied _ c.args.table c.args.change txids xmins pins c.store_txid.ensures
+    let w = c.well_formed.0.1.1 in
+    stored_applied _ c.args.table c.args.change w.0.1.0.1 w.1.0.1.0.1 w.1.1.0.1.0.1 c.store_txid.ensures
     c.store_xmin.ensures c.store_pin.ensures

@@ -6,7 +6,7 @@ use Rattle.changes.proofs.store_at.Goals as goal
 
 pub returns-then-i-lt-SLOTS : goal.returns-then-i-lt-SLOTS
 unfolding stored_at
-returns-then-i-lt-SLOTS c = rw (lt-ltb _ _ c.if1.true)
+returns-then-i-lt-SLOTS c = rw (lt-ltb _ _ c.if-i-lt-SLOTS.true)
 
 pub returns-else-i-lt-SLOTS : goal.returns-else-i-lt-SLOTS
 unfolding stored_at

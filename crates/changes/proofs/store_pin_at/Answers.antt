@@ -6,7 +6,7 @@ use Rattle.changes.proofs.store_pin_at.Goals as goal
 
 pub returns-then-i-lt-PINS : goal.returns-then-i-lt-PINS
 unfolding stored_at
-returns-then-i-lt-PINS c = rw (lt-ltb _ _ c.if1.true)
+returns-then-i-lt-PINS c = rw (lt-ltb _ _ c.if-i-lt-PINS.true)
 
 pub returns-else-i-lt-PINS : goal.returns-else-i-lt-PINS
 unfolding stored_at

@@ -60,7 +60,7 @@ pub returns-then-count-eq0 : goal.returns-then-count-eq0
 returns-then-count-eq0 c =
     let loop = c.loop-i in
     let h = over _ c.args.txids.now loop.invariant.1 c.shorter-end.ensures (omega arith) in
-    (scanned-nothing loop.invariant.1 h c.if-count-eq0.true, scanned-ids loop.invariant.1 h)
+    record { value = scanned-nothing loop.invariant.1 h c.if-count-eq0.true; ids_after = scanned-ids loop.invariant.1 h }
 
 pub shape_of-ids : goal.shape_of-ids
 shape_of-ids c = c.loop-i.invariant.0
@@ -71,4 +71,4 @@ returns c =
     let a = c.args in
     let h = over _ a.txids.now loop.invariant.1 c.shorter-end.ensures (omega arith) in
     let xmax = c.greater-xmax.ensures ∙ ap (max a.sample) c.saturating_next-above.ensures in
-    (scanned-some loop.invariant.1 h c.if-count-eq0.false xmax, scanned-ids loop.invariant.1 h)
+    record { value = scanned-some loop.invariant.1 h c.if-count-eq0.false xmax; ids_after = scanned-ids loop.invariant.1 h }
