@@ -187,7 +187,8 @@ class Turn:
                 if r and r[0] == "place":
                     self.left(f"a place stands alone: {t}")
             out += t
-        return out
+        # an array's length is said of the array itself now
+        return re.sub(r"simp length-map at (c\.well_formed[\w.]*)", r"\1", out)
 
     def goal_labels(self, goal, function):
         """The labels of the clauses that a goal covers, where there are several."""
