@@ -5,7 +5,7 @@ ghost use Rattle.std.specs.Prelude.{◌≡◌};
 ghost use Rattle.model.specs.Tables.{lent_txids};
 ghost use Rattle.model.specs.Calls.{end, decision, outcome};
 
-use kinds::{SlotNo, SLOTS, Txid, Verdict};
+use kinds::{SLOTS, SlotNo, Txid, Verdict};
 use model::{Answer, Change, Counters, Decision, Outcome, SlotChange, Table};
 
 // What end decides, for who owns the table in place and so makes the change there. Refusals 2, 4, 3, in this order.
