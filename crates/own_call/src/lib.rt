@@ -5,7 +5,7 @@ ghost use Rattle.std.specs.Prelude.{◌≡◌};
 ghost use Rattle.model.specs.Tables.{lent_slots};
 ghost use Rattle.model.specs.Calls.{own, refusal, snapshot_decision, snapshot_outcome};
 
-use kinds::{SlotNo, SLOTS, Txid, Verdict};
+use kinds::{SLOTS, SlotNo, Txid, Verdict};
 use model::{Answer, Change, Counters, SlotChange, SnapshotDecision, SnapshotOutcome, Table};
 use refused::refused_snapshot;
 
