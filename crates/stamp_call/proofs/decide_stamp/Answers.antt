@@ -1,0 +1,18 @@
+-- Each arm of the code is a line of the model, by the verdict that led there (model's proofs/Decides.antt, crate's
+-- proofs/Accepted.antt).
+use mathlib.Core.Path.{refl, sym, ◌∙◌}
+use Rattle.model.specs.Calls.{refusal}
+use Rattle.model.proofs.Decides.{refused-decides}
+use Rattle.stamp_call.proofs.Accepted.{stamp-accepted}
+use borrow.Author.Rules.{rules}
+use Rattle.stamp_call.proofs.decide_stamp.Goals as goal
+
+pub returns-in-Refuse : goal.returns-in-Refuse
+unfolding refusal
+returns-in-Refuse c =
+    refused-decides _ _ _ refl (sym c.reservation_test-verdict.ensures ∙ c.in-Refuse.is)
+
+pub returns-in-Pass : goal.returns-in-Pass
+returns-in-Pass c =
+    let passed = sym c.reservation_test-verdict.ensures ∙ c.in-Pass.is in
+    stamp-accepted _ _ _ c.reserved-counters.ensures passed
