@@ -7,7 +7,7 @@ ghost use Rattle.model.specs.Tables.{lent_txids};
 ghost use Rattle.model.specs.Tests.{owner_test, reservation_test};
 ghost use Rattle.model.specs.Calls.{finish, decision, outcome};
 
-use kinds::{SlotNo, SLOTS, Stamp, Txid, Verdict};
+use kinds::{SLOTS, SlotNo, Stamp, Txid, Verdict};
 use model::{Answer, Change, Counters, Decision, Outcome, SlotChange, Table};
 
 // Refusals 2, 4, 3, 5, 6, 13, in this order.
