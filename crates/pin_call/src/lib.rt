@@ -6,7 +6,7 @@ ghost use Rattle.std.specs.Prelude.{◌≡◌};
 ghost use Rattle.model.specs.Tables.{lent_to_pin};
 ghost use Rattle.model.specs.Calls.{pin, snapshot_decision, snapshot_outcome};
 
-use kinds::{PinNo, PINS, Refusal, SLOTS, Verdict};
+use kinds::{PINS, PinNo, Refusal, SLOTS, Verdict};
 use model::{Answer, Change, Counters, SlotChange, SnapshotDecision, SnapshotOutcome, Table};
 use refused::refused_snapshot;
 
