@@ -188,7 +188,9 @@ class Turn:
                     self.left(f"a place stands alone: {t}")
             out += t
         # an array's length is said of the array itself now
-        return re.sub(r"simp length-map at (c\.well_formed[\w.]*)", r"\1", out)
+        out = re.sub(r"simp length-map at (c\.well_formed[\w.]*)", r"\1", out)
+        # a test of `!b` says what `b` is
+        return re.sub(r"\bnot-(?:true|false) \S+ (c\.[\w-]*-not-[\w-]+\.(?:true|false))", r"\1", out)
 
     def goal_labels(self, goal, function):
         """The labels of the clauses that a goal covers, where there are several."""
@@ -220,6 +222,16 @@ class Turn:
                 parts.append(text[start:j].strip())
                 start = j + 1
         parts.append(text[start:-1].strip())
+        while len(parts) < len(names) and parts[-1].startswith("(") and parts[-1].endswith(")"):
+            inner, depth, start, more = parts[-1][1:-1], 0, 0, []
+            for j, ch in enumerate(inner):
+                depth += {"(": 1, "[": 1, "{": 1, ")": -1, "]": -1, "}": -1}.get(ch, 0)
+                if depth == 0 and ch == ",":
+                    more.append(inner[start:j].strip())
+                    start = j + 1
+            if not more:
+                break
+            parts[-1:] = more + [inner[start:].strip()]
         if len(parts) == 1:
             return self.labelled_inside(text, i, names) or body
         if len(parts) != len(names):
@@ -336,6 +348,8 @@ def turn_file(path, entry, crate, words, clauses):
             to[p] = f"l.{i}{v}"
 
         def swap(w):
+            if re.search(r"[{;]\s*$", body[: w.start()]) and re.match(r"\s*=\s", body[w.end() :]):
+                return w[0]
             fields = w[0].split(".")
             if fields[0] in to:
                 return ".".join([to[fields[0]]] + [t.field(f) for f in fields[1:]])

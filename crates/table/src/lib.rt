@@ -7,14 +7,13 @@ mod holds;
 ghost use Rattle.std.specs.Prelude.{◌≡◌};
 ghost use Rattle.model.specs.Tables.{fresh_table};
 
-use kinds::SLOTS;
-
 pub use begin_call::{begin_transaction, decide_begin};
 pub use changes::{apply, store_pin, store_txid, store_xmin};
 pub use clock_verdicts::observation_test;
 pub use end_call::{decide_end, end_transaction};
 pub use finish_call::{decide_finish, finish_transaction};
 pub use holds::{promise_holds, rows_hold};
+use kinds::SLOTS;
 pub use model::{
     Answer, Change, Counters, Decision, Outcome, SlotChange, SnapshotDecision, SnapshotOutcome,
     Table,
