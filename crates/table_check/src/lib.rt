@@ -10,7 +10,6 @@ ghost use Rattle.model.specs.Check.{table_passes};
 ghost use Rattle.model.specs.Tables.{lent};
 
 use kinds::SLOTS;
-
 use model::{Counters, Table};
 
 // The check on lent columns of any length.

@@ -1,0 +1,15 @@
+-- The invariant: whether x stands from the first place on is whether it stands from place i on (settled's proofs/Listed.antt).
+use Prim.Native.Nat.{◌-◌}
+use mathlib.Core.Path.{◌≡◌, refl, sym, ◌∙◌}
+use native.Mathlib.Omega.{arith}
+use borrow.Author.Rules.{rules}
+use lib.ListN.{length, drop}
+use Rattle.listed.specs.Listed.{listed}
+use Rattle.listed.proofs.Listed.{listed_here, listed-later, listed-over}
+use Rattle.differ.proofs.stands_from.Given as goal
+
+abbrev pub invariant-loop-i : goal.invariant-loop-i
+invariant-loop-i l = listed l.x (drop l.from l.txids) ≡ listed l.x (drop l.i l.txids)
+
+abbrev pub decreases-loop-i : goal.decreases-loop-i
+decreases-loop-i l = length l.txids - l.i
