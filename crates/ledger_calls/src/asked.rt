@@ -4,12 +4,11 @@ ghost use Rattle.model.specs.Tables.{lent};
 ghost use Rattle.ledger_calls.specs.Rows.{call_of};
 ghost use Rattle.ledger_calls.specs.Deeds.{did_by};
 
-use kinds::SLOTS;
-
 use crate::Did;
 use crate::op::{Op, op_of};
 use crate::slots::{begun, ended, finished, stamped};
 use crate::views::{oldest_found, owned, pinned, snapped, unpinned, vacuumed};
+use kinds::SLOTS;
 use model::Counters;
 
 // What the call does on these columns and counters, and what it answers. A pin's number stands where a slot's does.

@@ -1,0 +1,6 @@
+-- The clock is held at the top.
+use borrow.Author.Rules.{rules}
+use Rattle.ledger_calls.proofs.parts.past.Goals as goal
+
+pub returns : goal.returns
+returns c = rw c.saturating_next-clock.ensures

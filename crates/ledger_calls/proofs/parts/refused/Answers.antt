@@ -1,0 +1,6 @@
+-- Its answer stands beside a deed that moves nothing.
+use borrow.Author.Rules.{rules}
+use Rattle.ledger_calls.proofs.parts.refused.Goals as goal
+
+pub returns : goal.returns
+returns c = rw (c.stays.ensures, c.plain-numbers.ensures)
