@@ -1,0 +1,16 @@
+-- `number_at` meets its contract.
+use Prim.Native.Nat.{◌≤◌, ◌-◌}
+use mathlib.Core.Path.{◌≡◌, sym, ◌∙◌}
+use mathlib.Core.Bool.{true, false}
+use native.Mathlib.Omega.{arith}
+use borrow.Author.Tests.{le-leb, lt-leb, not-true, not-false}
+use lib.ListN.{length, drop, get_or}
+use Rattle.text.specs.Decimal.{number_tail, number_at}
+use Rattle.text.proofs.Numbers.{start_none, start-step, tail_none, tail-ends, tail-goes, went}
+use Rattle.text.proofs.read.number_at.Given as goal
+
+abbrev pub invariant-loop-i : goal.invariant-loop-i
+invariant-loop-i l = (l.i ≤ length l.s) × (number_at l.s l.at ≡ number_tail (drop l.i l.s) l.n l.i)
+
+abbrev pub decreases-loop-i : goal.decreases-loop-i
+decreases-loop-i l = length l.s - l.i
