@@ -98,19 +98,19 @@ class Turn:
         step, rest = fields[0], fields[1:]
         # the step by its name, here or nearest before the goal: the walk back may count other steps now
         found = place
-        while found is not None and plain(self.e["places"][found][2][0]) != plain(step):
+        while found is not None and plain(self.e["places"][found][2][0]) .lower() != plain(step).lower():
             parent = self.e["places"][found][1]
             found = None if parent is None else self.places[parent]
         if found is None:
             found = self.goal
-            while found is not None and plain(self.e["places"][found][2][0]) != plain(step):
+            while found is not None and plain(self.e["places"][found][2][0]) .lower() != plain(step).lower():
                 parent = self.e["places"][found][1]
                 found = None if parent is None else self.places[parent]
         place = place if found is None else found
         name, _, (old, new), callee, _ = self.e["places"][place]
         if step in ("args", "requires", "type-inv", "type_inv", "ranges", "well-formed", "well_formed", "utf8"):
             return ("value", "c." + step.replace("-", "_") + "".join("." + self.field(f) for f in rest), None, [])
-        if plain(step) != plain(old):
+        if plain(step).lower() != plain(old).lower():
             # a step may be named by the place it leads to
             self.left(f"{name} has the step {old}, not {step}")
             return None

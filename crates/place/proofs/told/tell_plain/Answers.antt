@@ -2,4 +2,8 @@ use borrow.Author.Rules.{rules}
 use Rattle.place.proofs.told.tell_plain.Goals as goal
 
 pub returns : goal.returns
-returns c = rw (← c.before.before.before.before.Numbers-of.ensures) c.tell.ensures
+returns c =
+    record {
+      value = rw (← c.numbers_of-numbers.ensures) c.tell.ensures.value;
+      out_after = rw (← c.numbers_of-numbers.ensures) c.tell.ensures.out_after;
+    }
