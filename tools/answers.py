@@ -76,6 +76,7 @@ class Turn:
         for (old, new), at in zip(entry["needs"], entry["asked_at"]):
             self.needs.setdefault(plain(old), (new, at[0]))
         self.said = []
+        self.function = where.split(".")[-1]
 
     def left(self, what):
         self.said.append(f"left: {self.where}: {what}")
@@ -108,6 +109,10 @@ class Turn:
                 found = None if parent is None else self.places[parent]
         place = place if found is None else found
         name, _, (old, new), callee, _ = self.e["places"][place]
+        if step == "requires" and rest[:1] and rest[0].isdigit():
+            own = [k["requires"] for k in self.clauses.get(self.function, []) if len(k["requires"]) > int(rest[0]) and all(k["requires"])]
+            if own:
+                rest = [own[0][int(rest[0])]] + rest[1:]
         if step in ("args", "requires", "type-inv", "type_inv", "ranges", "well-formed", "well_formed", "utf8"):
             return ("value", "c." + step.replace("-", "_") + "".join("." + self.field(f) for f in rest), None, [])
         if plain(step).lower() != plain(old).lower():
@@ -151,7 +156,7 @@ class Turn:
         if env["c"][1] is None:
             self.left(f"no place {at}")
         out, i = "", 0
-        token = re.compile(r"let (\w[\w'₀]*) = (" + PATH + r") in(?=\s)|\"(?:[^\"\\]|\\.)*\"|--[^\n]*|[^\s(){}\[\],;:=\"«»\\]+|[\s\S]")
+        token = re.compile(r"let (\w[\w'₀-]*) = (" + PATH + r") in(?=\s)|\"(?:[^\"\\]|\\.)*\"|--[^\n]*|[^\s(){}\[\],;:=\"«»\\]+|[\s\S]")
         while i < len(text):
             m = token.match(text, i)
             i = m.end()
@@ -343,9 +348,17 @@ def turn_file(path, entry, crate, words, clauses):
         to = {}
         names = [(v, "initial." if c else "") for v, c in zip(vs, ch)] + [(v, "") for v, c in zip(vs, ch) if c]
         if len(params) != len(names):
-            t.left(f"{kind}-{loop} has {len(params)} parameters for {len(names)}")
-        for p, (v, i) in zip(params, names):
-            to[p] = f"l.{i}{v}"
+            # the constants of the source are no parameters now
+            known = {v.replace("_", "-"): (v, c) for v, c in zip(vs, ch)}
+            for p in params:
+                v, c = known.get(p.rstrip("₀").replace("_", "-"), (None, None))
+                if v:
+                    to[p] = f"l.initial.{v}" if p.endswith("₀") and c else f"l.{v}"
+                else:
+                    t.left(f"{kind}-{loop} has the parameter {p}, and no variable")
+        else:
+            for p, (v, i) in zip(params, names):
+                to[p] = f"l.{i}{v}"
 
         def swap(w):
             if re.search(r"[{;]\s*$", body[: w.start()]) and re.match(r"\s*=\s", body[w.end() :]):

@@ -88,14 +88,18 @@ told-fits out a s = rw (le-ltb _ _ s.room)
 module _ (shape n : ℕ) (ws : List ℕ) (c : Call) where
   abbrev pub Kept : ℕ → List ℕ → List ℕ → List ℕ → Type 0
   Kept k ws' out out' =
-      (k ≡ numberBy shape n ws c) × ((ws' ≡ tableBy shape n ws c) × (out' ≡ outBy shape n ws c out))
+      record {
+        result_value : k ≡ numberBy shape n ws c;
+        table_after : ws' ≡ tableBy shape n ws c;
+        out_after : out' ≡ outBy shape n ws c out;
+      }
 
   -- a shape that does not fit
   pub unfit : {s : ℕ} → s ≡ shape → (s ≡ 0 → ⊥) → (out : List ℕ) → Kept s ws out out
   unfolding numberBy tableBy outBy
   unfit e h out =
       let b = ne_eqb shape 0 (λ z. h (e ∙ z)) in
-      (rw b e, (rw b, rw b))
+      record { result_value = rw b e; table_after = rw b; out_after = rw b }
 
   pub unfit-ids : {s : ℕ} → s ≡ shape → (s ≡ 0 → ⊥) → (ids : List ℕ) → ids ≡ idsBy shape n ws c ids
   unfolding idsBy
@@ -109,7 +113,9 @@ module _ (shape n : ℕ) (ws : List ℕ) (c : Call) where
   unfolding numberBy tableBy outBy
   called out fit s e none k w o =
       let b = eq-eqb shape 0 fit in
-      let p = plain-said n (table_of n ws) c e none in (
-        rw b (k ∙ ap (λ (a : Numbers). a.told.number) p),
-        (rw b (w ∙ stored_after n ws c s e), rw b (o ∙ told-fits out _ s ∙ ap (λ (a : Numbers). sets out 0 (answer_words a)) p)),
-      )
+      let p = plain-said n (table_of n ws) c e none in
+      record {
+        result_value = rw b (k ∙ ap (λ (a : Numbers). a.told.number) p);
+        table_after = rw b (w ∙ stored_after n ws c s e);
+        out_after = rw b (o ∙ told-fits out _ s ∙ ap (λ (a : Numbers). sets out 0 (answer_words a)) p);
+      }
