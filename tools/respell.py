@@ -17,7 +17,7 @@ import sys
 W = r"[^\s(){}\[\].;,:@\"«»\\∷λ]+"
 HEAD = r"(?:abbrev pub |unfoldable pub |pub |abbrev |unfoldable |mutual )?"
 # where two names would fall together, the lemma is told apart; a name that the library has too stays
-APART = {"frees-pin": "frees_the_pin", "and-false": "and-false"}
+APART = {"frees-pin": "frees_the_pin", "and-false": "and-false", "tableAfter": "table_left", "outAfter": "out_left", "goes_on": "goes_on", "record_of": "record_of"}
 
 
 def read(path):
@@ -43,7 +43,16 @@ def declared(root):
     for path in files(root, ".antt"):
         text = read(path)
         in_block = False
+        nested = None
         for line in text.split("\n"):
+            # what stands in a module with parameters
+            at = len(line) - len(line.lstrip(" "))
+            if re.match(r" *module _\b", line):
+                nested = at if nested is None else min(nested, at)
+            m = re.match(rf" +(?:abbrev pub |unfoldable pub |pub )({W})(?= |:)", line)
+            if m and nested is not None and at > nested and not in_block:
+                tops.setdefault(m[1], path)
+                continue
             m = re.match(rf"{HEAD}(data|record) ", line)
             if m:
                 in_block = True
@@ -86,7 +95,7 @@ def table(root):
     taken = {}
     for name, new in sorted(to.items(), key=lambda it: ("-" in it[0] or "/proofs/" in tops.get(it[0], ""), it[0])):
         taken.setdefault(new, name)
-        if taken[new] != name:
+        if taken[new] != name and name not in APART:
             to[name] = new + "_lem"
     return {name: new for name, new in to.items() if name != new}, set(inner)
 

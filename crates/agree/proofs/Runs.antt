@@ -29,7 +29,7 @@ use Rattle.same_bytes.specs.Same.{equal_bytes}
 use Rattle.second_text.specs.Second.{said_text, second_text}
 use Rattle.agree.specs.Both.{BothFits}
 use Rattle.same_bytes.proofs.Equal.{equal_itself}
-use Rattle.second_text.proofs.Printed.{never-full, end_is, front-is, front-count, front-inside, prints_same}
+use Rattle.second_text.proofs.Printed.{never_full, end_is, front_is, front_count, front_inside, prints_same}
 use Rattle.agree.proofs.Named.{row_names}
 
 -- the table t is the one that the rows reach
@@ -71,26 +71,26 @@ module _ (v : Version) (n : ℕ) (rows : List (List ℕ)) (r : Record) (t : Tabl
           ∙ ap (λ (k : ℕ). put_text v n zeros 0 k (printed v n t (call_of r))) (sym counted)
           ∙ ap (λ (x : List ℕ). put_text v n zeros 0 said.numbers.count x) (sym texted)
 
-      pub both-room : o.put ≡ NoRoom → ⊥
+      pub both_room : o.put ≡ NoRoom → ⊥
       unfolding said
-      both-room p = never-full v n rows (row_of r) refl zeros size put_is p
+      both_room p = never_full v n rows (row_of r) refl zeros size put_is p
 
       module _ {end : ℕ} (p : o.put ≡ Past end) where
         both_end : end ≡ length (said_text v said)
         unfolding said
         both_end = end_is v n rows (row_of r) refl zeros size put_is p
 
-        pub both-inside : end ≤ length buf
+        pub both_inside : end ≤ length buf
         unfolding said
-        both-inside = front-inside v n rows (row_of r) refl zeros size left_is both_end
+        both_inside = front_inside v n rows (row_of r) refl zeros size left_is both_end
 
-        pub both-count : end ≡ length (take end buf)
+        pub both_count : end ≡ length (take end buf)
         unfolding said
-        both-count = front-count v n rows (row_of r) refl zeros size left_is both_end
+        both_count = front_count v n rows (row_of r) refl zeros size left_is both_end
 
         both-front : take end buf ≡ second_text v n rows (row_of r)
         unfolding said
-        both-front = front-is v n rows (row_of r) refl zeros size left_is both_end
+        both-front = front_is v n rows (row_of r) refl zeros size left_is both_end
 
         pub both-fits :
             {row : List ℕ} {held : Bool} → row ≡ row_of r → held ≡ equal_bytes (take end buf) (second_text v n rows row) →

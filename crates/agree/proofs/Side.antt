@@ -27,9 +27,9 @@ use Rattle.trace.specs.declared.RecordAt.TheVariants.{Is, Broken}
 use Rattle.trace.specs.Trace.{trace_grammar, reading, records_from, first_record, Boundary}
 use Rattle.trace.specs.Record.{any_form, record_at}
 use Rattle.trace.proofs.Shape.{trace_grammar_lem, any_facts}
-use Rattle.trace.proofs.Answers.{reading-is, record_is}
+use Rattle.trace.proofs.Answers.{reading_is, record_is}
 use Rattle.grammar.proofs.Laws.{opened}
-use Rattle.grammar.proofs.Walk.{next-item, none-broken}
+use Rattle.grammar.proofs.Walk.{next_item, none_broken}
 use Rattle.record_rows.specs.Rows.{row_of}
 use Rattle.trace_writer.proofs.Laws.{most-records}
 use Rattle.step.specs.Named.{call_of}
@@ -45,9 +45,9 @@ module _ (most : ℕ) (calls : List (List ℕ)) (used : ℕ) (row : List ℕ) {k
     pub next : u ≡ used + 1
     pub list : cs ≡ set calls used row
 
-  pub kept-last : {u : ℕ} {cs : List (List ℕ)} → cs ≡ kept_run most calls used row → k ≡ Used u → Last u cs
+  pub kept_last : {u : ℕ} {cs : List (List ℕ)} → cs ≡ kept_run most calls used row → k ≡ Used u → Last u cs
   unfolding kept_answer kept_run
-  kept-last {u} {cs} l p = go (ltb used most) refl
+  kept_last {u} {cs} l p = go (ltb used most) refl
     where
       go : (b : Bool) → ltb used most ≡ b → Last u cs
       go true q =
@@ -84,22 +84,22 @@ calls_snoc [] row = refl
 calls_snoc (r ∷ rows) row = ap (λ (cs : List Call). row_call r ∷ cs) (calls_snoc rows row)
 
 module _ (n : ℕ) (s : List ℕ) (v : Version) where
-  pub side-start : (calls : List (List ℕ)) → Side n s v (fresh_table n) calls 0 first_record
+  pub side_start : (calls : List (List ℕ)) → Side n s v (fresh_table n) calls 0 first_record
   unfolding run
-  side-start calls =
+  side_start calls =
       record {
         table = refl;
         ahead = λ count h.
-            let b = opened trace_grammar trace_grammar_lem s v count (reading-is s h) in
+            let b = opened trace_grammar trace_grammar_lem s v count (reading_is s h) in
             record { boundary = b.boundary; few = omega (arith, most-records s v (records_from s first_record) b.items) };
       }
 
   module _ {t : Table} {calls : List (List ℕ)} {used at : ℕ} (w : Side n s v t calls used at) where
     -- one record more
-    pub side-more :
+    pub side_more :
         (r : Record) (e : ℕ) {u : Table} {cs : List (List ℕ)} → used < length calls → record_at s at ≡ Is r e →
         cs ≡ set calls used (row_of r) → u ≡ after n t (call_of r) → Side n s v u cs (used + 1) e
-    side-more r e {u} {cs} room q l made =
+    side_more r e {u} {cs} room q l made =
         let rows = take used calls in
         let list : take (used + 1) cs ≡ rows ++ row_of r ∷ [] = rw (l, add-one) (take-suc-set calls used (row_of r) room) in
         let again = run_snoc n (fresh_table n) (calls_of rows) (row_call (row_of r)) in
@@ -109,20 +109,20 @@ module _ (n : ℕ) (s : List ℕ) (v : Version) where
           table = made ∙ rw (w.table, ← row_names r) (sym (rw list reach));
           ahead = λ count h.
               let a = w.ahead count h in
-              let m = next-item any_form any_facts s at r e a.boundary (record_is s at q) in
+              let m = next_item any_form any_facts s at r e a.boundary (record_is s at q) in
               record { boundary = m.again; few = omega (arith, a.few, ap length m.first) };
         }
 
     -- the table has its facts: the lengths of its columns are among them
-    pub side-good : Good n t
-    side-good = rw w.table (good-reached n (calls_of (take used calls)))
+    pub side_good : Good n t
+    side_good = rw w.table (good-reached n (calls_of (take used calls)))
 
     -- before its end a trace has a record, and the list has room for it
-    pub side-broken : {k : ℕ} (count : ℕ) → reading s ≡ Whole v count → (at ≡ length s → ⊥) → record_at s at ≡ Broken k → ⊥
-    side-broken {k} count h more q = none-broken any_form any_facts s at k (w.ahead count h).boundary more (record_is s at q)
+    pub side_broken : {k : ℕ} (count : ℕ) → reading s ≡ Whole v count → (at ≡ length s → ⊥) → record_at s at ≡ Broken k → ⊥
+    side_broken {k} count h more q = none_broken any_form any_facts s at k (w.ahead count h).boundary more (record_is s at q)
 
-    pub side-few : (count : ℕ) → reading s ≡ Whole v count → used ≤ 1489
-    side-few count h = omega (arith, (w.ahead count h).few)
+    pub side_few : (count : ℕ) → reading s ≡ Whole v count → used ≤ 1489
+    side_few count h = omega (arith, (w.ahead count h).few)
 
 -- n is the number of slots of the table that the loop begins with
 pub side_from :

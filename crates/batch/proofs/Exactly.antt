@@ -52,16 +52,16 @@ decision-at line (v ∷ vs) rest zero h = refl
 decision-at line (v ∷ vs) rest (suc i) h = decision-at line vs rest i (le_of_suc-le-suc h)
 
 module _ (line : ℕ) (versions : List (List ℕ)) (run : List ℕ) where
-  pub decided-at :
+  pub decided_at :
       (i : ℕ) → batch_of versions (length run) ≡ Decided → i < length versions →
       get_or (decisions_left line versions run) i 0 ≡ decision_of line (ender (get_or versions i []))
   unfolding decisions_left
-  decided-at i e h = rw e (decision-at line versions (drop (length (decisions line versions)) run) i h)
+  decided_at i e h = rw e (decision-at line versions (drop (length (decisions line versions)) run) i h)
 
   -- places past the versions always keep what they held
-  pub past-kept : (i : ℕ) → length versions ≤ i → get_or (decisions_left line versions run) i 0 ≡ get_or run i 0
+  pub past_kept : (i : ℕ) → length versions ≤ i → get_or (decisions_left line versions run) i 0 ≡ get_or run i 0
   unfolding decisions_left
-  past-kept i h = go (batch_of versions (length run))
+  past_kept i h = go (batch_of versions (length run))
     where
       go : (b : Batched) → get_or (left_by b line versions run) i 0 ≡ get_or run i 0
       go Decided =

@@ -15,13 +15,13 @@ use Rattle.model.specs.Promise.{SettledBelow, line_after, Covered, Gives}
 use Rattle.model.proofs.Promise.{promise, vacuum_promise}
 use Rattle.batch.specs.Batch.{ender}
 use Rattle.batch.specs.Removal.{Removes, NoneNeeded, RemovalPromise}
-use Rattle.batch.proofs.Exactly.{goes_exactly, decided-at}
+use Rattle.batch.proofs.Exactly.{goes_exactly, decided_at}
 
 removed_ended :
     (line : ℕ) (versions : List (List ℕ)) (run : List ℕ) (i : ℕ) → Removes line versions run i →
     (ender (get_or versions i []) ≢ 0) × (ender (get_or versions i []) < line)
 removed_ended line versions run i r =
-    (goes_exactly line (ender (get_or versions i []))).0 (sym (decided-at line versions run i r.decided r.inside) ∙ r.goes)
+    (goes_exactly line (ender (get_or versions i []))).0 (sym (decided_at line versions run i r.decided r.inside) ∙ r.goes)
 
 none_needed : (line : ℕ) (s : Snapshot) → SettledBelow line s → NoneNeeded line s
 none_needed line s settles versions run i own r d =

@@ -43,23 +43,23 @@ module _ (vs : List (List ℕ)) (i : ℕ) where
       judged_from i (drop i vs) ≡ judged_from (i + 1) (drop (i + 1) vs)
   judged-next h e = judged-here h ∙ rw (← e)
 
-  pub judged-bad :
+  pub judged_bad :
       (r : Refusal) → i < length vs → Refuse r ≡ version_test (maker (get_or vs i [])) (ender (get_or vs i [])) →
       judged_from i (drop i vs) ≡ Refused r i
-  judged-bad r h e = judged-here h ∙ rw (← e)
+  judged_bad r h e = judged-here h ∙ rw (← e)
 
-  pub judged-over : length vs ≤ i → judged_from i (drop i vs) ≡ Decided
+  pub judged_over : length vs ≤ i → judged_from i (drop i vs) ≡ Decided
   unfolding judged_from
-  judged-over h = rw (drop_of_length-le vs h)
+  judged_over h = rw (drop_of_length-le vs h)
 
   module _ (line : ℕ) (run : List ℕ) where
     -- one more decision, and none left
-    pub sets-next :
+    pub sets_next :
         i < length vs →
         sets run i (decisions line (drop i vs))
         ≡ sets (set run i (decision_of line (ender (get_or vs i [])))) (i + 1) (decisions line (drop (i + 1) vs))
     unfolding decisions
-    sets-next h = rw (from h, add-one)
+    sets_next h = rw (from h, add-one)
 
     pub sets_over : length vs ≤ i → sets run i (decisions line (drop i vs)) ≡ run
     unfolding decisions

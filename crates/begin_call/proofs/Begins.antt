@@ -34,10 +34,10 @@ module _ (n : ℕ) (t : Table) (number : Stamp) where
       (e : reservation_test (clock_of t) number ≡ Pass) {id : Txid} (named : id ≡ txid_of number) {k : Counters}
       (past : k ≡ reserved_from number t.counters) {at : ℕ} (low : at ≡ lowest_empty t.txids) where
     -- the number is reserved, and the lowest empty slot entered
-    pub begin-free :
+    pub begin_free :
         at < n → record { change = change (Enters (slot at) id) k; answer = Begun (slot at) id } ≡ decision n t (begin number)
     unfolding refusal change_accepted change_of answer_accepted answer decision
-    begin-free h =
+    begin_free h =
         rw (named, past, low, e, lt-leb n (lowest_empty t.txids) (rw low at h), reserved-past (clock_of t) number t.counters e)
 
     -- 1: the number is reserved all the same

@@ -11,9 +11,9 @@ use borrow.Author.Tests.{eqb-true, eqb-false}
 use lib.ListN.{length, drop, get_or, set, drop_of_length-le}
 use lib.Seq.{get_or-set_same, get_or-set_other}
 use Rattle.listed.specs.Listed.{listed}
-use Rattle.listed.proofs.Listed.{listed_none, listed-later}
+use Rattle.listed.proofs.Listed.{listed_none, listed_later}
 use Rattle.model.specs.Check.{differ}
-use Rattle.differ.proofs.Rest.{differ-empty, differ-twice, differ-once}
+use Rattle.differ.proofs.Rest.{differ-empty, differ_twice, differ_once}
 
 abbrev pub Marked : ℕ → List ℕ → List ℕ → Type 0
 Marked k marks ids = (x : ℕ) → x ≢ 0 → listed x ids ≡ true → get_or marks (x % k) 0 ≢ 0
@@ -49,32 +49,32 @@ module _ (l : List ℕ) (i : ℕ) (h : 0 < i) (b : i ≤ length l) where
   inside : i - 1 < length l
   inside = omega (arith, h, b)
 
-  pub differ-back-empty : get_or l (i - 1) 0 ≡ 0 → differ (drop i l) ≡ true → differ (drop (i - 1) l) ≡ true
-  differ-back-empty e d = differ-empty l (i - 1) inside e ∙ rw back d
+  pub differ_back_empty : get_or l (i - 1) 0 ≡ 0 → differ (drop i l) ≡ true → differ (drop (i - 1) l) ≡ true
+  differ_back_empty e d = differ-empty l (i - 1) inside e ∙ rw back d
 
-  pub differ-back-once :
+  pub differ_back_once :
       get_or l (i - 1) 0 ≢ 0 → listed (get_or l (i - 1) 0) (drop (i - 1 + 1) l) ≡ false → differ (drop i l) ≡ true →
       differ (drop (i - 1) l) ≡ true
-  differ-back-once e q d = differ-once l (i - 1) inside e q ∙ rw back d
+  differ_back_once e q d = differ_once l (i - 1) inside e q ∙ rw back d
 
-  pub differ-back-twice :
+  pub differ_back_twice :
       get_or l (i - 1) 0 ≢ 0 → listed (get_or l (i - 1) 0) (drop (i - 1 + 1) l) ≡ true → differ l ≡ false
-  differ-back-twice e q = differ_part l (i - 1) (differ-twice l (i - 1) inside e q)
+  differ_back_twice e q = differ_part l (i - 1) (differ_twice l (i - 1) inside e q)
 
   module _ (k : ℕ) (marks : List ℕ) (m : Marked k marks (drop i l)) where
-    pub unmarked-back : (x : ℕ) → x ≢ 0 → get_or marks (x % k) 0 ≡ 0 → listed x (drop (i - 1 + 1) l) ≡ false
-    unmarked-back x z e = rw back (unmarked k marks (drop i l) x m z e)
+    pub unmarked_back : (x : ℕ) → x ≢ 0 → get_or marks (x % k) 0 ≡ 0 → listed x (drop (i - 1 + 1) l) ≡ false
+    unmarked_back x z e = rw back (unmarked k marks (drop i l) x m z e)
 
     -- one that is not there, or another
     later : (x : ℕ) → get_or l (i - 1) 0 ≢ x → listed x (drop (i - 1) l) ≡ true → listed x (drop i l) ≡ true
-    later x n e = rw back at (sym (listed-later x l (i - 1) inside n) ∙ e)
+    later x n e = rw back at (sym (listed_later x l (i - 1) inside n) ∙ e)
 
-    pub marked-back-empty : get_or l (i - 1) 0 ≡ 0 → Marked k marks (drop (i - 1) l)
-    marked-back-empty e x z q = m x z (later x (λ p. z (sym p ∙ e)) q)
+    pub marked_back_empty : get_or l (i - 1) 0 ≡ 0 → Marked k marks (drop (i - 1) l)
+    marked_back_empty e x z q = m x z (later x (λ p. z (sym p ∙ e)) q)
 
-    pub marked-back :
+    pub marked_back :
         (at : ℕ) → at ≡ get_or l (i - 1) 0 % k → at < length marks → Marked k (set marks at 1) (drop (i - 1) l)
-    marked-back at a r x z q = go (eqb (x % k) at) refl
+    marked_back at a r x z q = go (eqb (x % k) at) refl
       where
         go : (b : Bool) → eqb (x % k) at ≡ b → get_or (set marks at 1) (x % k) 0 ≢ 0
         go true t =

@@ -14,17 +14,17 @@ module _ (l : List ℕ) (i : ℕ) where
   unfolding differ
   differ-empty h e = rw (from l i h, eq-eqb _ _ e)
 
-  pub differ-twice :
+  pub differ_twice :
       i < length l → (get_or l i 0 ≡ 0 → ⊥) → listed (get_or l i 0) (drop (i + 1) l) ≡ true → differ (drop i l) ≡ false
   unfolding differ
-  differ-twice h e q = rw (from l i h, ne_eqb _ _ e, q)
+  differ_twice h e q = rw (from l i h, ne_eqb _ _ e, q)
 
-  pub differ-once :
+  pub differ_once :
       i < length l → (get_or l i 0 ≡ 0 → ⊥) → listed (get_or l i 0) (drop (i + 1) l) ≡ false →
       differ (drop i l) ≡ differ (drop (i + 1) l)
   unfolding differ
-  differ-once h e q = rw (from l i h, ne_eqb _ _ e, q)
+  differ_once h e q = rw (from l i h, ne_eqb _ _ e, q)
 
-  pub differ-none : length l ≤ i → differ (drop i l) ≡ true
+  pub differ_none : length l ≤ i → differ (drop i l) ≡ true
   unfolding differ
-  differ-none h = rw (drop_of_length-le l h)
+  differ_none h = rw (drop_of_length-le l h)

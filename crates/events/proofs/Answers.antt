@@ -7,7 +7,7 @@ use Rattle.grammar.specs.Names as name
 use Rattle.grammar.specs.Items.{ItemAt}
 use Rattle.grammar.specs.Items as item
 use Rattle.grammar.specs.Texts.{Count, Many, Refused, count_text}
-use Rattle.grammar.proofs.Said.{name-said, item-said, count-said}
+use Rattle.grammar.proofs.Said.{name_said, item_said, count_said}
 use Rattle.events.specs.Kind.{kind_names, kind_at}
 use Rattle.events.specs.Event.{event_form, event_at}
 use Rattle.events.specs.Wait.{Header, Wait1, wait_format, reading}
@@ -37,15 +37,15 @@ whole_means : (h : Header) (n : ℕ) → reading_meant (reading.Whole n) ≡ Man
 whole_means Wait1 n = refl
 
 module _ (s : List ℕ) where
-  pub reading-is : {a : Reading} → reading s ≡ a → count_text wait_format s ≡ reading_meant a
+  pub reading_is : {a : Reading} → reading s ≡ a → count_text wait_format s ≡ reading_meant a
   unfolding reading
-  reading-is h = count-said (λ h n. reading.Whole n) reading.Broken reading_meant whole_means (λ k. refl) (count_text wait_format s) h
+  reading_is h = count_said (λ h n. reading.Whole n) reading.Broken reading_meant whole_means (λ k. refl) (count_text wait_format s) h
 
   module _ (at : ℕ) where
     pub kind_is : {a : KindAt} → kind_at s at ≡ a → name_at kind_names s at ≡ kind_meant a
     unfolding kind_at
-    kind_is h = name-said kind.Is kind.Unknown kind_meant (λ k e. refl) refl (name_at kind_names s at) h
+    kind_is h = name_said kind.Is kind.Unknown kind_meant (λ k e. refl) refl (name_at kind_names s at) h
 
-    pub event-is : {a : EventAt} → event_at s at ≡ a → event_form.at s at ≡ event_meant a
+    pub event_is : {a : EventAt} → event_at s at ≡ a → event_form.at s at ≡ event_meant a
     unfolding event_at
-    event-is h = item-said Is Broken event_meant (λ v e. refl) (λ k. refl) (event_form.at s at) h
+    event_is h = item_said Is Broken event_meant (λ v e. refl) (λ k. refl) (event_form.at s at) h

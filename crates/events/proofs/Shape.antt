@@ -10,7 +10,7 @@ use Rattle.text.specs.Line.{one_line}
 use Rattle.grammar.specs.Names.{name_line, Named, first_named}
 use Rattle.grammar.proofs.Named.{ShapeLaws}
 use Rattle.grammar.proofs.Facts.{Facts, Laws}
-use Rattle.grammar.proofs.Laws.{GrammarLaws, format-laws, any_facts}
+use Rattle.grammar.proofs.Laws.{GrammarLaws, format_laws, any_facts}
 use Rattle.events.specs.Kind.{kind_name, kinds, kind_names}
 use Rattle.events.specs.Event.{event_shape, event_form}
 use Rattle.events.specs.Wait.{Header, Wait1, header_name, headers, first_event, wait_grammar, wait_format}
@@ -69,7 +69,7 @@ wait_grammar_lem = record {
 
 -- so waits have all of the grammar's laws
 pub wait_laws : Laws wait_format
-wait_laws = format-laws wait_grammar wait_grammar_lem
+wait_laws = format_laws wait_grammar wait_grammar_lem
 
 pub event_facts : Facts event_form
 event_facts = any_facts wait_grammar wait_grammar_lem

@@ -46,11 +46,11 @@ module _ {n : ℕ} {s xs ys : List ℕ} {r : Replayed} (f : IntoFits n s xs ys r
   cut-answered e = short_answered (into_of n (length xs) s) f.says e
 
 module _ {n : ℕ} {s : List ℕ} {to : ℤ} {r : Sent} (f : SentFits n s to r) where
-  pub all-is-trace : {h : Handed} → r ≡ All h → is_trace (trace_of s) ≡ true
-  all-is-trace e = (rw e at f.ended).read
+  pub all_is_trace : {h : Handed} → r ≡ All h → is_trace (trace_of s) ≡ true
+  all_is_trace e = (rw e at f.ended).read
 
-  pub refused-is-none : {h : Handed} → r ≡ Refused h → is_trace (trace_of s) ≡ false
-  refused-is-none e = (rw e at f.ended).read
+  pub refused_is_none : {h : Handed} → r ≡ Refused h → is_trace (trace_of s) ≡ false
+  refused_is_none e = (rw e at f.ended).read
 
 pub input_inside : {most : ℕ} {r : Input} {size : ℕ} → InputFits most r → r ≡ reads.All size → size ≤ most
 input_inside f e = rw e at f

@@ -15,7 +15,7 @@ use Rattle.model.specs.Tables.{clock_of}
 use Rattle.model.specs.Changes.{change}
 use Rattle.model.specs.Tests.{owner_test, reservation_test}
 use Rattle.model.specs.Calls.{finish, refusal, change_accepted, answer_accepted, decision}
-use Rattle.model.proofs.Decides.{accepted-decides}
+use Rattle.model.proofs.Decides.{accepted_decides}
 use Rattle.counters.specs.Reserved.{reserved_from}
 use Rattle.counters.proofs.Past.{reserved-past}
 
@@ -27,4 +27,4 @@ module _ (n : ℕ) (t : Table) (number : Stamp) {k : Counters} (past : k ≡ res
   unfolding refusal change_accepted answer_accepted
   finish-accepted slot id e =
       let (owner, reservation) = then_pass (owner_test n t.txids slot id) (reservation_test (clock_of t) number) e in
-      rw (past, reserved-past (clock_of t) number t.counters reservation) (accepted-decides n t (finish slot id number) e)
+      rw (past, reserved-past (clock_of t) number t.counters reservation) (accepted_decides n t (finish slot id number) e)

@@ -11,8 +11,8 @@ use Rattle.grammar.specs.Items.{Is, Broken, Found, Items, Breaks, with_first, fo
 use Rattle.grammar.specs.Texts.{Format, longest, under, read_text, Count, Many, Refused, counted, count_text}
 use Rattle.grammar.specs.Grammar.{Grammar, format_of}
 use Rattle.grammar.proofs.Facts.{Laws}
-use Rattle.grammar.proofs.Walk.{found-end, found-broken, found-next}
-use Rattle.grammar.proofs.Laws.{GrammarLaws, under-facts, format-laws, head-inside}
+use Rattle.grammar.proofs.Walk.{found_end, found_broken, found_next}
+use Rattle.grammar.proofs.Laws.{GrammarLaws, under_facts, format_laws, head_inside}
 
 -- the count of what is found past n items
 abbrev pub count_from : {H I : Type 0} → H → ℕ → Found I → Count H
@@ -27,54 +27,54 @@ module _ {H I : Type 0} (t : Format H I) (laws : Laws t) (s : List ℕ) (h : H) 
   none_before (Items xs) = ap (Many h) (omega arith)
   none_before (Breaks k) = refl
 
-  pub counting-start : (e : ℕ) → length s ≤ longest → name_at t.heads s 0 ≡ Named h e → Counting e 0
+  pub counting_start : (e : ℕ) → length s ≤ longest → name_at t.heads s 0 ≡ Named h e → Counting e 0
   unfolding count_text read_text
-  counting-start e l q = rw (le-ltb longest (length s) l, q) (none_before (found_from (t.form h) s e 1))
+  counting_start e l q = rw (le-ltb longest (length s) l, q) (none_before (found_from (t.form h) s e 1))
 
   one-before : (n : ℕ) (x : I) (y : Found I) → count_from h n (with_first x y) ≡ count_from h (n + 1) y
   one-before n x (Items xs) = ap (Many h) (omega arith)
   one-before n x (Breaks k) = refl
 
-  pub counting-next : (at n : ℕ) (x : I) (e : ℕ) → Counting at n → (t.form h).at s at ≡ Is x e → Counting e (n + 1)
-  counting-next at n x e c q =
+  pub counting_next : (at n : ℕ) (x : I) (e : ℕ) → Counting at n → (t.form h).at s at ≡ Is x e → Counting e (n + 1)
+  counting_next at n x e c q =
       let f = t.form h in
       let b : 1 + 6 * n + 6 ≡ 1 + 6 * (n + 1) = omega arith in
       c
-      ∙ ap (count_from h n) (found-next f (laws.facts h) s at (1 + 6 * n) x e q)
+      ∙ ap (count_from h n) (found_next f (laws.facts h) s at (1 + 6 * n) x e q)
       ∙ one-before n x (found_from f s e (1 + 6 * n + 6))
       ∙ ap (λ (k : ℕ). count_from h (n + 1) (found_from f s e k)) b
 
-  pub counting-broken : (at n k : ℕ) → Counting at n → (at ≡ length s → ⊥) → (t.form h).at s at ≡ Broken k
+  pub counting_broken : (at n k : ℕ) → Counting at n → (at ≡ length s → ⊥) → (t.form h).at s at ≡ Broken k
       → count_text t s ≡ Refused (1 + 6 * n + k)
-  counting-broken at n k c z q = c ∙ ap (count_from h n) (found-broken (t.form h) (laws.facts h) s at (1 + 6 * n) k z q)
+  counting_broken at n k c z q = c ∙ ap (count_from h n) (found_broken (t.form h) (laws.facts h) s at (1 + 6 * n) k z q)
 
-  pub counting-end : (at n : ℕ) → Counting at n → at ≡ length s → count_text t s ≡ Many h n
-  counting-end at n c z =
-      c ∙ ap (count_from h n) (found-end (t.form h) (laws.facts h) s at (1 + 6 * n) z) ∙ ap (Many h) (omega arith)
+  pub counting_end : (at n : ℕ) → Counting at n → at ≡ length s → count_text t s ≡ Many h n
+  counting_end at n c z =
+      c ∙ ap (count_from h n) (found_end (t.form h) (laws.facts h) s at (1 + 6 * n) z) ∙ ap (Many h) (omega arith)
 
 -- where a loop over the items stands that counts them as it goes: with it go the bounds that keep its numbers machine numbers
 module _ {H K I : Type 0} (g : Grammar H K I) (laws : GrammarLaws g) (s : List ℕ) (h : H) where
   abbrev pub Stands : ℕ → ℕ → Type 0
-  Stands at n = (length s ≤ longest) × (at ≤ length s) × (n ≤ at) × Counting (format_of g) (format-laws g laws) s h at n
+  Stands at n = (length s ≤ longest) × (at ≤ length s) × (n ≤ at) × Counting (format_of g) (format_laws g laws) s h at n
 
-  pub stands-start : (e : ℕ) → length s ≤ longest → name_at g.heads s 0 ≡ Named h e → Stands e 0
-  stands-start e l q =
-      (l, head-inside g laws s h e q, omega arith, counting-start (format_of g) (format-laws g laws) s h e l q)
+  pub stands_start : (e : ℕ) → length s ≤ longest → name_at g.heads s 0 ≡ Named h e → Stands e 0
+  stands_start e l q =
+      (l, head_inside g laws s h e q, omega arith, counting_start (format_of g) (format_laws g laws) s h e l q)
 
-  pub stands-next : (at n : ℕ) (x : I) (e : ℕ) → Stands at n → ((format_of g).form h).at s at ≡ Is x e → Stands e (n + 1)
-  stands-next at n x e c q =
-      let m = (under-facts g laws h).moves s at x e q in
-      (c.0, m.1, omega (arith, m.0, c.2), counting-next (format_of g) (format-laws g laws) s h at n x e c.3 q)
+  pub stands_next : (at n : ℕ) (x : I) (e : ℕ) → Stands at n → ((format_of g).form h).at s at ≡ Is x e → Stands e (n + 1)
+  stands_next at n x e c q =
+      let m = (under_facts g laws h).moves s at x e q in
+      (c.0, m.1, omega (arith, m.0, c.2), counting_next (format_of g) (format_laws g laws) s h at n x e c.3 q)
 
   -- a broken line has a number that a machine number holds
-  pub stands-small : (at n k : ℕ) → Stands at n → ((format_of g).form h).at s at ≡ Broken k → 1 + 6 * n + k < 2 ^ 64
-  stands-small at n k c q =
-      let b = (under-facts g laws h).item_open s at k q in
+  pub stands_small : (at n k : ℕ) → Stands at n → ((format_of g).form h).at s at ≡ Broken k → 1 + 6 * n + k < 2 ^ 64
+  stands_small at n k c q =
+      let b = (under_facts g laws h).item_open s at k q in
       omega (arith, b.which, b.short, c.0, c.1, c.2)
 
-  pub stands-broken : (at n k : ℕ) → Stands at n → (at ≡ length s → ⊥) → ((format_of g).form h).at s at ≡ Broken k
+  pub stands_broken : (at n k : ℕ) → Stands at n → (at ≡ length s → ⊥) → ((format_of g).form h).at s at ≡ Broken k
       → count_text (format_of g) s ≡ Refused (1 + 6 * n + k)
-  stands-broken at n k c z q = counting-broken (format_of g) (format-laws g laws) s h at n k c.3 z q
+  stands_broken at n k c z q = counting_broken (format_of g) (format_laws g laws) s h at n k c.3 z q
 
-  pub stands-end : (at n : ℕ) → Stands at n → at ≡ length s → count_text (format_of g) s ≡ Many h n
-  stands-end at n c z = counting-end (format_of g) (format-laws g laws) s h at n c.3 z
+  pub stands_end : (at n : ℕ) → Stands at n → at ≡ length s → count_text (format_of g) s ≡ Many h n
+  stands_end at n c z = counting_end (format_of g) (format_laws g laws) s h at n c.3 z

@@ -16,9 +16,9 @@ use Rattle.grammar.specs.Texts.{Format, first_line, Read, Whole, Broken, read_te
 use Rattle.grammar.specs.Grammar.{Grammar, format_of, every_kind, any_form}
 use Rattle.grammar.proofs.Names.{NameLaws, line_of, line_there}
 use Rattle.grammar.proofs.Facts.{Facts, Laws}
-use Rattle.grammar.proofs.Named.{ShapeLaws, form-facts, form-wider}
+use Rattle.grammar.proofs.Named.{ShapeLaws, form_facts, form_wider}
 use Rattle.grammar.proofs.Walk.{wider, boundary}
-use Rattle.grammar.proofs.Grammar.{accepted, text-length}
+use Rattle.grammar.proofs.Grammar.{accepted, text_length}
 
 pub record GrammarLaws {H K I : Type 0} (g : Grammar H K I) : Type 0 where
   pub heads : NameLaws g.heads
@@ -39,25 +39,25 @@ count_breaks {H} {I} t s {k} = go (read_text t s)
     go (Broken j) e = let same : j ≡ k = cc in ap Broken same
 
 module _ {H K I : Type 0} (g : Grammar H K I) (laws : GrammarLaws g) where
-  pub under-facts : (h : H) → Facts ((format_of g).form h)
-  under-facts h = form-facts g.shape laws.shape (g.allowed h) laws.kind (laws.allowed h)
+  pub under_facts : (h : H) → Facts ((format_of g).form h)
+  under_facts h = form_facts g.shape laws.shape (g.allowed h) laws.kind (laws.allowed h)
 
   pub any_facts : Facts (any_form g)
-  any_facts = form-facts g.shape laws.shape every_kind laws.kind refl
+  any_facts = form_facts g.shape laws.shape every_kind laws.kind refl
 
-  pub format-laws : Laws (format_of g)
-  format-laws = record { any = laws.head; heads = laws.heads; facts = under-facts }
+  pub format_laws : Laws (format_of g)
+  format_laws = record { any = laws.head; heads = laws.heads; facts = under_facts }
 
   -- a first line that stands in front is known, and ends where the first item stands
-  pub head-is : (s : List ℕ) (h : H) → starts (name_line g.heads h) (drop 0 s) ≡ true → name_at g.heads s 0 ≡ Named h g.first
-  head-is s h b =
+  pub head_is : (s : List ℕ) (h : H) → starts (name_line g.heads h) (drop 0 s) ≡ true → name_at g.heads s 0 ≡ Named h g.first
+  head_is s h b =
       let line = name_line g.heads h in
       let there = key_there s 0 line b in
       line_of g.heads laws.heads s 0 h (drop (0 + length line) s) there.text ∙ ap (Named h) (omega (arith, laws.long h))
 
   -- and where none does, none is known
-  pub no-head : (s : List ℕ) → ((h : H) → starts (name_line g.heads h) (drop 0 s) ≡ false) → name_at g.heads s 0 ≡ Unknown
-  no-head s none = go (name_at g.heads s 0) refl
+  pub no_head : (s : List ℕ) → ((h : H) → starts (name_line g.heads h) (drop 0 s) ≡ false) → name_at g.heads s 0 ≡ Unknown
+  no_head s none = go (name_at g.heads s 0) refl
     where
       go : (x : NameAt H) → name_at g.heads s 0 ≡ x → x ≡ Unknown
       go Unknown q = refl
@@ -67,8 +67,8 @@ module _ {H K I : Type 0} (g : Grammar H K I) (laws : GrammarLaws g) where
           absurd (false≢true (sym (none h) ∙ stands))
 
   -- a first line that is known stands inside the text
-  pub head-inside : (s : List ℕ) (h : H) (e : ℕ) → name_at g.heads s 0 ≡ Named h e → e ≤ length s
-  head-inside s h e q =
+  pub head_inside : (s : List ℕ) (h : H) (e : ℕ) → name_at g.heads s 0 ≡ Named h e → e ≤ length s
+  head_inside s h e q =
       let there = line_there g.heads laws.heads s 0 h e q in
       omega (arith, there.past, simp (length-append, length-drop) at (ap length there.text))
 
@@ -85,17 +85,17 @@ module _ {H K I : Type 0} (g : Grammar H K I) (laws : GrammarLaws g) where
     where
       whole : (xs : List I) → read_text (format_of g) s ≡ Whole h xs → length xs ≡ n → Opened s h n
       whole xs q many =
-          let a = accepted (format_of g) format-laws s h xs q in
-          let every = form-wider g.shape laws.shape (g.allowed h) every_kind (λ k x. refl) in
+          let a = accepted (format_of g) format_laws s h xs q in
+          let every = form_wider g.shape laws.shape (g.allowed h) every_kind (λ k x. refl) in
           let line = length (first_line (format_of g) h) in
-          let found = wider ((format_of g).form h) (under-facts h) (any_form g) any_facts every s line 1 xs a.found in
+          let found = wider ((format_of g).form h) (under_facts h) (any_form g) any_facts every s line 1 xs a.found in
           let first : length (first_line (format_of g) h) ≡ g.first = unfold first_line in laws.long h in
           let b = boundary (any_form g) any_facts s g.first 1 xs (rw first at found) in
           record {
             items = q ∙ ap (Whole h) (sym b.1);
             many = ap length b.1 ∙ many;
             boundary = b.0;
-            inside = omega (arith, ap length a.text, text-length (format_of g) format-laws h xs, first);
+            inside = omega (arith, ap length a.text, text_length (format_of g) format_laws h xs, first);
           }
 
       go : (x : Read H I) → read_text (format_of g) s ≡ x → counted x ≡ Many h n → Opened s h n

@@ -13,7 +13,7 @@ use Rattle.text.specs.declared.Fields.{Fields}
 use Rattle.text.specs.declared.Fields.TheVariants as fields
 use Rattle.text.proofs.Places.{rest_of, There, then}
 use Rattle.text.proofs.Lines.{line-one}
-use Rattle.text.proofs.FiveLines.{zeros-fit, fields-of, fields-text, fields_open, fields-late}
+use Rattle.text.proofs.FiveLines.{zeros_fit, fields_of, fields_text, fields_open, fields_late}
 use Rattle.grammar.specs.Items.{ItemAt, Is, Broken, Form, item_text}
 use Rattle.grammar.specs.Names.{Names, name_line, NameAt, Named, Unknown, name_at}
 use Rattle.grammar.specs.Named.{Shape, on_name, on_fields, item_at, six_lines, Expressed, form_of}
@@ -60,7 +60,7 @@ module _ {K I : Type 0} (w : Shape K I) (laws : ShapeLaws w) (allowed : K → Bo
       let e' : drop at s ≡ o ++ (t ++ rest) = e ∙ ap (λ (z : List ℕ). z ++ rest) (text-is x) ∙ append_assoc o t rest in
       let l : length (item_text (form_of w allowed) x) ≡ length o + length t = ap length (text-is x) ∙ length-append o t in
       let named = line_of w.names laws.names s at k (t ++ rest) e' in
-      let numbers = fields-of w.fourth (w.reads k) (w.values x) s (at + length o) rest g.fits (rest_of s o (t ++ rest) at e') in
+      let numbers = fields_of w.fourth (w.reads k) (w.values x) s (at + length o) rest g.fits (rest_of s o (t ++ rest) at e') in
       rw (named, g.permitted, numbers, laws.again x) (ap (Is x) (omega arith))
 
   no_item : (k : ℕ) (x : I) (e : ℕ) → Broken k ≡ Is x e → ⊥
@@ -80,7 +80,7 @@ module _ {K I : Type 0} (w : Shape K I) (laws : ShapeLaws w) (allowed : K → Bo
       numbers k a p l (fields.Are v b) q h =
           let same : w.item k v ≡ x = cc in
           let past : b ≡ e = cc in
-          let f = fields-text w.fourth (w.reads k) s a v b q in
+          let f = fields_text w.fourth (w.reads k) s a v b q in
           let t = then s at (name_line w.names k) a (joined (five_lines w.fourth (w.reads k) v)) b p f.text in
           rw (← same, ← past) (record { text = rw (made-text k v) t; good = made-good k v l f.fits })
 
@@ -112,7 +112,7 @@ module _ {K I : Type 0} (w : Shape K I) (laws : ShapeLaws w) (allowed : K → Bo
       at_name : 1 ≡ k → BrokenOff (form_of w allowed) s at k
       at_name same = record {
         maybe = w.item some (values_of []);
-        good = made-good some (values_of []) is (zeros-fit w.fourth (w.reads some));
+        good = made-good some (values_of []) is (zeros_fit w.fourth (w.reads some));
         before = 0;
         which = omega arith;
         short = omega arith;
@@ -162,7 +162,7 @@ module _ {K I : Type 0} (w : Shape K I) (laws : ShapeLaws w) (allowed : K → Bo
       let e' : drop at s ≡ o ++ (t ++ rest) = e ∙ append_assoc o t rest in
       let named = line_of w.names laws.names s at (w.kind x) (t ++ rest) e' in
       let h' : on_fields (w.item (w.kind x)) read ≡ Broken k = rw (named, g.permitted) at h in
-      let late = fields-late w.fourth (w.reads (w.kind x)) (w.values x) i s (at + length o) k rest g.fits in
+      let late = fields_late w.fourth (w.reads (w.kind x)) (w.values x) i s (at + length o) k rest g.fits in
       go read refl (late (rest_of s o (t ++ rest) at e')) h'
     where
       read : Fields
@@ -189,8 +189,8 @@ module _ {K I : Type 0} (w : Shape K I) (laws : ShapeLaws w) (allowed : K → Bo
             (also (line-one sample_key v.sample (λ t. refl)) none)))));
       }
 
-  pub form-facts : (some : K) → allowed some ≡ true → Facts (form_of w allowed)
-  form-facts some is = record {
+  pub form_facts : (some : K) → allowed some ≡ true → Facts (form_of w allowed)
+  form_facts some is = record {
     item_of = item_of;
     item_text_lem = item_text_lem;
     moves = moves;
@@ -201,25 +201,25 @@ module _ {K I : Type 0} (w : Shape K I) (laws : ShapeLaws w) (allowed : K → Bo
 
 -- what is read where fewer kinds are allowed is read where more are
 module _ {K I : Type 0} (w : Shape K I) (laws : ShapeLaws w) (allowed more : K → Bool) where
-  pub form-wider : ((k : K) → allowed k ≡ true → more k ≡ true)
+  pub form_wider : ((k : K) → allowed k ≡ true → more k ≡ true)
       → (s : List ℕ) (at : ℕ) (x : I) (e : ℕ) → item_at w allowed s at ≡ Is x e → item_at w more s at ≡ Is x e
   unfolding item_text
-  form-wider wide s at x e h =
+  form_wider wide s at x e h =
       let t = item_text_lem w laws allowed s at x e h in
       let good : Expressed w more x = record { permitted = wide (w.kind x) t.good.permitted; fits = t.good.fits } in
       item_of w laws more x s at (drop e s) good t.text.text ∙ ap (Is x) (sym t.text.past)
 
 -- an item by the line that names it
 module _ {K I : Type 0} (w : Shape K I) (allowed : K → Bool) (s : List ℕ) (at : ℕ) where
-  pub item-unknown : name_at w.names s at ≡ Unknown → item_at w allowed s at ≡ Broken 1
+  pub item_unknown : name_at w.names s at ≡ Unknown → item_at w allowed s at ≡ Broken 1
   unfolding item_at
-  item-unknown h = rw h
+  item_unknown h = rw h
 
   pub item_refused : {k : K} {a : ℕ} → name_at w.names s at ≡ Named k a → allowed k ≡ false → item_at w allowed s at ≡ Broken 1
   unfolding item_at
   item_refused h l = rw (h, l)
 
-  pub item-named : {k : K} {a : ℕ} → name_at w.names s at ≡ Named k a → allowed k ≡ true
+  pub item_named : {k : K} {a : ℕ} → name_at w.names s at ≡ Named k a → allowed k ≡ true
       → item_at w allowed s at ≡ on_fields (w.item k) (fields_at s a w.fourth (w.reads k))
   unfolding item_at
-  item-named h l = rw (h, l)
+  item_named h l = rw (h, l)

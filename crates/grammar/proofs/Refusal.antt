@@ -20,8 +20,8 @@ use Rattle.grammar.specs.Texts.{Format, first_line, longest, text_lines, whole_t
 use Rattle.grammar.specs.Texts.{Opens, FirstBroken}
 use Rattle.grammar.proofs.Names.{no_name}
 use Rattle.grammar.proofs.Facts.{Facts, Laws}
-use Rattle.grammar.proofs.Walk.{no_items, found-next, Past, along, At, ended, broke, went, look}
-use Rattle.grammar.proofs.Grammar.{head_of, head-there, accepted}
+use Rattle.grammar.proofs.Walk.{no_items, found_next, Past, along, At, ended, broke, went, look}
+use Rattle.grammar.proofs.Grammar.{head_of, head_there, accepted}
 
 module _ {I : Type 0} (f : Form I) (facts : Facts f) where
   -- the first lines of an item and of those after it
@@ -54,9 +54,9 @@ module _ {I : Type 0} (f : Form I) (facts : Facts f) where
   Breaking : List ℕ → ℕ → Type 0
   Breaking s at = (b m : ℕ) → found_from f s at b ≡ Breaks m → Broke s at b m
 
-  pub broke-from : (s : List ℕ) (at b m : ℕ) → found_from f s at b ≡ Breaks m → Broke s at b m
+  pub broke_from : (s : List ℕ) (at b m : ℕ) → found_from f s at b ≡ Breaks m → Broke s at b m
   unfolding Breaking
-  broke-from s = along f facts s (Breaking s) (λ at ih b m h. go at ih b m h (look f facts s at b))
+  broke_from s = along f facts s (Breaking s) (λ at ih b m h. go at ih b m h (look f facts s at b))
     where
       later : (at : ℕ) (x : I) (e b m : ℕ) → f.at s at ≡ Is x e → Breaking s e
           → (y : Found I) → found_from f s e (b + 6) ≡ y → with_first x y ≡ Breaks m → Broke s at b m
@@ -99,15 +99,15 @@ module _ {I : Type 0} (f : Form I) (facts : Facts f) where
   later-breaks x (Breaks k) m h = h
 
   -- where the first j lines of good items stand, a line that breaks a rule comes later
-  pub late-from : (xs : List I) (s : List ℕ) (at b m j : ℕ) (rest : List ℕ) → AllGood f xs
+  pub late_from : (xs : List I) (s : List ℕ) (at b m j : ℕ) (rest : List ℕ) → AllGood f xs
       → j ≤ length (lines_of f xs) → drop at s ≡ joined (take j (lines_of f xs)) ++ rest
       → found_from f s at b ≡ Breaks m → b + j < m
-  late-from [] s at b m j rest g l e h = omega (arith, (broke-from s at b m h).which, none-there)
+  late_from [] s at b m j rest g l e h = omega (arith, (broke_from s at b m h).which, none-there)
     where
       none-there : length (lines_of f []) ≡ 0
       none-there = unfold lines_of in refl
-  late-from (x ∷ xs) s at b m j rest (also g gs) l e h =
-      go (dec_lt 6 j) (look f facts s at b) (λ p. late-from xs s p (b + 6) m (j - 6) rest gs (omega (arith, length-first x xs)))
+  late_from (x ∷ xs) s at b m j rest (also g gs) l e h =
+      go (dec_lt 6 j) (look f facts s at b) (λ p. late_from xs s p (b + 6) m (j - 6) rest gs (omega (arith, length-first x xs)))
     where
       u : List ℕ
       u = joined (take (j - 6) (lines_of f xs))
@@ -122,7 +122,7 @@ module _ {I : Type 0} (f : Form I) (facts : Facts f) where
           let same : b + k ≡ m = cc in
           let first = e ∙ ap (λ (ls : List (List ℕ)). joined ls ++ rest) (take_within x xs j c) in
           omega (arith, facts.item_late x j s at k rest g first p)
-      inside c (went y p r q) = omega (arith, (broke-from s p (b + 6) m (later-breaks y (found_from f s p (b + 6)) m (sym q ∙ h))).which)
+      inside c (went y p r q) = omega (arith, (broke_from s p (b + 6) m (later-breaks y (found_from f s p (b + 6)) m (sym q ∙ h))).which)
 
       past : 6 < j → Later → b + j < m
       past c ih =
@@ -131,7 +131,7 @@ module _ {I : Type 0} (f : Form I) (facts : Facts f) where
           let e' : drop at s ≡ item_text f x ++ (u ++ rest) =
           e ∙ ap (λ (z : List ℕ). z ++ rest) apart ∙ append_assoc (item_text f x) u rest in
           let p = at + length (item_text f x) in
-          let q = found-next f facts s at b x p (facts.item_of x s at (u ++ rest) g e') in
+          let q = found_next f facts s at b x p (facts.item_of x s at (u ++ rest) g e') in
           omega (arith, ih p (rest_of s (item_text f x) (u ++ rest) at e') (later-breaks x (found_from f s p (b + 6)) m (sym q ∙ h)))
 
       go : Dec (6 < j) → At f facts s at b → Later → b + j < m
@@ -160,13 +160,13 @@ module _ {H I : Type 0} (t : Format H I) (laws : Laws t) where
       let u = joined (take k (lines_of f o.items)) in
       let past = rw zero-add at (rest_of s first (u ++ o.rest) 0 (opens-text k s o)) in
       let more = o.enough in
-      omega (arith, late-from f (laws.facts o.head) o.items s (length first) 1 (suc k) k o.rest o.good (omega arith) past h)
+      omega (arith, late_from f (laws.facts o.head) o.items s (length first) 1 (suc k) k o.rest o.good (omega arith) past h)
 
   from-head : (h : H) (e k : ℕ) (s : List ℕ) → There s 0 (first_line t h) e → found_from (t.form h) s e 1 ≡ Breaks (suc k) → Opens t k s
   unfolding text_lines joined
   from-head h e k s q c =
       let first = first_line t h in
-      let w = broke-from (t.form h) (laws.facts h) s e 1 (suc k) c in
+      let w = broke_from (t.form h) (laws.facts h) s e 1 (suc k) c in
       let u = joined (take w.before (lines_of (t.form h) w.items)) in
       let same : k ≡ suc w.before = omega (arith, w.which) in
       rw same (record {
@@ -212,12 +212,12 @@ module _ {H I : Type 0} (t : Format H I) (laws : Laws t) where
       go (no l) (no g) = omega arith
 
   -- the line that a refusal names is the first that breaks a rule
-  pub first-broken : (s : List ℕ) (k : ℕ) → read_text t s ≡ Broken (suc k) → FirstBroken t k s
+  pub first_broken : (s : List ℕ) (k : ℕ) → read_text t s ≡ Broken (suc k) → FirstBroken t k s
   unfolding read_text
-  first-broken s k = go (ltb longest (length s)) (name_at t.heads s 0) refl
+  first_broken s k = go (ltb longest (length s)) (name_at t.heads s 0) refl
     where
-      no-head : Opens t 1 s → name_at t.heads s 0 ≡ Unknown → ⊥
-      no-head o q = no_name o.head (length (first_line t o.head)) (sym q ∙ opens-head 0 s o)
+      no_head : Opens t 1 s → name_at t.heads s 0 ≡ Unknown → ⊥
+      no_head o q = no_name o.head (length (first_line t o.head)) (sym q ∙ opens-head 0 s o)
 
       other : (h : H) (e : ℕ) → name_at t.heads s 0 ≡ Named h e → found_from (t.form h) s e 1 ≡ Breaks (suc k) → Opens t (suc k) s → ⊥
       other h e q r o =
@@ -232,7 +232,7 @@ module _ {H I : Type 0} (t : Format H I) (laws : Laws t) where
       found h e (Breaks j) q r c =
           let same : j ≡ suc k = cc in
           let breaks = r ∙ ap Breaks same in
-          record { before = from-head h e k s (head-there t laws s h e q) breaks; broken = λ o. other h e q breaks (rw add-one at o) }
+          record { before = from-head h e k s (head_there t laws s h e q) breaks; broken = λ o. other h e q breaks (rw add-one at o) }
 
       go : (b : Bool) (n : NameAt H) → name_at t.heads s 0 ≡ n
           → cond b (Broken 0) (on_head n (λ h e. under h (found_from (t.form h) s e 1))) ≡ Broken (suc k) → FirstBroken t k s
@@ -240,7 +240,7 @@ module _ {H I : Type 0} (t : Format H I) (laws : Laws t) where
       go false Unknown q c =
           let z : 1 ≡ suc k = cc in
           let none : k ≡ 0 = omega arith in
-          rw none (record { before = opens-none s; broken = λ o. no-head o q })
+          rw none (record { before = opens-none s; broken = λ o. no_head o q })
       go false (Named h e) q c = found h e (found_from (t.form h) s e 1) q refl c
 
   too_long_lem : (s : List ℕ) → read_text t s ≡ Broken 0 → length s ≤ longest → ⊥
@@ -251,7 +251,7 @@ module _ {H I : Type 0} (t : Format H I) (laws : Laws t) where
       found h e (Items xs) r c = let z : ◌≡◌ {A = ℕ} 0 1 = cc in omega arith
       found h e (Breaks j) r c =
           let same : j ≡ 0 = cc in
-          omega (arith, (broke-from (t.form h) (laws.facts h) s e 1 j r).which)
+          omega (arith, (broke_from (t.form h) (laws.facts h) s e 1 j r).which)
 
       go : (n : NameAt H) → on_head n (λ h e. under h (found_from (t.form h) s e 1)) ≡ Broken 0 → ⊥
       go Unknown c = let z : ◌≡◌ {A = ℕ} 1 0 = cc in omega arith
@@ -265,15 +265,15 @@ module _ {H I : Type 0} (t : Format H I) (laws : Laws t) where
       go : (x : Read H I) → read_text t s ≡ x → read_text t s ≡ Broken (suc k)
       go (Whole h xs) q = let a = accepted t laws s h xs q in absurd (n h xs a.good a.text)
       go (Broken zero) q = absurd (too_long_lem s q l)
-      go (Broken (suc j)) q = q ∙ ap (λ (i : ℕ). Broken (suc i)) (one-first j k s (first-broken s j q) p)
+      go (Broken (suc j)) q = q ∙ ap (λ (i : ℕ). Broken (suc i)) (one-first j k s (first_broken s j q) p)
 
   -- and one that is too long at line 0, and nothing else is
-  pub long-refused : (s : List ℕ) → longest < length s → read_text t s ≡ Broken 0
+  pub long_refused : (s : List ℕ) → longest < length s → read_text t s ≡ Broken 0
   unfolding read_text
-  long-refused s h = rw (lt-ltb longest (length s) h)
+  long_refused s h = rw (lt-ltb longest (length s) h)
 
-  pub refused-long : (s : List ℕ) → read_text t s ≡ Broken 0 → longest < length s
-  refused-long s h = go (dec_lt longest (length s))
+  pub refused_long : (s : List ℕ) → read_text t s ≡ Broken 0 → longest < length s
+  refused_long s h = go (dec_lt longest (length s))
     where
       go : Dec (longest < length s) → longest < length s
       go (yes l) = l

@@ -10,21 +10,21 @@ use Rattle.grammar.specs.Items.{ItemAt, Is, Broken, say_item}
 use Rattle.grammar.specs.Texts.{Count, Many, Refused, say_count}
 
 module _ {K A : Type 0} (named : K → ℕ → A) (unknown : A) where
-  pub name-said : (means : A → NameAt K) → ((k : K) (e : ℕ) → means (named k e) ≡ Named k e) → means unknown ≡ Unknown
+  pub name_said : (means : A → NameAt K) → ((k : K) (e : ℕ) → means (named k e) ≡ Named k e) → means unknown ≡ Unknown
       → (x : NameAt K) {a : A} → say_name named unknown x ≡ a → x ≡ means a
-  name-said means p q (Named k e) h = sym (p k e) ∙ ap means h
-  name-said means p q Unknown h = sym q ∙ ap means h
+  name_said means p q (Named k e) h = sym (p k e) ∙ ap means h
+  name_said means p q Unknown h = sym q ∙ ap means h
 
   -- names that are tried one after the other, the last one first, are the first name
   abbrev pub tried : (K → List ℕ) → List K → List ℕ → ℕ → A
   tried name [] s at = unknown
   tried name (k ∷ ks) s at = if_named s at (name k) (named k (at + length (name k))) (tried name ks s at)
 
-  pub first-tried : (name : K → List ℕ) (ks : List K) (s : List ℕ) (at : ℕ)
+  pub first_tried : (name : K → List ℕ) (ks : List K) (s : List ℕ) (at : ℕ)
       → tried name ks s at ≡ say_name named unknown (first_named name ks s at)
   unfolding if_named first_named
-  first-tried name [] s at = refl
-  first-tried name (k ∷ ks) s at = go (starts (name k) (drop at s)) (first-tried name ks s at)
+  first_tried name [] s at = refl
+  first_tried name (k ∷ ks) s at = go (starts (name k) (drop at s)) (first_tried name ks s at)
     where
       go : (b : Bool) → tried name ks s at ≡ say_name named unknown (first_named name ks s at)
           → cond b (named k (at + length (name k))) (tried name ks s at)
@@ -33,13 +33,13 @@ module _ {K A : Type 0} (named : K → ℕ → A) (unknown : A) where
       go false ih = ih
 
 module _ {I A : Type 0} (is : I → ℕ → A) (broken : ℕ → A) where
-  pub item-said : (means : A → ItemAt I) → ((x : I) (e : ℕ) → means (is x e) ≡ Is x e) → ((k : ℕ) → means (broken k) ≡ Broken k)
+  pub item_said : (means : A → ItemAt I) → ((x : I) (e : ℕ) → means (is x e) ≡ Is x e) → ((k : ℕ) → means (broken k) ≡ Broken k)
       → (x : ItemAt I) {a : A} → say_item is broken x ≡ a → x ≡ means a
-  item-said means p q (Is x e) h = sym (p x e) ∙ ap means h
-  item-said means p q (Broken k) h = sym (q k) ∙ ap means h
+  item_said means p q (Is x e) h = sym (p x e) ∙ ap means h
+  item_said means p q (Broken k) h = sym (q k) ∙ ap means h
 
 module _ {H A : Type 0} (whole : H → ℕ → A) (broken : ℕ → A) where
-  pub count-said : (means : A → Count H) → ((h : H) (n : ℕ) → means (whole h n) ≡ Many h n) → ((k : ℕ) → means (broken k) ≡ Refused k)
+  pub count_said : (means : A → Count H) → ((h : H) (n : ℕ) → means (whole h n) ≡ Many h n) → ((k : ℕ) → means (broken k) ≡ Refused k)
       → (x : Count H) {a : A} → say_count whole broken x ≡ a → x ≡ means a
-  count-said means p q (Many h n) e = sym (p h n) ∙ ap means e
-  count-said means p q (Refused k) e = sym (q k) ∙ ap means e
+  count_said means p q (Many h n) e = sym (p h n) ∙ ap means e
+  count_said means p q (Refused k) e = sym (q k) ∙ ap means e

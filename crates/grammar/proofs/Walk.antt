@@ -44,18 +44,18 @@ module _ {I : Type 0} (f : Form I) (facts : Facts f) where
           ∙ sym (in_step j s at b (eqb-false at (length s) p) q)
 
   -- the three equations of `found_from`
-  pub found-end : (s : List ℕ) (at b : ℕ) → at ≡ length s → found_from f s at b ≡ Items []
+  pub found_end : (s : List ℕ) (at b : ℕ) → at ≡ length s → found_from f s at b ≡ Items []
   unfolding found_from
-  found-end s at b h = ap (λ (k : ℕ). found_in f k s at b) (add-one (length s - at)) ∙ in_end (length s - at) s at b h
+  found_end s at b h = ap (λ (k : ℕ). found_in f k s at b) (add-one (length s - at)) ∙ in_end (length s - at) s at b h
 
-  pub found-broken : (s : List ℕ) (at b k : ℕ) → (at ≡ length s → ⊥) → f.at s at ≡ Broken k → found_from f s at b ≡ Breaks (b + k)
+  pub found_broken : (s : List ℕ) (at b k : ℕ) → (at ≡ length s → ⊥) → f.at s at ≡ Broken k → found_from f s at b ≡ Breaks (b + k)
   unfolding found_from
-  found-broken s at b k h e = ap (λ (k : ℕ). found_in f k s at b) (add-one (length s - at)) ∙ in_step (length s - at) s at b h e
+  found_broken s at b k h e = ap (λ (k : ℕ). found_in f k s at b) (add-one (length s - at)) ∙ in_step (length s - at) s at b h e
 
-  pub found-next : (s : List ℕ) (at b : ℕ) (x : I) (e : ℕ) → f.at s at ≡ Is x e
+  pub found_next : (s : List ℕ) (at b : ℕ) (x : I) (e : ℕ) → f.at s at ≡ Is x e
       → found_from f s at b ≡ with_first x (found_from f s e (b + 6))
   unfolding found_from
-  found-next s at b x e q =
+  found_next s at b x e q =
       let m = facts.moves s at x e q in
       ap (λ (k : ℕ). found_in f k s at b) (add-one (length s - at))
       ∙ in_step (length s - at) s at b (λ z. omega (arith, m.0, m.1)) q
@@ -84,9 +84,9 @@ module _ {I : Type 0} (f : Form I) (facts : Facts f) where
   look s at b = go (eqb at (length s)) refl (f.at s at) refl
     where
       go : (t : Bool) → eqb at (length s) ≡ t → (x : ItemAt I) → f.at s at ≡ x → At s at b
-      go true p x q = ended (eqb-true at (length s) p) (found-end s at b (eqb-true at (length s) p))
-      go false p (Broken k) q = broke k q (found-broken s at b k (eqb-false at (length s) p) q)
-      go false p (Is x e) q = went x e q (found-next s at b x e q)
+      go true p x q = ended (eqb-true at (length s) p) (found_end s at b (eqb-true at (length s) p))
+      go false p (Broken k) q = broke k q (found_broken s at b k (eqb-false at (length s) p) q)
+      go false p (Is x e) q = went x e q (found_next s at b x e q)
 
   -- the items that are found do not depend on how many lines stand before them
   Alike : List ℕ → ℕ → Type 0
@@ -103,10 +103,10 @@ module _ {I : Type 0} (f : Form I) (facts : Facts f) where
 
       go : (at : ℕ) → Past s (Alike s) at → (b c : ℕ) (xs : List I) → found_from f s at b ≡ Items xs → At s at b
           → found_from f s at c ≡ Items xs
-      go at ih b c xs h (ended p q) = found-end s at c p ∙ sym q ∙ h
+      go at ih b c xs h (ended p q) = found_end s at c p ∙ sym q ∙ h
       go at ih b c xs h (broke k p q) = absurd (no_items (b + k) xs (sym q ∙ h))
       go at ih b c xs h (went x e p q) =
-          found-next s at c x e p ∙ tail e (b + 6) (c + 6) x xs (ih x e p) (found_from f s e (b + 6)) refl (sym q ∙ h)
+          found_next s at c x e p ∙ tail e (b + 6) (c + 6) x xs (ih x e p) (found_from f s e (b + 6)) refl (sym q ∙ h)
 
   -- what was found from a place on is left there, whatever stands before it
   pub boundary : (s : List ℕ) (at b : ℕ) (xs : List I) → found_from f s at b ≡ Items xs → Boundary f s at × (items_from f s at ≡ xs)
@@ -119,7 +119,7 @@ module _ {I : Type 0} (f : Form I) (facts : Facts f) where
   -- at the end no item is left
   pub none_left : (s : List ℕ) (at : ℕ) → at ≡ length s → items_from f s at ≡ []
   unfolding items_from
-  none_left s at h = ap listed (found-end s at 0 h)
+  none_left s at h = ap listed (found_end s at 0 h)
 
   -- before the end an item stands: it is the first that is left, and past it stands the next, or the end
   pub record Next (s : List ℕ) (at : ℕ) (x : I) (e : ℕ) : Type 0 where
@@ -128,8 +128,8 @@ module _ {I : Type 0} (f : Form I) (facts : Facts f) where
     pub further : at < e
     pub inside : e ≤ length s
 
-  pub next-item : (s : List ℕ) (at : ℕ) (x : I) (e : ℕ) → Boundary f s at → f.at s at ≡ Is x e → Next s at x e
-  next-item s at x e h q = past (facts.moves s at x e q) (found_from f s e 6) refl (sym h ∙ found-next s at 0 x e q)
+  pub next_item : (s : List ℕ) (at : ℕ) (x : I) (e : ℕ) → Boundary f s at → f.at s at ≡ Is x e → Next s at x e
+  next_item s at x e h q = past (facts.moves s at x e q) (found_from f s e 6) refl (sym h ∙ found_next s at 0 x e q)
     where
       past : (at < e) × (e ≤ length s) → (y : Found I) → found_from f s e 6 ≡ y → Items (items_from f s at) ≡ with_first x y → Next s at x e
       past m (Breaks k) p g = absurd (no_items k (items_from f s at) (sym g))
@@ -138,24 +138,24 @@ module _ {I : Type 0} (f : Form I) (facts : Facts f) where
           let same : items_from f s at ≡ x ∷ xs = cc in
           record { first = same ∙ ap (λ (ys : List I). x ∷ ys) (sym b.1); again = b.0; further = m.0; inside = m.1 }
 
-  pub none-broken : (s : List ℕ) (at k : ℕ) → Boundary f s at → (at ≡ length s → ⊥) → f.at s at ≡ Broken k → ⊥
-  none-broken s at k h n q = no_items (0 + k) (items_from f s at) (sym (found-broken s at 0 k n q) ∙ h)
+  pub none_broken : (s : List ℕ) (at k : ℕ) → Boundary f s at → (at ≡ length s → ⊥) → f.at s at ≡ Broken k → ⊥
+  none_broken s at k h n q = no_items (0 + k) (items_from f s at) (sym (found_broken s at 0 k n q) ∙ h)
 
   -- and a boundary with no item left is the end
-  pub end-only : (s : List ℕ) (at : ℕ) → Boundary f s at → items_from f s at ≡ [] → at ≡ length s
-  end-only s at h none = go (look s at 0)
+  pub end_only : (s : List ℕ) (at : ℕ) → Boundary f s at → items_from f s at ≡ [] → at ≡ length s
+  end_only s at h none = go (look s at 0)
     where
       go : At s at 0 → at ≡ length s
       go (ended p q) = p
       go (broke k p q) = absurd (no_items (0 + k) (items_from f s at) (sym q ∙ h))
       go (went x e p q) =
-          let some = (next-item s at x e h p).first in
+          let some = (next_item s at x e h p).first in
           let y : ◌≡◌ {A = ℕ} 0 1 = cc in
           absurd (omega arith)
 
   -- no more items are left than bytes
-  pub items-inside : (s : List ℕ) (at : ℕ) → Boundary f s at → at + length (items_from f s at) ≤ length s
-  items-inside s = along s Inside (λ at ih h. go at ih h (look s at 0))
+  pub items_inside : (s : List ℕ) (at : ℕ) → Boundary f s at → at + length (items_from f s at) ≤ length s
+  items_inside s = along s Inside (λ at ih h. go at ih h (look s at 0))
     where
       Inside : ℕ → Type 0
       Inside at = Boundary f s at → at + length (items_from f s at) ≤ length s
@@ -164,7 +164,7 @@ module _ {I : Type 0} (f : Form I) (facts : Facts f) where
       go at ih h (ended p q) = omega (arith, ap length (none_left s at p))
       go at ih h (broke k p q) = absurd (no_items (0 + k) (items_from f s at) (sym q ∙ h))
       go at ih h (went x e p q) =
-          let n = next-item s at x e h p in
+          let n = next_item s at x e h p in
           omega (arith, ih x e p n.again, n.further, ap length n.first)
 
 -- what is found under one form is found under a wider one
@@ -185,7 +185,7 @@ module _ {I : Type 0} (f : Form I) (facts : Facts f) (g : Form I) (wide : Facts 
 
       go : (at : ℕ) → Past f facts s Same at → (b : ℕ) (xs : List I) → found_from f s at b ≡ Items xs → At f facts s at b
           → found_from g s at b ≡ Items xs
-      go at ih b xs h (ended p q) = found-end g wide s at b p ∙ sym q ∙ h
+      go at ih b xs h (ended p q) = found_end g wide s at b p ∙ sym q ∙ h
       go at ih b xs h (broke k p q) = absurd (no_items (b + k) xs (sym q ∙ h))
       go at ih b xs h (went x e p q) =
-          found-next g wide s at b x e (more s at x e p) ∙ tail e (b + 6) x xs (ih x e p) (found_from f s e (b + 6)) refl (sym q ∙ h)
+          found_next g wide s at b x e (more s at x e p) ∙ tail e (b + 6) x xs (ih x e p) (found_from f s e (b + 6)) refl (sym q ∙ h)

@@ -93,13 +93,13 @@ module _ {M : Type 1} {𝓤 : Ura M} (𝓛 : Logic 𝓤) where
   entered (e ∷ E) vs = ‵ (froom e.0 e.1 zero) ∷ (cells E vs ++ (‵ (deaths (e ∷ E)) ∷ []))
 
   -- what is made for all of them, and for one
-  abbrev pub whole-frame : Env 𝓤 H → SProp 𝓤
-  whole-frame E = sep 𝓤 (⋆ (cells E [])) (sem 𝓛 (deaths E))
+  abbrev pub whole_frame : Env 𝓤 H → SProp 𝓤
+  whole_frame E = sep 𝓤 (⋆ (cells E [])) (sem 𝓛 (deaths E))
 
   abbrev pub one : Ty × ℕ → SProp 𝓤
   one e = sep 𝓤 (H.room e.0 e.1 zero) (H.dies e.0 e.1)
 
-  takes : (e : Ty × ℕ) (E : Env 𝓤 H) (P : SProp 𝓤) → ent 𝓤 (sep 𝓤 (whole-frame E) (sep 𝓤 P (one e))) (sep 𝓤 (whole-frame (e ∷ E)) P)
+  takes : (e : Ty × ℕ) (E : Env 𝓤 H) (P : SProp 𝓤) → ent 𝓤 (sep 𝓤 (whole_frame E) (sep 𝓤 P (one e))) (sep 𝓤 (whole_frame (e ∷ E)) P)
   takes e E P =
       let room = ‵ (froom e.0 e.1 zero) in
       qed 𝓛 ((raw (⋆ (cells E [])) ⊛ ‵ (deaths E)) ∷ (raw P ⊛ room ⊛ ‵ (fdies e.0 e.1)) ∷ []) ∵
@@ -109,13 +109,13 @@ module _ {M : Type 1} {𝓤 : Ura M} (𝓛 : Logic 𝓤) where
       move ! (1 ∷ 2 ∷ []) $ fjoin ! $ move ! (1 ∷ 0 ∷ []) $ join ! $ done !
 
   alloc_all : (ls : List Local) (P : SProp 𝓤) (Kt : Env 𝓤 H → SProp 𝓤)
-      → Over ls (λ E. ent 𝓤 (sep 𝓤 (whole-frame E) P) (Kt E)) → ent 𝓤 P (alloc 𝓤 H ls Kt)
-  alloc_all [] P Kt h = via 𝓤 (sep 𝓤 (emp 𝓤) P) (emp∗ 𝓤 P) (via 𝓤 (sep 𝓤 (whole-frame []) P) (mono_l 𝓤 P (emp∗ 𝓤 (emp 𝓤))) h)
+      → Over ls (λ E. ent 𝓤 (sep 𝓤 (whole_frame E) P) (Kt E)) → ent 𝓤 P (alloc 𝓤 H ls Kt)
+  alloc_all [] P Kt h = via 𝓤 (sep 𝓤 (emp 𝓤) P) (emp∗ 𝓤 P) (via 𝓤 (sep 𝓤 (whole_frame []) P) (mono_l 𝓤 P (emp∗ 𝓤 (emp 𝓤))) h)
   alloc_all (local τ o ∷ ls) P Kt h =
       all_i 𝓤 (λ (b : ℕ). wand 𝓤 (one (τ, b)) (alloc 𝓤 H ls (λ E. Kt ((τ, b) ∷ E)))) (λ b.
       wand_i 𝓤 P (one (τ, b)) (alloc 𝓤 H ls (λ E. Kt ((τ, b) ∷ E)))
       (alloc_all ls (sep 𝓤 P (one (τ, b))) (λ E. Kt ((τ, b) ∷ E))
-      (over_map ls (λ E g. via 𝓤 (sep 𝓤 (whole-frame ((τ, b) ∷ E)) P) (takes (τ, b) E P) g) (h b))))
+      (over_map ls (λ E g. via 𝓤 (sep 𝓤 (whole_frame ((τ, b) ∷ E)) P) (takes (τ, b) E P) g) (h b))))
 
   -- an entry goes behind others, or before them
   behind : (Δ Γ : List (Item 𝓤)) (i : Item 𝓤) → ent 𝓤 (⋆ (i ∷ (Δ ++ Γ))) (⋆ (Δ ++ (i ∷ Γ)))
@@ -144,7 +144,7 @@ module _ {M : Type 1} {𝓤 : Ura M} (𝓛 : Logic 𝓤) where
       s.prf
 
   opens : (e : Ty × ℕ) (E : Env 𝓤 H) (vs : List Val) (Γ : List (Item 𝓤)) (P : SProp 𝓤) → Fit E vs
-      → ent 𝓤 (⋆ (Γ ++ entered (e ∷ E) vs)) P → ent 𝓤 (sep 𝓤 (whole-frame (e ∷ E)) (⋆ Γ)) (pass 𝓤 H E vs P)
+      → ent 𝓤 (⋆ (Γ ++ entered (e ∷ E) vs)) P → ent 𝓤 (sep 𝓤 (whole_frame (e ∷ E)) (⋆ Γ)) (pass 𝓤 H E vs P)
   opens e E vs Γ P ok h =
       let i = ‵ (froom e.0 e.1 zero) in
       let d = ‵ (deaths (e ∷ E)) in

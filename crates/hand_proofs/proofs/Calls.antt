@@ -108,11 +108,11 @@ module _ {M : Type 1} {𝓤 : Ura M} {H : Heap 𝓤} {K : Type 0} (w : World {�
       use0 w.given (raw (Handed w P y)) (via 𝓤 (Tokens w P y) alive (beside 𝓤 (meaning 𝓤 H w.atoms (Owned w P y)) (Tokens w P y) made))
 
   module _ {E : Env 𝓤 H} {f : Name} {xs : List Operand} {q : Post 𝓤 H} {d : Place} where
-    pub calls-as : K → {rest : Body} (P : Promise 𝓤) → Callee w P f → (y : Call w P) → ent 𝓤 (emp 𝓤) (Asked w P y)
+    pub calls_as : K → {rest : Body} (P : Promise 𝓤) → Callee w P f → (y : Call w P) → ent 𝓤 (emp 𝓤) (Asked w P y)
         → (Q : Answer w P y → SProp 𝓤) → Says w P y Q → Opds K w.given (raw (Handed w P y) ∷ Γ) E xs (passes w P y)
         → GoesOn w P y K Γ Q (λ v. lands w.tables.C w.tables.Λ E d v rest q)
         → Seq K w.given (raw (Handed w P y) ∷ Γ) (runs w.tables.C w.tables.Λ E (seq (call f xs d) rest) q)
-    calls-as t {rest} P kept y asked Q said os k =
+    calls_as t {rest} P kept y asked Q said os k =
         calls_from t (fm_of 𝓤 H w.given.laws w.tables) (raw (Handed w P y)) (passes w P y) (After w P y)
         (meets w P y (w.tables.C f) kept asked) os
         (answers w P y (λ v. lands w.tables.C w.tables.Λ E d v rest q) t (λ v. tt) Q said k)
@@ -122,7 +122,7 @@ module _ {M : Type 1} {𝓤 : Ura M} {H : Heap 𝓤} {K : Type 0} (w : World {�
         → Knows w P y K Γ φ (λ v. lands w.tables.C w.tables.Λ E d v rest q)
         → Seq K w.given (raw (Handed w P y) ∷ Γ) (runs w.tables.C w.tables.Λ E (seq (call f xs d) rest) q)
     calls t {rest} P kept y asked φ said os k =
-        calls-as t P kept y asked (λ r. fact 𝓤 (φ r)) said os (hears w P y (λ v. lands w.tables.C w.tables.Λ E d v rest q) φ t k)
+        calls_as t P kept y asked (λ r. fact 𝓤 (φ r)) said os (hears w P y (λ v. lands w.tables.C w.tables.Λ E d v rest q) φ t k)
 
     pub calls_is : K → {rest : Body} (P : Promise 𝓤) → Callee w P f → (y : Call w P) → ent 𝓤 (emp 𝓤) (Asked w P y)
         → (a : Answer w P y) → Says w P y (λ r. fact 𝓤 (r ≡ a))

@@ -115,8 +115,8 @@ module _ {M : Type 1} {𝓤 : Ura M} {𝓛 : Logic 𝓤} {K : Type 0} {Γ : List
         (via 𝓤 (star 𝓛 (insert 𝓛 n i Γ)) (inserts 𝓛 n i Γ) s.prf);
   })
 
-  pub first-only : K → {i : Item 𝓤} {P Q : Fml} → Step K 𝓛 (i ∷ ‵ P ∷ Γ) G (i ∷ ‵ (fsep P Q) ∷ Γ) G
-  first-only t = step (λ s. move t (1 ∷ []) $ fsplit t $ move t (1 ∷ []) $ drop t $ move t (1 ∷ 0 ∷ []) $ s)
+  pub first_only : K → {i : Item 𝓤} {P Q : Fml} → Step K 𝓛 (i ∷ ‵ P ∷ Γ) G (i ∷ ‵ (fsep P Q) ∷ Γ) G
+  first_only t = step (λ s. move t (1 ∷ []) $ fsplit t $ move t (1 ∷ []) $ drop t $ move t (1 ∷ 0 ∷ []) $ s)
 
   pub empties : K → (p n : ℕ) → taken 𝓛 p n Γ ≡ all_of 𝓛 n → Step K 𝓛 (emptied 𝓛 p n Γ) G Γ G
   empties t p n e = step (λ s. record { prf = via 𝓤 (star 𝓛 (emptied 𝓛 p n Γ)) (empty 𝓛 p n Γ e) s.prf })

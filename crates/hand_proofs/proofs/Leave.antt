@@ -15,7 +15,7 @@ use types.Logic.{Logic, sem}
 use types.Kit.{Item, Step, step, ‵, raw, ◌⊛◌, ⋆ as star, mean, nth, push, pop, prop, runs, at_ret}
 use types.Kit.{◌$◌, ◌∵◌, !, qed, by, move, join, split, fsplit, frame, done, use1, use2}
 use types.Run.{look, returns}
-use Rattle.hand_proofs.proofs.Begin.{deaths, cells, whole-frame, one}
+use Rattle.hand_proofs.proofs.Begin.{deaths, cells, whole_frame, one}
 use Rattle.hand_proofs.proofs.Entries.{left}
 
 module _ {M : Type 1} {𝓤 : Ura M} (𝓛 : Logic 𝓤) where
@@ -94,10 +94,10 @@ module _ {M : Type 1} {𝓤 : Ura M} (𝓛 : Logic 𝓤) where
         use1 𝓛 (raw (Out E) ⊛ raw (⋆ (without d E Γ))) (out_at d E Γ e) $ split ! $ frame ! $
         move ! (1 ∷ 0 ∷ []) $ by ! (push 𝓛 i (without d E Γ)))
 
-  free_all : (E : Env 𝓤 H) (P : SProp 𝓤) → ent 𝓤 (sep 𝓤 (whole-frame 𝓛 E) P) (release 𝓤 H E P)
-  free_all [] P = snd∗ 𝓤 (whole-frame 𝓛 []) P
+  free_all : (E : Env 𝓤 H) (P : SProp 𝓤) → ent 𝓤 (sep 𝓤 (whole_frame 𝓛 E) P) (release 𝓤 H E P)
+  free_all [] P = snd∗ 𝓤 (whole_frame 𝓛 []) P
   free_all (e ∷ E) P =
-      via 𝓤 (sep 𝓤 (one 𝓛 e) (sep 𝓤 (whole-frame 𝓛 E) P))
+      via 𝓤 (sep 𝓤 (one 𝓛 e) (sep 𝓤 (whole_frame 𝓛 E) P))
       (qed 𝓛 ((raw (⋆ (rooms (e ∷ E))) ⊛ ‵ (deaths (e ∷ E))) ∷ raw P ∷ []) ∵
       split ! $ use1 𝓛 (room e ⊛ raw (⋆ (rooms E))) (pop 𝓛 (room e) (rooms E)) $ split ! $ move ! (2 ∷ []) $ fsplit ! $
       -- [that it dies; that they die; room for it; the others; P]
@@ -113,7 +113,7 @@ module _ {M : Type 1} {𝓤 : Ura M} {𝓛 : Logic 𝓤} {K : Type 0} {Γ : List
       → Step K 𝓛 (without 𝓛 d E Γ) (prop (Kf r)) Γ (runs C Λ E return (at_ret E Kf))
   leaves t {Kf = Kf} {r = r} d e f = step (λ s. returns t (look t d e) $ record {
     prf =
-        let F = whole-frame 𝓛 E in
+        let F = whole_frame 𝓛 E in
         via 𝓤 (sep 𝓤 F (star 𝓛 (without 𝓛 d E Γ))) (out_at 𝓛 (deaths E) d E Γ f)
         (via 𝓤 (sep 𝓤 F (Kf r)) (mono_r 𝓤 F s.prf) (free_all 𝓛 E (Kf r)));
   })

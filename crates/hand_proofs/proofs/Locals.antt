@@ -116,9 +116,9 @@ module _ {M : Type 1} {𝓤 : Ura M} {𝓛 : Logic 𝓤} {K : Type 0} {Γ : List
         → Step K 𝓛 (Set 𝓛 Γ E d i v) (prop (post 𝓤 H q next)) Γ (runs C Λ E (assign (place i []) rv) q)
     sets_last t d r e typed = assigns_last t r (from t (stop t)) (init t (d + i) e typed)
 
-    pub resets-last : K → (d : ℕ) {rv : RValue} {u : Val} → Rv K 𝓛 Γ E rv v → Holds 𝓛 Γ E d i u → Typed (spot_of 𝓤 H E i).0 v
+    pub resets_last : K → (d : ℕ) {rv : RValue} {u : Val} → Rv K 𝓛 Γ E rv v → Holds 𝓛 Γ E d i u → Typed (spot_of 𝓤 H E i).0 v
         → Step K 𝓛 (Set 𝓛 Γ E d i v) (prop (post 𝓤 H q next)) Γ (runs C Λ E (assign (place i []) rv) q)
-    resets-last t d r e typed = assigns_last t r (from t (stop t)) (store t (d + i) e typed)
+    resets_last t d r e typed = assigns_last t r (from t (stop t)) (store t (d + i) e typed)
 
     pub lands : K → (d : ℕ) {rest : Body} → Empty 𝓛 Γ E d i → Typed (spot_of 𝓤 H E i).0 v
         → Step K 𝓛 (Set 𝓛 Γ E d i v) (runs C Λ E rest q) Γ (landing C Λ E (place i []) v rest q)

@@ -29,7 +29,7 @@ use denote.Triple.Entry.{Args, Res, alive, on_entry}
 use denote.Triple.Walked.{Stays, fits_of, has_of, Ending, walk_of, ends_at, walked, walk_Meets}
 use Rattle.hand_proofs.proofs.World.{World, Promise, Proved}
 use Rattle.hand_proofs.proofs.Begin.{Over, Stored, entered, begins}
-use Rattle.hand_proofs.proofs.Params.{Params, spells, all_tell, all-lawful, dropped, all_go}
+use Rattle.hand_proofs.proofs.Params.{Params, spells, all_tell, all_lawful, dropped, all_go}
 
 -- what holds of nothing may stand beside anything
 pub beside : {M : Type 1} (𝓤 : Ura M) (Q P : SProp 𝓤) → ent 𝓤 (emp 𝓤) Q → ent 𝓤 P (sep 𝓤 P Q)
@@ -131,10 +131,10 @@ module _ {M : Type 1} {𝓤 : Ura M} {H : Heap 𝓤} (w : World {𝓤 = 𝓤} _)
           (a : Args S κs) (g : (P.1 κs a).ghost) → Are (Ts κs) (Ises (Ts κs)) a (Vs κs a) → Stored f.locals (flat (Ts κs) (Vs κs a))
           → φ κs a g → Walk ((κs, qs, bounds, a, Vs κs a), g)
 
-      pub walks-if : Fit → (φ : Fact)
+      pub walks_if : Fit → (φ : Fact)
           → ((κs : Lfts S.lifetimes) (a : Args S κs) (g : (P.1 κs a).ghost) → ent 𝓤 ((P.1 κs a).requires g) (fact 𝓤 (φ κs a g)))
           → Walks φ → Proved w P f
-      walks-if fit φ asked walk =
+      walks_if fit φ asked walk =
           let run = WpFn 𝓤 H w.tables.C w.tables.Λ f in
           let none = dropped w S.params P.0.kept in
           let spelled = spells w S.params P.0.kept ps in
@@ -143,11 +143,11 @@ module _ {M : Type 1} {𝓤 : Ura M} {H : Heap 𝓤} (w : World {𝓤 = 𝓤} _)
           (walked 𝓤 H w.atoms P.0 none P.1 run spelled (all_tell w S.params P.0.kept ps) (λ κs qs bounds a g are.
           let y : Call = ((κs, qs, bounds, a, Vs κs a), g) in
           let entry : SProp 𝓤 = on_entry 𝓤 H w.atoms S κs qs a (Vs κs a) in
-          let typed = fit κs a (all_Typed 𝓤 H w.atoms (Ts κs) (all-lawful w S.params P.0.kept ps κs) a (Vs κs a) are) in
+          let typed = fit κs a (all_Typed 𝓤 H w.atoms (Ts κs) (all_lawful w S.params P.0.kept ps κs) a (Vs κs a) are) in
           fact_use 𝓤 (φ κs a g) (via 𝓤 (Asked y) (snd∗ 𝓤 entry (Asked y)) (asked κs a g)) (λ h.
           via 𝓤 entry (fst∗ 𝓤 entry (Asked y))
           (begins w.given f (passed 𝓤 H w.atoms S y.0) w.tables.C w.tables.Λ (Reached y)
           (raw (Tokens y) ∷ ‵ (Owned y) ∷ []) typed (walk κs qs bounds a g are typed h)))))
 
       pub walks : Fit → Walks (λ κs a g. Unit {0}) → Proved w P f
-      walks fit walk = walks-if fit (λ κs a g. Unit {0}) (λ κs a g. fact_i 𝓤 (Unit {0}) ((P.1 κs a).requires g) tt) walk
+      walks fit walk = walks_if fit (λ κs a g. Unit {0}) (λ κs a g. fact_i 𝓤 (Unit {0}) ((P.1 κs a).requires g) tt) walk

@@ -48,9 +48,9 @@ module _ {M : Type 1} {𝓤 : Ura M} {H : Heap 𝓤} (w : World {𝓤 = 𝓤} _)
   all_tell [] ks ps κs = tt
   all_tell (s ∷ ss) ks ps κs = (ps.0.tells κs, all_tell ss ks.1 ps.1 κs)
 
-  pub all-lawful : (ss : List (Slot n)) (ks : Kepts ss) → Params ss ks → (κs : Lfts n) → Lawfuls 𝓤 H w.atoms (types_at ss κs)
-  all-lawful [] ks ps κs = tt
-  all-lawful (s ∷ ss) ks ps κs = (ps.0.lawful κs, all-lawful ss ks.1 ps.1 κs)
+  pub all_lawful : (ss : List (Slot n)) (ks : Kepts ss) → Params ss ks → (κs : Lfts n) → Lawfuls 𝓤 H w.atoms (types_at ss κs)
+  all_lawful [] ks ps κs = tt
+  all_lawful (s ∷ ss) ks ps κs = (ps.0.lawful κs, all_lawful ss ks.1 ps.1 κs)
 
   -- nothing is kept of the parameters for the exit
   abbrev pub dropped : (ss : List (Slot n)) (ks : Kepts ss) → Stays ss ks

@@ -82,9 +82,9 @@ module _ {M : Type 1} {𝓤 : Ura M} {H : Heap 𝓤} (w : World {𝓤 = 𝓤} _)
     lawful = LL.lawful D L 𝓤 H w.atoms w.given;
   }
 
-  abbrev pub choice-of : (D : ED.Declared) (L : EL.Laws D) → Few (ED.shape D) → EL.Copyabless D.parts
+  abbrev pub choice_of : (D : ED.Declared) (L : EL.Laws D) → Few (ED.shape D) → EL.Copyabless D.parts
       → Plainss (ED.variants D) → Plain (ED.row D)
-  choice-of D L few c p = record {
+  choice_of D L few c p = record {
     vals = EL.vals D L;
     tells = EL.tells D L;
     copy = EL.copy D c 𝓤 H w.atoms w.given;

@@ -33,15 +33,15 @@ pub is_spelled : {R : RattleType} (l : Lowered R) (x : R.Denot) (vs : List Val) 
 is_spelled {R} l x vs is = subst (Is R x) (l.val_is x vs is) is
 
 module _ {M : Type 1} {𝓤 : Ura M} {H : Heap 𝓤} (w : World {𝓤 = 𝓤} _) {K : Type 0} {Γ : List (Item 𝓤)} {G : Goal 𝓤 H} where
-  pub shuts-struct : K → (D : Declared) (d : D.D) (vss : Valss (fields D))
+  pub shuts_struct : K → (D : Declared) (d : D.D) (vss : Valss (fields D))
       → Step K w.given (‵ ((row D).own d (of_fields D vss ∷ [])) ∷ Γ) G (‵ (owns (fields D) (D.to d) vss) ∷ Γ) G
-  shuts-struct t D d vss = step (λ s.
+  shuts_struct t D d vss = step (λ s.
       feq_i t (List Val) (of_fields D vss ∷ []) (of_fields D vss ∷ []) refl $ fjoin t $
       fpack t (Valss (fields D)) (within (shape D) (D.to d) (of_fields D vss ∷ [])) vss $ s)
 
-  pub opens-struct : K → (D : Declared) (L : LL.Laws D) (v : Values D.parts) (u : Val)
+  pub opens_struct : K → (D : Declared) (L : LL.Laws D) (v : Values D.parts) (u : Val)
       → Step K w.given (‵ (all_own D.parts L v) ∷ Γ) G (‵ ((Struct (shape D)).own_val (intos D.parts v) (u ∷ [])) ∷ Γ) G
-  opens-struct t D L v u = step (λ s.
+  opens_struct t D L v u = step (λ s.
       use1 w.given (given (u ∷ [] ≡ vstruct (spelled D.parts L v) ∷ []) (‵ (all_own D.parts L v)))
       (own_open 𝓤 H w.atoms w.given D L v u) $ learn t (λ _. s))
 

@@ -23,16 +23,16 @@ pub use denote.Builtin.{u8, u64, usize}
 pub use denote.Ref.{Bor, MutBor}
 pub use denote.Slice.{ShrSlice, Room, slice_val, slice_ty}
 pub use Rattle.hand_proofs.proofs.World.{World, Promise, promise, Callee, Proved, world, known, proves}
-pub use Rattle.hand_proofs.proofs.Meets.{Call, Tokens, Reached, Walk, walks, walks-if, ends, ends_as}
-pub use Rattle.hand_proofs.proofs.Plains.{Plain, word, truth, unit, row_of, record_of, choice-of, owned, made}
+pub use Rattle.hand_proofs.proofs.Meets.{Call, Tokens, Reached, Walk, walks, walks_if, ends, ends_as}
+pub use Rattle.hand_proofs.proofs.Plains.{Plain, word, truth, unit, row_of, record_of, choice_of, owned, made}
 pub use Rattle.hand_proofs.proofs.Params.{Param, by_value, number, lent, struct}
 pub use Rattle.hand_proofs.proofs.Begin.{Typed, frame, deaths, cells}
 pub use Rattle.hand_proofs.proofs.Leave.{leaves}
-pub use Rattle.hand_proofs.proofs.Entries.{back, first-only, empties}
-pub use Rattle.hand_proofs.proofs.Locals.{local, member, through, locals, sets, sets_last, resets, resets-last, lands, lands_last}
-pub use Rattle.hand_proofs.proofs.Calls.{nil, hands_on, hands, hands_none, calls, calls_is, calls-as, calls_last}
+pub use Rattle.hand_proofs.proofs.Entries.{back, first_only, empties}
+pub use Rattle.hand_proofs.proofs.Locals.{local, member, through, locals, sets, sets_last, resets, resets_last, lands, lands_last}
+pub use Rattle.hand_proofs.proofs.Calls.{nil, hands_on, hands, hands_none, calls, calls_is, calls_as, calls_last}
 pub use Rattle.hand_proofs.proofs.Constants.{constant}
-pub use Rattle.hand_proofs.proofs.Structs.{of_fields, is_whole, is_spelled, shuts-struct, opens-struct, twice}
+pub use Rattle.hand_proofs.proofs.Structs.{of_fields, is_whole, is_spelled, shuts_struct, opens_struct, twice}
 pub use Rattle.hand_proofs.proofs.Lent.{looks, shuts, run, lends, returns}
 pub use Rattle.hand_proofs.proofs.Arrays.{spreads, gathers, cuts, joins, takes, puts}
 pub use Rattle.hand_proofs.proofs.Loops.{Turn, goes_on, rounds}

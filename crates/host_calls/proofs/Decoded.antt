@@ -31,19 +31,19 @@ use Rattle.host_calls.specs.Answers.{settled_answer, usable_answer, check_answer
 
 module _ (n xmax : ℕ) (s : List ℕ) (id : ℕ) where
   -- bytes of another length
-  pub settled-18 : torn s ≡ true → settled_answer n xmax s id ≡ (told BadImage).number
+  pub settled_18 : torn s ≡ true → settled_answer n xmax s id ≡ (told BadImage).number
   unfolding settled_answer
-  settled-18 z = rw z
+  settled_18 z = rw z
 
   module _ (whole : torn s ≡ false) where
-    pub settled-10 : n < count_of s → settled_answer n xmax s id ≡ (told BadSnapshot).number
+    pub settled_10 : n < count_of s → settled_answer n xmax s id ≡ (told BadSnapshot).number
     unfolding settled_answer settled_test told
-    settled-10 h = rw (whole, lt-ltb n (count_of s) h)
+    settled_10 h = rw (whole, lt-ltb n (count_of s) h)
 
     module _ (short : count_of s ≤ n) where
-      pub settled-4 : id ≡ 0 → settled_answer n xmax s id ≡ (told ZeroTxid).number
+      pub settled_4 : id ≡ 0 → settled_answer n xmax s id ≡ (told ZeroTxid).number
       unfolding settled_answer settled_test told
-      settled-4 z = rw (whole, le-ltb n (count_of s) short, eq-eqb id 0 z)
+      settled_4 z = rw (whole, le-ltb n (count_of s) short, eq-eqb id 0 z)
 
       -- no refusal: below xmax, and not in the list
       module _ (named : id ≢ 0) where
@@ -53,14 +53,14 @@ module _ (n xmax : ℕ) (s : List ℕ) (id : ℕ) where
             let all : take (count_of s) (ids_of s) ≡ ids_of s = take_all (count_of s) (ids_of s) (omega (arith, words_length (count_of s) s 0 8)) in
             rw (whole, le-ltb n (count_of s) short, ne_eqb id 0 named, all)
 
-        pub settled-late : xmax ≤ id → settled_answer n xmax s id ≡ 0
-        settled-late h = settled-asked ∙ rw (le-ltb id xmax h)
+        pub settled_late : xmax ≤ id → settled_answer n xmax s id ≡ 0
+        settled_late h = settled-asked ∙ rw (le-ltb id xmax h)
 
-        pub settled-listed : id < xmax → listed id (ids_of s) ≡ true → settled_answer n xmax s id ≡ 0
-        settled-listed h e = settled-asked ∙ rw (lt-ltb id xmax h, e)
+        pub settled_listed : id < xmax → listed id (ids_of s) ≡ true → settled_answer n xmax s id ≡ 0
+        settled_listed h e = settled-asked ∙ rw (lt-ltb id xmax h, e)
 
-        pub settled-absent : id < xmax → listed id (ids_of s) ≡ false → settled_answer n xmax s id ≡ 1
-        settled-absent h e = settled-asked ∙ rw (lt-ltb id xmax h, e)
+        pub settled_absent : id < xmax → listed id (ids_of s) ≡ false → settled_answer n xmax s id ≡ 1
+        settled_absent h e = settled-asked ∙ rw (lt-ltb id xmax h, e)
 
 -- the reader's own id is usable where nothing is refused; of another the tests say the same
 abbrev own_or : ℕ → ℕ
@@ -81,13 +81,13 @@ module _ (n xmax : ℕ) (s : List ℕ) (id own : ℕ) where
   abbrev in_list : Bool
   in_list = settled_in xmax (ids_of s) (count_of s) id
 
-  pub usable-other : own ≢ id → usable_answer n xmax s id own ≡ settled_answer n xmax s id
+  pub usable_other : own ≢ id → usable_answer n xmax s id own ≡ settled_answer n xmax s id
   unfolding settled_answer usable_answer settled_test usable_test
-  usable-other h = rw (ne_eqb own id h) (ap (answer_by (list_test s)) (other_by tests in_list))
+  usable_other h = rw (ne_eqb own id h) (ap (answer_by (list_test s)) (other_by tests in_list))
 
-  usable-own : own ≡ id → usable_answer n xmax s id own ≡ own_or (settled_answer n 0 s id)
+  usable_own : own ≡ id → usable_answer n xmax s id own ≡ own_or (settled_answer n 0 s id)
   unfolding settled_answer usable_answer settled_test usable_test told
-  usable-own h = rw (eq-eqb own id h, le-ltb id 0 (omega arith)) (go (torn s))
+  usable_own h = rw (eq-eqb own id h, le-ltb id 0 (omega arith)) (go (torn s))
     where
       go : (b : Bool) →
           answer_by (cond b (Refuse BadImage) Pass) (usable_number (usable_by tests (in_list || true)))
@@ -96,11 +96,11 @@ module _ (n xmax : ℕ) (s : List ℕ) (id own : ℕ) where
       go false = own_by tests in_list
 
   module _ {said : ℕ} (h : own ≡ id) (e : said ≡ settled_answer n 0 s id) where
-    pub own-yes : said ≡ 0 → usable_answer n xmax s id own ≡ 1
-    own-yes z = usable-own h ∙ ap own_or (sym e) ∙ rw (eq-eqb said 0 z)
+    pub own_yes : said ≡ 0 → usable_answer n xmax s id own ≡ 1
+    own_yes z = usable_own h ∙ ap own_or (sym e) ∙ rw (eq-eqb said 0 z)
 
     pub own-refused : said ≢ 0 → usable_answer n xmax s id own ≡ said
-    own-refused z = usable-own h ∙ ap own_or (sym e) ∙ rw (ne_eqb said 0 z)
+    own-refused z = usable_own h ∙ ap own_or (sym e) ∙ rw (ne_eqb said 0 z)
 
 -- whatever the inner call, asked the decoded values, says: its number is the answer to a list that is whole
 pub settled_is :

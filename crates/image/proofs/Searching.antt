@@ -64,11 +64,11 @@ one x s at = or-false (eqb (word_at s at) x)
 
 -- a match, and none
 module _ (x : ℕ) (s : List ℕ) (k i m : ℕ) (h : i + m ≤ k) where
-  pub rest-hit : listed x (words_from m s (8 * i) 8) ≡ true → listed x (rest s k i) ≡ true
-  rest-hit e = rest_split x s k i m h ∙ or_inl _ _ e
+  pub rest_hit : listed x (words_from m s (8 * i) 8) ≡ true → listed x (rest s k i) ≡ true
+  rest_hit e = rest_split x s k i m h ∙ or_inl _ _ e
 
-  pub rest-miss : listed x (words_from m s (8 * i) 8) ≡ false → listed x (rest s k i) ≡ listed x (rest s k (i + m))
-  rest-miss e = rest_split x s k i m h ∙ rw e
+  pub rest_miss : listed x (words_from m s (8 * i) 8) ≡ false → listed x (rest s k i) ≡ listed x (rest s k (i + m))
+  rest_miss e = rest_split x s k i m h ∙ rw e
 
 pub one_hit : (x : ℕ) (s : List ℕ) (at : ℕ) → word_at s at ≡ x → listed x (words_from 1 s at 8) ≡ true
 one_hit x s at e = one x s at ∙ eq-eqb _ _ e

@@ -18,8 +18,8 @@ use Rattle.upstream.specs.Relations.{TableOf, HistoryOf, WellFormed}
 use Rattle.upstream.specs.Clauses.{BeginOk, BeginTransaction}
 use Rattle.upstream.proofs.Yes.{from_yes}
 use Rattle.upstream.proofs.Pairs.{slots_of, slots_length}
-use Rattle.upstream.proofs.Always.{still-well-formed}
-use Rattle.upstream.proofs.Begin.{begin-meets}
+use Rattle.upstream.proofs.Always.{still_well_formed}
+use Rattle.upstream.proofs.Begin.{begin_meets}
 use Rattle.wait_rules.specs.declared.Owner.{Owner}
 use Rattle.wait.specs.Waits.{wait_of}
 use Rattle.wait.proofs.Waits.{heard, end-passes}
@@ -56,23 +56,23 @@ module _ (n : ℕ) (t : Table) (owner : Owner) (s h : List ℕ) (q : (wait_of n 
       well_formed_wait n owner entry acquired over.events over.trace
       (record { table = (from_yes n t (heard n t owner s q).entry).table; history = p })
 
-  pub formed-after : (c : Call) → HistoryOf entry → WellFormed n (state_after n u (history_told h s) c)
-  formed-after c p = still-well-formed n u (history_told h s) shaped c (formed p)
+  pub formed_after : (c : Call) → HistoryOf entry → WellFormed n (state_after n u (history_told h s) c)
+  formed_after c p = still_well_formed n u (history_told h s) shaped c (formed p)
 
   goes_on : Extends h (history_told h s)
   goes_on = extends_wait owner entry acquired over.events over.trace
 
-  pub goes-on-after : (c : Call) → Extends h (state_after n u (history_told h s) c).reservations
-  goes-on-after c = extends_on h (history_told h s) _ goes_on (extends_pushes (history_told h s) (reserves_by (refusal n u c) c))
+  pub goes_on_after : (c : Call) → Extends h (state_after n u (history_told h s) c).reservations
+  goes_on_after c = extends_on h (history_told h s) _ goes_on (extends_pushes (history_told h s) (reserves_by (refusal n u c) c))
 
-  pub begin-after-wait-meets : (k : Stamp) → Foreseen (refusal n u (begin k))
+  pub begin-after_wait_meets : (k : Stamp) → Foreseen (refusal n u (begin k))
       → BeginAfterWait n entry acquired (state_after n u (history_told h s) (begin k)) (tells_of (answer n u (begin k)))
-  begin-after-wait-meets k f =
+  begin-after_wait_meets k f =
       record {
-        i_begin_wait_e1 = formed-after (begin k);
+        i_begin_wait_e1 = formed_after (begin k);
         i_begin_wait_e4 = formed;
         i_begin_wait_e6 = goes_on;
-        i_begin_wait_e7 = goes-on-after (begin k);
+        i_begin_wait_e7 = goes_on_after (begin k);
         i_begin_wait_e9 = λ e. begun (b.l_begin_e5 e);
       }
     where
@@ -83,7 +83,7 @@ module _ (n : ℕ) (t : Table) (owner : Owner) (s h : List ℕ) (q : (wait_of n 
       result = tells_of (answer n u (begin k))
 
       b : BeginTransaction n acquired new result
-      b = begin-meets n u (history_told h s) k shaped f
+      b = begin_meets n u (history_told h s) k shaped f
 
       y : TableOf n acquired
       y = (from_yes n u (end-passes n t owner s q)).table

@@ -12,7 +12,7 @@ use lib.Seq.{get_or-set_same, get_or-set_other}
 use Rattle.model.proofs.Reservations.{nothing}
 use Rattle.upstream.specs.States.{Slot, State, slot, at, push}
 use Rattle.upstream.specs.Relations.{Contains, TablePart, WellFormed}
-use Rattle.upstream.proofs.Histories.{contains_pushes, contains_last, history-push, history-step}
+use Rattle.upstream.proofs.Histories.{contains_pushes, contains_last, history_push, history_step}
 use Rattle.wait_rules.specs.declared.Owner.{Owner}
 use Rattle.interference.specs.Interference.{WaitEvent, Register, End, Horizon, Reserve, Observe, WaitStep, Valid, none, also}
 
@@ -109,9 +109,9 @@ module _ (n : ℕ) (slots : List Slot) (clock sample : ℕ) (y : TablePart n slo
       below j e (yes q) = let s = y.sample_positive in let w = y.sample_within in omega arith
       below j e (no q) = let b = y.txid_below j q in omega arith
 
-  xmin-fits : (xmin clock' : ℕ) → 0 < xmin → xmin ≤ (at slots i).txid → clock ≤ clock'
+  xmin_fits : (xmin clock' : ℕ) → 0 < xmin → xmin ≤ (at slots i).txid → clock ≤ clock'
       → Fits slots clock' i (slot (at slots i).txid xmin)
-  xmin-fits xmin clock' l u c =
+  xmin_fits xmin clock' l u c =
       record {
         inside = h;
         empty = λ e. omega arith;
@@ -148,8 +148,8 @@ module _ (n : ℕ) (a b : State) (w : WellFormed n a) where
   still : (id j : ℕ) → (at a.slots j).txid ≢ 0 → Contains (push old id) (at a.slots j).txid
   still id j z = contains_pushes old (id ∷ []) _ (w.history.registered j z)
 
-  pub well-formed-step : (e : WaitEvent) → WaitStep a b e → WellFormed n b
-  well-formed-step (Register i id) s =
+  pub well_formed_step : (e : WaitEvent) → WaitStep a b e → WellFormed n b
+  well_formed_step (Register i id) s =
       rw (s.slots, s.clock, s.sample, s.reservations)
       (record {
         table =
@@ -157,55 +157,55 @@ module _ (n : ℕ) (a b : State) (w : WellFormed n a) where
             (new-fits n a.slots a.clock a.sampled_clock w.table i s.inside id s.from_clock)
             (omega (arith, s.from_clock)) w.table.sample_positive (omega (arith, w.table.sample_within, s.from_clock));
         history =
-            history-push a.slots (set a.slots i (slot id id)) a.clock a.clock old w.history id
+            history_push a.slots (set a.slots i (slot id id)) a.clock a.clock old w.history id
             (positive id s.from_clock) s.from_clock
             (stored_registered a.slots (push old id) i (slot id id) s.inside (λ z. contains_last old id) (still id));
       })
-  well-formed-step (End i) s =
+  well_formed_step (End i) s =
       rw (s.slots, s.clock, s.sample, s.reservations)
       (record {
         table =
             table-store n a.slots a.clock a.sampled_clock a.clock a.sampled_clock w.table i (slot 0 0)
             (empty-fits a.slots a.clock i s.inside) (le_refl _) w.table.sample_positive w.table.sample_within;
         history =
-            history-step a.slots (set a.slots i (slot 0 0)) a.clock a.clock old w.history [] (nothing refl (le_refl _))
+            history_step a.slots (set a.slots i (slot 0 0)) a.clock a.clock old w.history [] (nothing refl (le_refl _))
             (stored_registered a.slots old i (slot 0 0) s.inside (λ z. absurd (z refl)) w.history.registered);
       })
-  well-formed-step (Horizon i xmin) s =
+  well_formed_step (Horizon i xmin) s =
       let x = (at a.slots i).txid in
       rw (s.slots, s.reservations)
       (record {
         table =
             table-store n a.slots a.clock a.sampled_clock b.clock b.sampled_clock w.table i (slot x xmin)
-            (xmin-fits n a.slots a.clock a.sampled_clock w.table i s.inside xmin b.clock s.positive s.within
+            (xmin_fits n a.slots a.clock a.sampled_clock w.table i s.inside xmin b.clock s.positive s.within
             s.onward)
             s.onward s.sample_positive s.sample_within;
         history =
-            history-step a.slots (set a.slots i (slot x xmin)) a.clock b.clock old w.history []
+            history_step a.slots (set a.slots i (slot x xmin)) a.clock b.clock old w.history []
             (nothing refl s.onward)
             (stored_registered a.slots old i (slot x xmin) s.inside (w.history.registered i) w.history.registered);
       })
-  well-formed-step (Reserve id) s =
+  well_formed_step (Reserve id) s =
       rw (s.slots, s.clock, s.sample, s.reservations)
       (record {
         table =
             table-onward n a.slots a.clock a.sampled_clock (id + 1) a.sampled_clock w.table
             (omega (arith, s.from_clock)) w.table.sample_positive (omega (arith, w.table.sample_within, s.from_clock));
         history =
-            history-push a.slots a.slots a.clock a.clock old w.history id (positive id s.from_clock) s.from_clock
+            history_push a.slots a.slots a.clock a.clock old w.history id (positive id s.from_clock) s.from_clock
             (still id);
       })
-  well-formed-step Observe s =
+  well_formed_step Observe s =
       rw (s.slots, s.reservations)
       (record {
         table =
             table-onward n a.slots a.clock a.sampled_clock b.clock b.sampled_clock w.table s.clock
             s.sample_positive s.sample_within;
         history =
-            history-step a.slots a.slots a.clock b.clock old w.history [] (nothing refl s.clock)
+            history_step a.slots a.slots a.clock b.clock old w.history [] (nothing refl s.clock)
             w.history.registered;
       })
 
 pub well_formed_wait : (n : ℕ) (owner : Owner) (a b : State) (es : List WaitEvent) → Valid owner a b es → WellFormed n a → WellFormed n b
 well_formed_wait n owner a b es none w = w
-well_formed_wait n owner a b es (also {b = m} {e = e} s l v) w = well_formed_wait n owner m b _ v (well-formed-step n a m w e s)
+well_formed_wait n owner a b es (also {b = m} {e = e} s l v) w = well_formed_wait n owner m b _ v (well_formed_step n a m w e s)

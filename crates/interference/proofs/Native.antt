@@ -24,11 +24,11 @@ use Rattle.upstream.proofs.Pairs.{pairs_set, pairs-set_xmin, slots_of, slots_len
 use Rattle.interference.specs.Interference.{Register, End, Horizon, WaitStep}
 
 module _ (n : ℕ) (t : Table) (h : List ℕ) (s : Shaped n t) where
-  pub native-begin : (k : Stamp) → Accepts n t (begin k)
+  pub native_begin : (k : Stamp) → Accepts n t (begin k)
       → WaitStep (state_of t h) (state_after n t h (begin k))
       (Register (tells_of (answer n t (begin k))).slot (tells_of (answer n t (begin k))).id)
   unfolding change_accepted change_of after answer_accepted answer tells_of
-  native-begin k a =
+  native_begin k a =
       let (r, f) = accepted_acceptable n t (begin k) a in
       let i = lowest_empty t.txids in
       rw a
@@ -43,10 +43,10 @@ module _ (n : ℕ) (t : Table) (h : List ℕ) (s : Shaped n t) where
         reservations = refl;
       })
 
-  pub native-end : (i : SlotNo) (id : Txid) → Accepts n t (end i id)
+  pub native_end : (i : SlotNo) (id : Txid) → Accepts n t (end i id)
       → WaitStep (state_of t h) (state_after n t h (end i id)) (End i.0)
   unfolding change_accepted change_of after
-  native-end i id a =
+  native_end i id a =
       let w = accepted_acceptable n t (end i id) a in
       rw a
       (record {
@@ -58,10 +58,10 @@ module _ (n : ℕ) (t : Table) (h : List ℕ) (s : Shaped n t) where
         reservations = refl;
       })
 
-  pub native-snapshot : (i : SlotNo) (id : Txid) (c m : ℕ) → Accepts n t (own i id c m)
+  pub native_snapshot : (i : SlotNo) (id : Txid) (c m : ℕ) → Accepts n t (own i id c m)
       → WaitStep (state_of t h) (state_after n t h (own i id c m)) (Horizon i.0 (shown n t (own i id c m)).xmin)
   unfolding change_accepted change_of after shown_accepted shown snapshot_of
-  native-snapshot i id c m a =
+  native_snapshot i id c m a =
       let (w, o) = accepted_acceptable n t (own i id c m) a in
       let xmin = xmin_of m (active t.txids) in
       let active-here = taken-active t.txids i.0 (registered_taken t i id w.registered) in

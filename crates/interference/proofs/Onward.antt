@@ -74,9 +74,9 @@ module _ (mine : SlotNo) (id : Txid) where
   pub slot_kept : (a b : State) (es : List WaitEvent) → Valid (Holds mine id) a b es → at b.slots mine.0 ≡ at a.slots mine.0
   slot_kept a b es v = (untouched-wait a b es v).own
 
-  pub owner-stays-live : (a b : State) (es : List WaitEvent) → Valid (Holds mine id) a b es → LiveOwner a mine.0 id.0
+  pub owner-stays_live : (a b : State) (es : List WaitEvent) → Valid (Holds mine id) a b es → LiveOwner a mine.0 id.0
       → LiveOwner b mine.0 id.0
-  owner-stays-live a b es v o =
+  owner-stays_live a b es v o =
       let u = untouched-wait a b es v in
       record {
         positive = o.positive;

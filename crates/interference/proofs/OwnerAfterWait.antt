@@ -20,8 +20,8 @@ use Rattle.upstream.specs.Clauses.{EndTransaction, OwnOk}
 use Rattle.upstream.proofs.Yes.{from_yes}
 use Rattle.upstream.proofs.Pairs.{slots_of, txid-at, slots_length}
 use Rattle.upstream.proofs.Runs.{observation_strict}
-use Rattle.upstream.proofs.End.{end-meets}
-use Rattle.upstream.proofs.Snapshots.{create-transaction-snapshot-meets}
+use Rattle.upstream.proofs.End.{end_meets}
+use Rattle.upstream.proofs.Snapshots.{create_transaction_snapshot_meets}
 use Rattle.wait_rules.specs.declared.Owner.{Owner}
 use Rattle.wait_rules.specs.declared.Owner.TheVariants.{Holds}
 use Rattle.wait.specs.Waits.{wait_of}
@@ -29,8 +29,8 @@ use Rattle.wait.proofs.Waits.{heard, owner_unharmed}
 use Rattle.interference.specs.Interference.{LiveOwner, history_told}
 use Rattle.interference.specs.AfterWait.{SnapshotAfterWait, EndAfterWait}
 use Rattle.interference.proofs.Formed.{Stored, here, other, stored}
-use Rattle.interference.proofs.Onward.{slot_kept, owner-stays-live}
-use Rattle.interference.proofs.AfterWait.{over, shaped, formed, formed-after, goes-on-after}
+use Rattle.interference.proofs.Onward.{slot_kept, owner-stays_live}
+use Rattle.interference.proofs.AfterWait.{over, shaped, formed, formed_after, goes_on_after}
 
 -- who is active is read off the txids alone
 active_alike : (a b : List Slot) (k : ℕ) → ((i : ℕ) → (at a i).txid ≡ (at b i).txid) → active a k ≡ active b k
@@ -77,21 +77,21 @@ module _ (n : ℕ) (t : Table) (mine : SlotNo) (id : Txid) (s h : List ℕ) (q :
       let o = over n t owner s h q in
       let holds = owns n t mine id (heard n t owner s q).holder in
       let first = (from_yes n t (heard n t owner s q).entry).shape in
-      owner-stays-live mine id before waited o.events o.trace
+      owner-stays_live mine id before waited o.events o.trace
       (record {
         positive = omega (arith, holds.registered.not_zero);
         inside = omega (arith, slots_length n t first, holds.inside);
         holds = txid-at n t first mine.0 ∙ holds.registered.holds;
       })
 
-  pub end-after-wait-meets :
+  pub end-after_wait_meets :
       EndAfterWait n before waited (state_after n v (history_told h s) (end mine id)) mine.0 (tells_of (answer n v (end mine id)))
-  end-after-wait-meets =
+  end-after_wait_meets =
       record {
         i_end_wait_e1 = accepted;
-        i_end_wait_e2 = formed-after n t owner s h q (end mine id);
+        i_end_wait_e2 = formed_after n t owner s h q (end mine id);
         i_end_wait_e4 = formed n t owner s h q;
-        i_end_wait_e7 = goes-on-after n t owner s h q (end mine id);
+        i_end_wait_e7 = goes_on_after n t owner s h q (end mine id);
         i_end_wait_e8 = kept;
         i_end_wait_e9 = (b.l_end_e6 accepted).l_end_e6c;
       }
@@ -103,15 +103,15 @@ module _ (n : ℕ) (t : Table) (mine : SlotNo) (id : Txid) (s h : List ℕ) (q :
       accepted = end_done n v mine id passes
 
       b : EndTransaction n waited (state_after n v (history_told h s) (end mine id)) mine id (tells_of (answer n v (end mine id)))
-      b = end-meets n v (history_told h s) mine id (shaped n t owner s h q) (rw passes (omega arith))
+      b = end_meets n v (history_told h s) mine id (shaped n t owner s h q) (rw passes (omega arith))
 
-  pub snapshot-after-wait-meets : (c m : ℕ) → Foreseen (refusal n v (own mine id c m))
+  pub snapshot_after_wait_meets : (c m : ℕ) → Foreseen (refusal n v (own mine id c m))
       → SnapshotAfterWait n before waited (state_after n v (history_told h s) (own mine id c m)) mine.0 id.0
       (tells_of (answer n v (own mine id c m))) (shown n v (own mine id c m))
-  snapshot-after-wait-meets c m f =
+  snapshot_after_wait_meets c m f =
       record {
         i_own_wait_e1 = accepted;
-        i_own_wait_e2 = formed-after n t owner s h q (own mine id c m);
+        i_own_wait_e2 = formed_after n t owner s h q (own mine id c m);
         i_own_wait_e4 = formed n t owner s h q;
         i_own_wait_e6 =
             rw o.l-own-e5d
@@ -120,7 +120,7 @@ module _ (n : ℕ) (t : Table) (mine : SlotNo) (id : Txid) (s h : List ℕ) (q :
               inside = omega (arith, length-set (slots_of v) mine.0 (slot (at (slots_of v) mine.0).txid seen.xmin), live.inside);
               holds = same_txids (slots_of v) mine.0 seen.xmin live.inside mine.0 ∙ live.holds;
             });
-        i_own_wait_e8 = goes-on-after n t owner s h q (own mine id c m);
+        i_own_wait_e8 = goes_on_after n t owner s h q (own mine id c m);
         i_own_wait_e9 = kept;
         i_own_wait_e10a = o.l_own_e5c;
         i_own_wait_e10b = o.l_own_e5c.in_flight ∙ listed;
@@ -142,7 +142,7 @@ module _ (n : ℕ) (t : Table) (mine : SlotNo) (id : Txid) (s h : List ℕ) (q :
       accepted = own_done n v mine id c m passes
 
       o : OwnOk n waited new mine id seen
-      o = (create-transaction-snapshot-meets n v (history_told h s) (shaped n t owner s h q) mine id c m f).l_own_e5 accepted
+      o = (create_transaction_snapshot_meets n v (history_told h s) (shaped n t owner s h q) mine id c m f).l_own_e5 accepted
 
       listed : active new.slots (length new.slots) ≡ active (slots_of v) (length (slots_of v))
       listed =

@@ -35,7 +35,7 @@ use Rattle.wait_rules.specs.declared.Owner.TheVariants.{Nobody, Holds}
 use Rattle.wait_rules.specs.Steps.{not_owned, may_name, is_empty, least_active, register_rule, end_rule, horizon_rule, rule_of, event_test}
 use Rattle.wait_rules.specs.Steps.{change_by, event_change, event_after}
 use Rattle.wait.specs.Waits.{steps_from, ended, wait_of}
-use Rattle.wait_rules.proofs.Steps.{passed_pass, good-event}
+use Rattle.wait_rules.proofs.Steps.{passed_pass, good_event}
 use Rattle.wait.proofs.Waits.{accepts, heard}
 use Rattle.interference.specs.Interference.{WaitEvent, Register, End, Horizon, WaitStep, Names, Allowed, Valid, none, also}
 use Rattle.interference.specs.Interference.{event_by, history_by, events_told_by, history_after}
@@ -157,7 +157,7 @@ steps_valid n owner t step h [] g q = none
 steps_valid n owner t step h (e ∷ es) g q =
     let (a, b) = went_on (event_test n t owner e) _ _ q in
     let (s, l) = step_is n owner t h g e a in
-    also s l (steps_valid n owner (event_after t e) (step + 1) (history_by e.kind h e) es (good-event n t g owner e a) b)
+    also s l (steps_valid n owner (event_after t e) (step + 1) (history_by e.kind h e) es (good_event n t g owner e a) b)
 
 -- an accepted wait is a valid trace of upstream's, from the entry table to the answered one
 pub record Traced (n : ℕ) (t : Table) (owner : Owner) (s h : List ℕ) : Type 0 where

@@ -85,8 +85,8 @@ module _ (n : ℕ) where
       ended_by (ended n t slot' id') slot id ∙ rw (same_test t slot slot' id id' d, ended_by t slot' id') in
       one ∙ same_left v w slot slot' t d ∙ sym other
 
-  pub ends-commute : EndsCommute n
-  ends-commute t slot slot' id id' d =
+  pub ends_commute : EndsCommute n
+  ends_commute t slot slot' id id' d =
       record {
         same_table = same_ended t slot slot' id id' d;
         same_first = sym (same_answer t slot slot' id id' d);

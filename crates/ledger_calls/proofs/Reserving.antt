@@ -25,7 +25,7 @@ use Rattle.model.specs.Calls.{shown_accepted, shown}
 use Rattle.model.proofs.Tests.{reserves}
 use Rattle.model.proofs.Refused.{refused_kept}
 use Rattle.ledger_calls.specs.Deeds.{plainly, stayed, in_slot, did_by}
-use Rattle.ledger_calls.proofs.Tells.{passes, first-refuses, second-tells, both_pass, refused_did, accepted-did}
+use Rattle.ledger_calls.proofs.Tells.{passes, first_refuses, second_tells, both_pass, refused_did, accepted_did}
 
 -- an accepted number is below the top, so that nothing holds the clock
 pub past_is :
@@ -57,12 +57,12 @@ module _ (n : ℕ) (t : Table) where
 
       module _ {at : ℕ} (low : at ≡ lowest_empty t.txids) where
         -- the lowest slot that nobody has is entered
-        pub begin-free :
+        pub begin_free :
             at < n →
             in_slot (plainly (accepted_with at number.0) (line_of t)) at number.0 number.0 k ≡ did_by n t (begin number)
         unfolding refusal change_accepted change_of answer_accepted answer shown_accepted shown no_snapshot numbers_of tells_of xmin_told
             holder_told did_by
-        begin-free h = rw (moved, low, passed, lt-leb n (lowest_empty t.txids) (rw low at h))
+        begin_free h = rw (moved, low, passed, lt-leb n (lowest_empty t.txids) (rw low at h))
 
         -- 1: the number is spent all the same
         pub begin-full :
@@ -72,30 +72,30 @@ module _ (n : ℕ) (t : Table) where
         unfolding refusal consumed spent told change_of answer shown no_snapshot numbers_of tells_of xmin_told holder_told did_by
         begin-full h = rw (moved, passed, le-leb n (lowest_empty t.txids) (rw low at h))
 
-      pub stamp-spends : stayed n (plainly (accepted_with 0 number.0) (line_of t)) k ≡ did_by n t (stamp number)
+      pub stamp_spends : stayed n (plainly (accepted_with 0 number.0) (line_of t)) k ≡ did_by n t (stamp number)
       unfolding refusal change_accepted answer_accepted shown_accepted no_snapshot numbers_of tells_of xmin_told holder_told
-      stamp-spends = rw moved (accepted-did n t (stamp number) passed)
+      stamp_spends = rw moved (accepted_did n t (stamp number) passed)
 
       module _ (slot : SlotNo) (id : Txid) (owner : owner_test n t.txids slot id ≡ Pass) where
-        pub finish-leaves :
+        pub finish_leaves :
             in_slot (plainly (accepted_with 0 number.0) (line_of t)) slot.0 0 0 k ≡ did_by n t (finish slot id number)
         unfolding refusal change_accepted answer_accepted shown_accepted no_snapshot numbers_of tells_of xmin_told holder_told
-        finish-leaves = rw moved (accepted-did n t (finish slot id number) (both_pass _ _ owner passed))
+        finish_leaves = rw moved (accepted_did n t (finish slot id number) (both_pass _ _ owner passed))
 
   pub end_leaves :
       (slot : SlotNo) (id : Txid) → owner_test n t.txids slot id ≡ Pass →
       in_slot (plainly accepted (line_of t)) slot.0 0 0 t.counters ≡ did_by n t (end slot id)
   unfolding refusal change_accepted answer_accepted shown_accepted no_snapshot numbers_of tells_of xmin_told holder_told
-  end_leaves slot id owner = accepted-did n t (end slot id) owner
+  end_leaves slot id owner = accepted_did n t (end slot id) owner
 
   -- a finish: the owner test, then the reservation
   module _ (slot : SlotNo) (id : Txid) (number : Stamp) {mine : Told} (o : mine ≡ tells (owner_test n t.txids slot id)) where
-    pub finish-not-owner :
+    pub finish_not_owner :
         (mine.number ≡ 0 → ⊥) → stayed n (plainly mine (line_of t)) t.counters ≡ did_by n t (finish slot id number)
     unfolding refusal
-    finish-not-owner ne =
+    finish_not_owner ne =
         refused_did n t (finish slot id number) refl
-        (first-refuses (owner_test n t.txids slot id) (reservation_test (clock_of t) number) o ne) ne
+        (first_refuses (owner_test n t.txids slot id) (reservation_test (clock_of t) number) o ne) ne
 
     pub finish-refused :
         {said : Told} → mine.number ≡ 0 → said ≡ tells (reservation_test (clock_of t) number) → (said.number ≡ 0 → ⊥) →
@@ -103,4 +103,4 @@ module _ (n : ℕ) (t : Table) where
     unfolding refusal
     finish-refused z e ne =
         refused_did n t (finish slot id number) refl
-        (second-tells (owner_test n t.txids slot id) (reservation_test (clock_of t) number) (passes _ o z) e) ne
+        (second_tells (owner_test n t.txids slot id) (reservation_test (clock_of t) number) (passes _ o z) e) ne

@@ -23,12 +23,12 @@ module _ {said : Told} where
   passes (Refuse r) e z = absurd (told_positive r (sym (ap (λ (x : Told). x.number) e) ∙ z))
 
   -- two tests in order
-  pub first-refuses : (v w : Verdict) → said ≡ tells v → (said.number ≡ 0 → ⊥) → said ≡ tells (then v w)
-  first-refuses Pass w e ne = absurd (ne (ap (λ (x : Told). x.number) e))
-  first-refuses (Refuse r) w e ne = e
+  pub first_refuses : (v w : Verdict) → said ≡ tells v → (said.number ≡ 0 → ⊥) → said ≡ tells (then v w)
+  first_refuses Pass w e ne = absurd (ne (ap (λ (x : Told). x.number) e))
+  first_refuses (Refuse r) w e ne = e
 
-  pub second-tells : (v w : Verdict) → v ≡ Pass → said ≡ tells w → said ≡ tells (then v w)
-  second-tells v w p e = rw p e
+  pub second_tells : (v w : Verdict) → v ≡ Pass → said ≡ tells w → said ≡ tells (then v w)
+  second_tells v w p e = rw p e
 
 pub both_pass : (v w : Verdict) → v ≡ Pass → w ≡ Pass → then v w ≡ Pass
 both_pass v w p q = rw p q
@@ -44,7 +44,7 @@ module _ (n : ℕ) (t : Table) (c : Call) where
       go Pass p = absurd (ne (ap (λ (x : Told). x.number) (e ∙ ap tells p)))
       go (Refuse r) p = rw (e, p, refused_kept n t c r b p)
 
-  pub accepted-did :
+  pub accepted_did :
       refusal n t c ≡ Pass →
       record {
         deed = deed_of n t (change_accepted t c);
@@ -52,4 +52,4 @@ module _ (n : ℕ) (t : Table) (c : Call) where
       }
       ≡ did_by n t c
   unfolding did_by change_of answer shown
-  accepted-did p = rw p
+  accepted_did p = rw p

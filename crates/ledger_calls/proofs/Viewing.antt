@@ -26,46 +26,46 @@ use Rattle.ledger_scans.specs.declared.held.Held.{Held}
 use Rattle.ledger_scans.specs.Flight.{flight_of}
 use Rattle.ledger_scans.specs.Held.{held_of}
 use Rattle.ledger_calls.specs.Deeds.{plainly, showing, holding, stayed, in_slot, in_pin, did_by}
-use Rattle.ledger_calls.proofs.Tells.{passes, first-refuses, second-tells, both_pass, refused_did, accepted-did}
+use Rattle.ledger_calls.proofs.Tells.{passes, first_refuses, second_tells, both_pass, refused_did, accepted_did}
 
 module _ (n : ℕ) (t : Table) (clock sample : ℕ) (seen : observation_test (clock_of t) clock sample ≡ Pass) where
   module _ {k : Counters} (now : k ≡ observed clock sample t.counters) where
     module _ {f : Flight} (flight : f ≡ flight_of t.txids sample) where
-      pub snap-shows : stayed n (showing accepted f (line_of t)) k ≡ did_by n t (snap clock sample)
+      pub snap_shows : stayed n (showing accepted f (line_of t)) k ≡ did_by n t (snap clock sample)
       unfolding refusal change_accepted answer_accepted shown_accepted numbers_of tells_of xmin_told holder_told snapshot_of flight_of
-      snap-shows = rw (now, flight) (accepted-did n t (snap clock sample) seen)
+      snap_shows = rw (now, flight) (accepted_did n t (snap clock sample) seen)
 
       -- the slot keeps its txid, which the owner test found there
-      pub own-retains :
+      pub own_retains :
           (slot : SlotNo) (id : Txid) → owner_test n t.txids slot id ≡ Pass →
           in_slot (showing accepted f (line_of t)) slot.0 id.0 f.xmin k ≡ did_by n t (own slot id clock sample)
       unfolding refusal change_accepted answer_accepted shown_accepted numbers_of tells_of xmin_told holder_told snapshot_of flight_of
-      own-retains slot id owner =
+      own_retains slot id owner =
           let holds = (owns n t slot id owner).registered.holds in
           ap (λ (x : ℕ). in_slot (showing accepted f (line_of t)) slot.0 x f.xmin k) (sym holds)
-          ∙ rw (now, flight) (accepted-did n t (own slot id clock sample) (both_pass _ _ owner seen))
+          ∙ rw (now, flight) (accepted_did n t (own slot id clock sample) (both_pass _ _ owner seen))
 
     pub oldest-holds :
         {h : Held} → h ≡ held_of t.txids t.snapshot_xmins t.pins sample →
         stayed n (holding h.xmin h.holder (line_of t)) k ≡ did_by n t (oldest clock sample)
     unfolding refusal change_accepted answer_accepted shown_accepted no_snapshot numbers_of tells_of xmin_told holder_told held_of
-    oldest-holds held = rw (now, held) (accepted-did n t (oldest clock sample) seen)
+    oldest-holds held = rw (now, held) (accepted_did n t (oldest clock sample) seen)
 
     -- the lowest free pin holds the xmin of a snapshot with the larger of sample and line
-    pub pin-takes :
+    pub pin_takes :
         {at : ℕ} → at ≡ lowest_empty t.pins → at < pin_count → {used : ℕ} → used ≡ max sample (line_of t) → {f : Flight} →
         f ≡ flight_of t.txids used →
         in_pin n (showing (accepted_with at 0) f (line_of t)) at f.xmin k ≡ did_by n t (pin clock sample)
     unfolding refusal change_accepted answer_accepted shown_accepted numbers_of tells_of xmin_told holder_told snapshot_of flight_of
-    pin-takes low h u flight =
+    pin_takes low h u flight =
         rw (now, flight, u, low)
-        (accepted-did n t (pin clock sample) (both_pass _ _ seen (rw (lt-leb pin_count (lowest_empty t.pins) (rw low at h)))))
+        (accepted_did n t (pin clock sample) (both_pass _ _ seen (rw (lt-leb pin_count (lowest_empty t.pins) (rw low at h)))))
 
-  pub vacuum-raises :
+  pub vacuum_raises :
       {h : Held} → h ≡ held_of t.txids t.snapshot_xmins t.pins sample → {line : ℕ} → line ≡ max (line_of t) h.xmin →
       stayed n (holding 0 h.holder line) (counted clock sample line) ≡ did_by n t (vacuum clock sample)
   unfolding refusal change_accepted answer_accepted shown_accepted no_snapshot numbers_of tells_of xmin_told holder_told held_of
-  vacuum-raises held up = rw (up, held) (accepted-did n t (vacuum clock sample) seen)
+  vacuum_raises held up = rw (up, held) (accepted_did n t (vacuum clock sample) seen)
 
   -- 14
   pub pin-full :
@@ -77,20 +77,20 @@ module _ (n : ℕ) (t : Table) (clock sample : ℕ) (seen : observation_test (cl
       (λ z. omega arith)
 
 module _ (n : ℕ) (t : Table) (k : PinNo) where
-  pub unpin-frees :
+  pub unpin_frees :
       release_test t.pins k ≡ Pass → in_pin n (plainly accepted (line_of t)) k.0 0 t.counters ≡ did_by n t (unpin k)
   unfolding refusal change_accepted answer_accepted shown_accepted no_snapshot numbers_of tells_of xmin_told holder_told
-  unpin-frees p = accepted-did n t (unpin k) p
+  unpin_frees p = accepted_did n t (unpin k) p
 
 -- the refusals of a transaction's own snapshot, and of a pinned one
 module _ (n : ℕ) (t : Table) (clock sample : ℕ) where
   module _ (slot : SlotNo) (id : Txid) {mine : Told} (o : mine ≡ tells (owner_test n t.txids slot id)) where
-    pub own-not-owner :
+    pub own_not_owner :
         (mine.number ≡ 0 → ⊥) → stayed n (plainly mine (line_of t)) t.counters ≡ did_by n t (own slot id clock sample)
     unfolding refusal
-    own-not-owner ne =
+    own_not_owner ne =
         refused_did n t (own slot id clock sample) refl
-        (first-refuses (owner_test n t.txids slot id) (observation_test (clock_of t) clock sample) o ne) ne
+        (first_refuses (owner_test n t.txids slot id) (observation_test (clock_of t) clock sample) o ne) ne
 
     pub own-refused :
         {said : Told} → mine.number ≡ 0 → said ≡ tells (observation_test (clock_of t) clock sample) → (said.number ≡ 0 → ⊥) →
@@ -98,7 +98,7 @@ module _ (n : ℕ) (t : Table) (clock sample : ℕ) where
     unfolding refusal
     own-refused z e ne =
         refused_did n t (own slot id clock sample) refl
-        (second-tells (owner_test n t.txids slot id) (observation_test (clock_of t) clock sample) (passes _ o z) e) ne
+        (second_tells (owner_test n t.txids slot id) (observation_test (clock_of t) clock sample) (passes _ o z) e) ne
 
   pub pin-refused :
       {said : Told} → said ≡ tells (observation_test (clock_of t) clock sample) → (said.number ≡ 0 → ⊥) →
@@ -106,4 +106,4 @@ module _ (n : ℕ) (t : Table) (clock sample : ℕ) where
   unfolding refusal
   pin-refused e ne =
       refused_did n t (pin clock sample) refl
-      (first-refuses (observation_test (clock_of t) clock sample) (pin_test t.pins) e ne) ne
+      (first_refuses (observation_test (clock_of t) clock sample) (pin_test t.pins) e ne) ne

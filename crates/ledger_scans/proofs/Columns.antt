@@ -8,9 +8,9 @@ use Rattle.kinds.proofs.Lists.{from}
 use Rattle.model.specs.Tally.{active, lowest_empty}
 
 module _ (column : List ℕ) (i : ℕ) where
-  pub free-here : i < length column → get_or column i 0 ≡ 0 → lowest_empty (drop i column) ≡ 0
+  pub free_here : i < length column → get_or column i 0 ≡ 0 → lowest_empty (drop i column) ≡ 0
   unfolding lowest_empty
-  free-here h e = rw (from column i h, eq-eqb _ _ e)
+  free_here h e = rw (from column i h, eq-eqb _ _ e)
 
   pub taken_here :
       i < length column → (get_or column i 0 ≡ 0 → ⊥) → lowest_empty (drop i column) ≡ lowest_empty (drop (i + 1) column) + 1
@@ -21,15 +21,15 @@ module _ (column : List ℕ) (i : ℕ) where
   unfolding lowest_empty
   none_left h = rw (drop_of_length-le column h)
 
-  pub active-miss : i < length column → get_or column i 0 ≡ 0 → active (drop i column) ≡ active (drop (i + 1) column)
+  pub active_miss : i < length column → get_or column i 0 ≡ 0 → active (drop i column) ≡ active (drop (i + 1) column)
   unfolding active
-  active-miss h e = rw (from column i h, eq-eqb _ _ e)
+  active_miss h e = rw (from column i h, eq-eqb _ _ e)
 
-  pub active-hit :
+  pub active_hit :
       i < length column → (get_or column i 0 ≡ 0 → ⊥) → active (drop i column) ≡ get_or column i 0 ∷ active (drop (i + 1) column)
   unfolding active
-  active-hit h e = rw (from column i h, ne_eqb _ _ e)
+  active_hit h e = rw (from column i h, ne_eqb _ _ e)
 
-  pub active-none : length column ≤ i → active (drop i column) ≡ []
+  pub active_none : length column ≤ i → active (drop i column) ≡ []
   unfolding active
-  active-none h = rw (drop_of_length-le column h)
+  active_none h = rw (drop_of_length-le column h)

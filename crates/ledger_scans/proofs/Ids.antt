@@ -9,7 +9,7 @@ use lib.ListN.{length, drop, get_or, set, replicate, length-replicate, replicate
 use lib.Seq.{sets, sets-eq, drop_at}
 use Rattle.model.specs.Tally.{active, places}
 use Rattle.model.proofs.Tally.{active-length}
-use Rattle.ledger_scans.proofs.Columns.{active-miss, active-hit, active-none}
+use Rattle.ledger_scans.proofs.Columns.{active_miss, active_hit, active_none}
 
 -- n zeros with the ids stored from place 0 on are n places
 stored_places : (n : ℕ) (ids : List ℕ) → length ids ≤ n → sets (replicate n 0) 0 ids ≡ places n ids
@@ -34,14 +34,14 @@ module _ {txids start : List ℕ} where
   filled_none = record { within = omega arith; fewer = omega arith; stores = refl }
 
   module _ {ids : List ℕ} {count i : ℕ} (f : Filled txids start ids count i) where
-    pub filled-empty : i < length txids → get_or txids i 0 ≡ 0 → Filled txids start ids count (i + 1)
-    filled-empty h e =
-        record { within = omega arith; fewer = omega arith; stores = rw (active-miss txids i h e) at f.stores }
+    pub filled_empty : i < length txids → get_or txids i 0 ≡ 0 → Filled txids start ids count (i + 1)
+    filled_empty h e =
+        record { within = omega arith; fewer = omega arith; stores = rw (active_miss txids i h e) at f.stores }
 
-    pub filled-taken :
+    pub filled_taken :
         i < length txids → (get_or txids i 0 ≡ 0 → ⊥) → Filled txids start (set ids count (get_or txids i 0)) (count + 1) (i + 1)
-    filled-taken h e =
-        let m = active-hit txids i h e in
+    filled_taken h e =
+        let m = active_hit txids i h e in
         record { within = omega arith; fewer = omega arith; stores = rw add-one (rw m at f.stores) }
 
     pub filled_all :
@@ -51,4 +51,4 @@ module _ {txids start : List ℕ} where
         (sym (stored_places n (active txids) (omega (arith, active-length txids)))
         ∙ ap (λ (l : List ℕ). sets l 0 (active txids)) (sym z)
         ∙ f.stores
-        ∙ ap (sets ids count) (active-none txids i h))
+        ∙ ap (sets ids count) (active_none txids i h))

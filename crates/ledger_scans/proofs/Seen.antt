@@ -10,7 +10,7 @@ use Rattle.kinds.specs.Kinds.{saturating_next}
 use Rattle.model.specs.Tally.{active, minimum, maximum, xmax_of}
 use Rattle.ledger_scans.specs.declared.flight.Flight.{Flight}
 use Rattle.ledger_scans.specs.Flight.{flight_of}
-use Rattle.ledger_scans.proofs.Columns.{active-miss, active-hit, active-none}
+use Rattle.ledger_scans.proofs.Columns.{active_miss, active_hit, active_none}
 
 unfoldable pub pasts : ℕ → List ℕ → ℕ
 pasts a [] = a
@@ -53,7 +53,7 @@ module _ {txids : List ℕ} {sample : ℕ} where
   module _ {xmin xmax count i : ℕ} (s : Seen txids sample xmin xmax count i) where
     pub seen-empty : i < length txids → get_or txids i 0 ≡ 0 → Seen txids sample xmin xmax count (i + 1)
     seen-empty h e =
-        let m = active-miss txids i h e in
+        let m = active_miss txids i h e in
         record {
           within = omega arith;
           fewer = omega arith;
@@ -67,7 +67,7 @@ module _ {txids : List ℕ} {sample : ℕ} where
         past ≡ saturating_next (get_or txids i 0) → high ≡ max xmax past → Seen txids sample low high (count + 1) (i + 1)
     unfolding minimum pasts
     seen-taken h e l p g =
-        let m = active-hit txids i h e in
+        let m = active_hit txids i h e in
         record {
           within = omega arith;
           fewer = omega arith;
@@ -80,7 +80,7 @@ module _ {txids : List ℕ} {sample : ℕ} where
         length txids ≤ i → ◌≡◌ {A = Flight} (record { xmin = xmin; xmax = xmax; count = count }) (flight_of txids sample)
     unfolding flight_of minimum pasts
     seen_all h =
-        let none = active-none txids i h in
+        let none = active_none txids i h in
         let n : count ≡ length (active txids) = omega (arith, ap length none, s.counted) in
         let l : xmin ≡ minimum sample (active txids) = sym (s.lowest ∙ ap (minimum xmin) none) in
         let g : xmax ≡ xmax_of sample (active txids) = sym (xmax_is sample (active txids) ∙ s.highest ∙ ap (pasts xmax) none) in

@@ -92,8 +92,8 @@ module _ (txids xmins pins : List ℕ) (sample : ℕ) where
       ∙ minimum_swap sample (retained pins pins) (retained txids xmins)
       ∙ ap (minimum (oldest_of txids xmins sample)) (retained_self pins)
 
-  holder-found : found.holder ≡ holder_of txids xmins found.xmin (pin_holder_of pins found.xmin)
-  holder-found =
+  holder_found : found.holder ≡ holder_of txids xmins found.xmin (pin_holder_of pins found.xmin)
+  holder_found =
       held-holder (pin_holder_of pins) by-pins
       (held-holder (λ (k : ℕ). no_holder) (nobody sample) refl first_pin pins pins) 0 txids xmins
 
@@ -103,7 +103,7 @@ module _ (txids xmins pins : List ℕ) (sample : ℕ) where
       λ k. record {
         xmin = oldest-found k;
         holder =
-            (holder-found ∙ ap (λ (x : ℕ). holder_of txids xmins x (pin_holder_of pins x)) oldest-found) k;
+            (holder_found ∙ ap (λ (x : ℕ). holder_of txids xmins x (pin_holder_of pins x)) oldest-found) k;
       }
 
 -- the walk: before its first place nothing is found, and a place is one step
@@ -129,8 +129,8 @@ module _ (first : ℕ) (ts xs : List ℕ) (h : Held) where
   abbrev from_place : ℕ → Held
   from_place i = held_from (first + i) (drop i ts) (drop i xs) h
 
-  pub all-places : {i : ℕ} → i ≡ 0 → from_place i ≡ held_from first ts xs h
-  all-places e =
+  pub all_places : {i : ℕ} → i ≡ 0 → from_place i ≡ held_from first ts xs h
+  all_places e =
       let z : first + 0 ≡ first = omega arith in
       ap from_place e ∙ ap (λ (p : ℕ). held_from p ts xs h) z
 
@@ -149,13 +149,13 @@ module _ (first : ℕ) (ts xs : List ℕ) (h : Held) where
         ∙ ap (λ (m : ℕ). lowered (eqb (get_or ts i 0) 0) (get_or xs i 0) (first + i) (from_place m)) e
         ∙ ap (lowered (eqb (get_or ts i 0) 0) (get_or xs i 0) (first + i)) (sym inv)
 
-    pub empty-place : get_or ts i 0 ≡ 0 → s ≡ from_place i
-    empty-place z = sym (step ∙ rw (eq-eqb _ _ z) refl)
+    pub empty_place : get_or ts i 0 ≡ 0 → s ≡ from_place i
+    empty_place z = sym (step ∙ rw (eq-eqb _ _ z) refl)
 
-    pub lower-place :
+    pub lower_place :
         (get_or ts i 0 ≡ 0 → ⊥) → get_or xs i 0 ≤ s.xmin →
         ◌≡◌ {A = Held} (record { xmin = get_or xs i 0; holder = first + i }) (from_place i)
-    lower-place z b = sym (step ∙ rw (ne_eqb _ _ z, le-leb _ _ b) refl)
+    lower_place z b = sym (step ∙ rw (ne_eqb _ _ z, le-leb _ _ b) refl)
 
-    pub higher-place : (get_or ts i 0 ≡ 0 → ⊥) → s.xmin < get_or xs i 0 → s ≡ from_place i
-    higher-place z b = sym (step ∙ rw (ne_eqb _ _ z, lt-leb _ _ b) refl)
+    pub higher_place : (get_or ts i 0 ≡ 0 → ⊥) → s.xmin < get_or xs i 0 → s ≡ from_place i
+    higher_place z b = sym (step ∙ rw (ne_eqb _ _ z, lt-leb _ _ b) refl)

@@ -19,7 +19,7 @@ use Rattle.model.specs.Observing.{observing}
 use Rattle.model.proofs.Accepted.{accepted_acceptable}
 use Rattle.model.proofs.Refused.{Declined, stays, spends}
 use Rattle.model.proofs.Calls.{change_refused, by_verdict}
-use Rattle.model.proofs.Never.{never-head, never-tail}
+use Rattle.model.proofs.Never.{never_head, never_tail}
 
 clock_accepted :
     (n : ℕ) (t : Table) (c : Call) → observing c ≡ false → Acceptable n t c →
@@ -55,8 +55,8 @@ pub clock_run :
 unfolding run
 clock_run n t [] k = omega arith
 clock_run n t (c ∷ cs) k =
-    let a = clock_after_lem n t c (never-head n t observing c cs k) in
-    let b = clock_run n (after n t c) cs (never-tail n t observing c cs k) in
+    let a = clock_after_lem n t c (never_head n t observing c cs k) in
+    let b = clock_run n (after n t c) cs (never_tail n t observing c cs k) in
     omega arith
 
 -- from fresh, after k calls none of which is an accepted observation, the clock is at most 1 + k·(2^32 + 1)

@@ -26,24 +26,24 @@ abbrev pub refused_snapshot : ℕ → Counters → Refusal → SnapshotDecision
 refused_snapshot n was r = record { change = change Stays was; answer = Refused r; snapshot = no_snapshot n }
 
 module _ (n : ℕ) (t : Table) (c : Call) where
-  pub refused-decides :
+  pub refused_decides :
       {r : Refusal} → opens c ≡ false → refusal n t c ≡ Refuse r → refused_decision t.counters r ≡ decision n t c
   unfolding change_of answer decision
-  refused-decides {r} b e = rw (e, refused_kept n t c r b e)
+  refused_decides {r} b e = rw (e, refused_kept n t c r b e)
 
-  pub refused-shows :
+  pub refused_shows :
       {r : Refusal} → opens c ≡ false → refusal n t c ≡ Refuse r → refused_snapshot n t.counters r ≡ snapshot_decision n t c
   unfolding change_of answer shown snapshot_decision
-  refused-shows {r} b e = rw (e, refused_kept n t c r b e)
+  refused_shows {r} b e = rw (e, refused_kept n t c r b e)
 
-  pub accepted-decides :
+  pub accepted_decides :
       refusal n t c ≡ Pass → record { change = change_accepted t c; answer = answer_accepted t c } ≡ decision n t c
   unfolding change_of answer decision
-  accepted-decides e = rw e
+  accepted_decides e = rw e
 
-  pub accepted-shows :
+  pub accepted_shows :
       refusal n t c ≡ Pass →
       record { change = change_accepted t c; answer = answer_accepted t c; snapshot = shown_accepted n t c }
       ≡ snapshot_decision n t c
   unfolding change_of answer shown snapshot_decision
-  accepted-shows e = rw e
+  accepted_shows e = rw e

@@ -28,7 +28,7 @@ use Rattle.model.specs.Counts.{accepted_from, begins, ends_and_finishes, taken_s
 use Rattle.model.specs.Rows.{seen_from, seen_in, said, RowsHold, pin_rows}
 use Rattle.model.specs.Pins.{held_from, held_snapshot}
 use Rattle.model.specs.Promise.{SettledBelow, line_after, Covered, of_transaction, of_pin, Gives}
-use Rattle.model.proofs.Never.{never-nil, never-cons}
+use Rattle.model.proofs.Never.{never_nil, never_cons}
 use Rattle.model.proofs.Promise.{covered_settled, own_covered, pin_covered}
 
 -- a snapshot at two slots
@@ -251,7 +251,7 @@ farthest_stamps = refl
 
 pub farthest_unobserved : Never 2 (fresh_table 2) observing farthest_stamps_lem
 farthest_unobserved =
-    never-cons 2 _ observing _ _ (λ a. refl) (never-cons 2 _ observing _ _ (λ a. refl) (never-nil 2 _ observing))
+    never_cons 2 _ observing _ _ (λ a. refl) (never_cons 2 _ observing _ _ (λ a. refl) (never_nil 2 _ observing))
 
 pub observation_jumps :
     Accepts 2 (reached 2 []) (snap top 1) × (clock_of (reached 2 (snap top 1 ∷ [])) ≡ 18446744073709551615)

@@ -24,7 +24,7 @@ use Rattle.model.specs.History.{run, reached}
 use Rattle.model.specs.Promise.{line_after}
 use Rattle.model.specs.HeldBack.{Names, a_slot, a_pin, HolderKept, Finds, Raises, KeptAllThrough, HolderPromise}
 use Rattle.model.proofs.Tally.{active-taken}
-use Rattle.model.proofs.Holding.{Found, found, nowhere, holder-found, minimum_of, retained-taken}
+use Rattle.model.proofs.Holding.{Found, found, nowhere, holder_found, minimum_of, retained-taken}
 use Rattle.model.proofs.Moves.{equally_long}
 use Rattle.model.proofs.Answers.{found_xmin, line_given, refused_not_oldest, refused_not_line}
 use Rattle.model.proofs.Accepted.{accepted_acceptable}
@@ -64,12 +64,12 @@ module _ (n : ℕ) (t : Table) (g : Good n t) where
   slot-found :
       (sample : ℕ) →
       Found 0 t.txids t.snapshot_xmins (oldest_in t sample) (pin_holder_of t.pins (oldest_in t sample)) (holder_in t sample)
-  slot-found sample = holder-found (oldest_in t sample) _ 0 t.txids t.snapshot_xmins (equally_long n t g)
+  slot-found sample = holder_found (oldest_in t sample) _ 0 t.txids t.snapshot_xmins (equally_long n t g)
 
   pin-found :
       (sample : ℕ) →
       Found first_pin t.pins t.pins (oldest_in t sample) no_holder (pin_holder_of t.pins (oldest_in t sample))
-  pin-found sample = holder-found (oldest_in t sample) no_holder first_pin t.pins t.pins refl
+  pin-found sample = holder_found (oldest_in t sample) no_holder first_pin t.pins t.pins refl
 
   holder-named : (sample : ℕ) → holder_in t sample ≢ no_holder → Names t (oldest_in t sample) (holder_in t sample)
   holder-named sample h = go (slot-found sample) (pin-found sample)

@@ -22,7 +22,7 @@ use Rattle.model.specs.History.{Accepts}
 use Rattle.model.proofs.Places.{Stored, new_here, as_before, stored, inside_of_ne}
 use Rattle.model.proofs.Tally.{lowest_empty_lem}
 use Rattle.model.proofs.Accepted.{accepted_acceptable}
-use Rattle.model.proofs.Transactions.{registered_taken, same_txids, other-slot, slots-differ}
+use Rattle.model.proofs.Transactions.{registered_taken, same_txids, other_slot, slots_differ}
 use Rattle.model.proofs.Calls.{after_accepted, by_verdict}
 use Rattle.model.proofs.Does.{Does, stands, enters, leaves, retakes, takes-pin, frees_the_pin, does}
 
@@ -55,7 +55,7 @@ module _ (n : ℕ) (t : Table) (slot : SlotNo) (id : Txid) where
       go (as_before h q) =
           let was : Registered t slot id = record { not_zero = r.not_zero; holds = sym q ∙ held } in
           let inside = inside_of_ne t.txids slot.0 (registered_taken t slot id was) in
-          before_it was (λ p. rw d (other-slot slot id slot' id' (λ z. h (rw (← z) inside) z)))
+          before_it was (λ p. rw d (other_slot slot id slot' id' (λ z. h (rw (← z) inside) z)))
   was-accepted c (retakes slot' id' clock sample p e h o) r = before_it (same_txids _ t slot id (rw e) r) (λ q. rw p)
   was-accepted c (takes-pin clock sample p e k o f) r = before_it (same_txids _ t slot id (rw e) r) (λ q. rw p)
   was-accepted c (frees_the_pin k p e h) r = before_it (same_txids _ t slot id (rw e) r) (λ q. rw p)
@@ -80,7 +80,7 @@ module _ (n : ℕ) (t : Table) (slot : SlotNo) (id : Txid) (r : Registered t slo
       other : slot.0 ≢ lowest_empty t.txids
       other q = registered_taken t slot id r (ap (λ (i : ℕ). txid_at t i) q ∙ lowest_empty_lem t.txids)
   stays-accepted c (leaves slot' id' d e o) h =
-      let apart = slots-differ slot id slot' id' t r o.registered (rw d at h) in
+      let apart = slots_differ slot id slot' id' t r o.registered (rw d at h) in
       record { not_zero = r.not_zero; holds = rw e (still slot'.0 0 apart) }
   stays-accepted c (retakes slot' id' clock sample p e k o) h = same_txids t _ slot id (rw e) r
   stays-accepted c (takes-pin clock sample p e k o f) h = same_txids t _ slot id (rw e) r

@@ -47,14 +47,14 @@ module _ (x otherwise : ℕ) where
       none' zero = not_held txid xmin x e
       none' (suc j) = none j
 
-  pub holder-found :
+  pub holder_found :
       (slot : ℕ) (txids xmins : List ℕ) → length txids ≡ length xmins →
       Found slot txids xmins x otherwise (holder_from slot txids xmins x otherwise)
   unfolding holder_from
-  holder-found slot [] xmins e = nowhere refl (λ j h. absurd (h refl))
-  holder-found slot (txid ∷ txids) [] e = absurd (suc-ne-zero _ e)
-  holder-found slot (txid ∷ txids) (xmin ∷ xmins) e =
-      go (holds txid xmin x) refl (holder-found (slot + 1) txids xmins (suc_inj e))
+  holder_found slot [] xmins e = nowhere refl (λ j h. absurd (h refl))
+  holder_found slot (txid ∷ txids) [] e = absurd (suc-ne-zero _ e)
+  holder_found slot (txid ∷ txids) (xmin ∷ xmins) e =
+      go (holds txid xmin x) refl (holder_found (slot + 1) txids xmins (suc_inj e))
     where
       rest : ℕ
       rest = holder_from (slot + 1) txids xmins x otherwise
@@ -88,7 +88,7 @@ holder_further by slot (txid ∷ txids) (xmin ∷ xmins) x otherwise =
 
 -- no number is told beyond the last one and what is answered otherwise
 pub holder_bound : (xs : List ℕ) (x otherwise : ℕ) → holder_from 0 xs xs x otherwise ≤ length xs + otherwise
-holder_bound xs x otherwise = go (holder-found x otherwise 0 xs xs refl)
+holder_bound xs x otherwise = go (holder_found x otherwise 0 xs xs refl)
   where
     go : Found 0 xs xs x otherwise (holder_from 0 xs xs x otherwise) → holder_from 0 xs xs x otherwise ≤ length xs + otherwise
     go (found i e l a b c) = omega arith

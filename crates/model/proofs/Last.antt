@@ -14,7 +14,7 @@ use Rattle.model.specs.Accepted.{Registered}
 use Rattle.model.specs.Deeds.{own_of}
 use Rattle.model.specs.History.{run, Accepts, noted_by, last_from, Quiet, IsLast}
 use Rattle.model.proofs.Transactions.{registered_taken, same_itself}
-use Rattle.model.proofs.Never.{never-nil, never-cons, never-head, never-tail}
+use Rattle.model.proofs.Never.{never_nil, never_cons, never_head, never_tail}
 use Rattle.model.proofs.Noted.{Noted, now-taken, now_forgotten, not-moved, noted}
 use Rattle.model.proofs.History.{run-append}
 
@@ -42,7 +42,7 @@ unfolding run
 quiet_tail n slot id t c cs k =
     record {
       alive = λ p q e. k.alive (c ∷ p) q (ap (λ (l : List Call). c ∷ l) e);
-      no_other = never-tail n t (own_of slot id) c cs k.no_other;
+      no_other = never_tail n t (own_of slot id) c cs k.no_other;
     }
 
 -- through quiet calls the last snapshot stays
@@ -60,7 +60,7 @@ quiet_kept n slot id t (c ∷ cs) last k =
 
     one : Noted n t slot id c last (refusal n t c) (after n t c) → noted_by (refusal n t c) n slot id t c last ≡ last
     one (now-taken clock sample p v w e) =
-        let none = never-head n t (own_of slot id) c cs k.no_other v in
+        let none = never_head n t (own_of slot id) c cs k.no_other v in
         absurd (true≢false (sym (same_itself slot id) ∙ rw p at none))
     one (now_forgotten p e) = absurd (registered_taken t slot id here p)
     one (not-moved e f l) = e
@@ -84,7 +84,7 @@ data Found (n : ℕ) (slot : SlotNo) (id : Txid) (t : Table) (cs : List Call) (l
 
 quiet_nil : (n : ℕ) (t : Table) (slot : SlotNo) (id : Txid) → Registered t slot id → Quiet n t slot id []
 unfolding run
-quiet_nil n t slot id r = record { alive = alive; no_other = never-nil n t (own_of slot id) }
+quiet_nil n t slot id r = record { alive = alive; no_other = never_nil n t (own_of slot id) }
   where
     alive : (p q : List Call) → [] ≡ p ++ q → Registered (run n t p) slot id
     alive [] q e = r
@@ -95,7 +95,7 @@ quiet_cons :
     (Accepts n t c → own_of slot id c ≡ false) → Quiet n (after n t c) slot id cs → Quiet n t slot id (c ∷ cs)
 unfolding run
 quiet_cons n t slot id c cs r h k =
-    record { alive = alive; no_other = never-cons n t (own_of slot id) c cs h k.no_other }
+    record { alive = alive; no_other = never_cons n t (own_of slot id) c cs h k.no_other }
   where
     alive : (p q : List Call) → c ∷ cs ≡ p ++ q → Registered (run n t p) slot id
     alive [] q e = r

@@ -74,34 +74,34 @@ same_by Pass n t xmins pins (pin clock sample) e = absurd (false≢true (sym e))
 same_by Pass n t xmins pins (unpin k) e = absurd (false≢true (sym e))
 
 module _ (n : ℕ) (t : Table) (c : Call) where
-  pub lent-shows :
+  pub lent_shows :
       reads_more c ≡ false → snapshot_decision n (lent_txids t.txids t.counters) c ≡ snapshot_decision n t c
   unfolding change_of answer shown snapshot_decision
-  lent-shows e = rw (same_refusal n t [] [] c e) (same_by (refusal n t c) n t [] [] c e)
+  lent_shows e = rw (same_refusal n t [] [] c e) (same_by (refusal n t c) n t [] [] c e)
 
-  pub lent-decides : reads_more c ≡ false → decision n (lent_txids t.txids t.counters) c ≡ decision n t c
+  pub lent_decides : reads_more c ≡ false → decision n (lent_txids t.txids t.counters) c ≡ decision n t c
   unfolding decision snapshot_decision
-  lent-decides e = ap (λ (d : SnapshotDecision). record { change = d.change; answer = d.answer }) (lent-shows e)
+  lent_decides e = ap (λ (d : SnapshotDecision). record { change = d.change; answer = d.answer }) (lent_shows e)
 
   -- .. where the table has no more slots than a snapshot has places
-  pub slots-show :
+  pub slots_show :
       length t.txids ≤ n → reads_more c ≡ false →
       snapshot_decision n (lent_txids (take n t.txids) t.counters) c ≡ snapshot_decision n t c
-  slots-show few e = rw (take_all n t.txids few) (lent-shows e)
+  slots_show few e = rw (take_all n t.txids few) (lent_shows e)
 
   -- a call by value makes the change that was decided
-  pub outcome-of :
+  pub outcome_of :
       {d : Decision} → d ≡ decision n t c →
       ◌≡◌ {A = Outcome} (record { table = applied t d.change; answer = d.answer }) (outcome n t c)
   unfolding after decision outcome
-  outcome-of e = rw e
+  outcome_of e = rw e
 
-  pub snapshot-outcome-of :
+  pub snapshot_outcome_of :
       {d : SnapshotDecision} → d ≡ snapshot_decision n t c →
       ◌≡◌ {A = SnapshotOutcome} (record { table = applied t d.change; answer = d.answer; snapshot = d.snapshot })
       (snapshot_outcome n t c)
   unfolding after snapshot_decision snapshot_outcome
-  snapshot-outcome-of e = rw e
+  snapshot_outcome_of e = rw e
 
 abbrev decides_by : Verdict → Table → Call → Decision
 decides_by v t c = record { change = change_by v t c; answer = answer_by v t c }
@@ -122,13 +122,13 @@ pub lent-outcome :
     (n : ℕ) (t : Table) (c : Call) → reads_more c ≡ false → {d : Decision} {next : Table} →
     d ≡ decision n (lent_txids t.txids t.counters) c → next ≡ applied t d.change →
     ◌≡◌ {A = Outcome} (record { table = next; answer = d.answer }) (outcome n t c)
-lent-outcome n t c b e a = rw a (outcome-of n t c (e ∙ lent-decides n t c b))
+lent-outcome n t c b e a = rw a (outcome_of n t c (e ∙ lent_decides n t c b))
 
 pub stamp-outcome :
     (n : ℕ) (t : Table) (number : Stamp) {d : Decision} {next : Table} →
     d ≡ decision n (lent_txids [] t.counters) (stamp number) → next ≡ applied t d.change →
     ◌≡◌ {A = Outcome} (record { table = next; answer = d.answer }) (outcome n t (stamp number))
-stamp-outcome n t number e a = rw a (outcome-of n t (stamp number) (e ∙ lent_stamps n t number))
+stamp-outcome n t number e a = rw a (outcome_of n t (stamp number) (e ∙ lent_stamps n t number))
 
 -- a pinned snapshot reads no snapshot_xmin; a release reads the pins alone
 pub lent-pins :

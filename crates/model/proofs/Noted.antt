@@ -31,7 +31,7 @@ use Rattle.model.specs.History.{noted_by}
 use Rattle.model.proofs.Places.{Stored, new_here, as_before, stored, StoredBoth, both-new, both-before, stored_both}
 use Rattle.model.proofs.Tally.{lowest_empty_lem}
 use Rattle.model.proofs.Accepted.{accepted_acceptable}
-use Rattle.model.proofs.Transactions.{registered_taken, same_txids, same-both, slots-differ}
+use Rattle.model.proofs.Transactions.{registered_taken, same_txids, same_both, slots_differ}
 use Rattle.model.proofs.Refused.{Declined, stays, spends}
 use Rattle.model.proofs.Calls.{after_accepted, change_refused, by_verdict}
 use Rattle.model.proofs.Does.{Does, stands, enters, leaves, retakes, takes-pin, frees_the_pin, does}
@@ -125,7 +125,7 @@ module _ (n : ℕ) (t : Table) (slot : SlotNo) (id : Txid) where
     where
       go : (b : Bool) → same_transaction slot id slot' id' ≡ b → Noted n t slot id c last Pass (after_accepted t c)
       go true q =
-          let (a, b) = same-both slot id slot' id' q in
+          let (a, b) = same_both slot id slot' id' q in
           now-taken clock sample (p ∙ rw (a, b)) refl refl (rw (p, q))
       go false q =
           rw e
@@ -133,7 +133,7 @@ module _ (n : ℕ) (t : Table) (slot : SlotNo) (id : Txid) where
           (left t.txids (set t.snapshot_xmins slot'.0 _) t.pins _ l (λ a z. a)
           (λ g r.
           get_or-set_other t.snapshot_xmins slot'.0 slot.0 _ 0
-          (slots-differ slot id slot' id' t (same_txids _ t slot id refl r) o.registered q))))
+          (slots_differ slot id slot' id' t (same_txids _ t slot id refl r) o.registered q))))
   noted-accepted c last l (takes-pin clock sample p e k o f) = rw e (not-moved (rw p) (λ q. rw p) (left-same _ _ l))
   noted-accepted c last l (frees_the_pin k p e h) = rw e (not-moved (rw p) (λ q. rw p) (left-same _ _ l))
 

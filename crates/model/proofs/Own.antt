@@ -16,7 +16,7 @@ use Rattle.usable.specs.declared.Usable.TheVariants.{Yes}
 use Rattle.listed.specs.Listed.{listed}
 use Rattle.settled.specs.Settled.{settled_in, paper_settled, settled_test}
 use Rattle.usable.specs.Usable.{usable_in, paper_usable, usable_test}
-use Rattle.usable.proofs.Wider.{own-is-usable}
+use Rattle.usable.proofs.Wider.{own_is_usable}
 use Rattle.model.specs.declared.Table.{Table}
 use Rattle.model.specs.Tally.{active, places, snapshot_of}
 use Rattle.model.specs.Calls.{Call, own, shown, shown_accepted}
@@ -48,26 +48,26 @@ module _ (n : ℕ) (t : Table) (slot : SlotNo) (id : Txid) (clock sample : ℕ) 
     unfolding snapshot_of
     own-listed = rw (is_taken, used_places n (active t.txids)) in_flight
 
-    pub own-not-settled : settled_in taken.xmax taken.ids taken.count id.0 ≡ false
-    own-not-settled = rw own-listed (and-false (ltb id.0 taken.xmax))
+    pub own_not_settled : settled_in taken.xmax taken.ids taken.count id.0 ≡ false
+    own_not_settled = rw own-listed (and-false (ltb id.0 taken.xmax))
 
-    pub own-usable : usable_in taken.xmax taken.ids taken.count id.0 id.0 ≡ true
-    own-usable = rw (eq-eqb id.0 id.0 refl) (or-true (settled_in taken.xmax taken.ids taken.count id.0))
+    pub own_usable : usable_in taken.xmax taken.ids taken.count id.0 id.0 ≡ true
+    own_usable = rw (eq-eqb id.0 id.0 refl) (or-true (settled_in taken.xmax taken.ids taken.count id.0))
 
     -- as the two tests answer it, on a table of n slots
     count_fits : length t.txids ≡ n → taken.count ≤ n
     unfolding snapshot_of
     count_fits l = rw is_taken (let h = active-length t.txids in omega (arith, h, l))
 
-    pub own-answers :
+    pub own_answers :
         length t.txids ≡ n →
         (settled_test n taken.xmax taken.ids taken.count id ≡ paper_settled No) ×
         (usable_test n taken.xmax taken.ids taken.count id id ≡ paper_usable Yes)
     unfolding settled_test
-    own-answers l =
+    own_answers l =
         let z = owner.registered.not_zero in (
-          rw (le-ltb n taken.count (count_fits l), ne_eqb id.0 0 z, own-not-settled),
-          own-is-usable n taken.xmax taken.ids taken.count id id (count_fits l) z refl,
+          rw (le-ltb n taken.count (count_fits l), ne_eqb id.0 0 z, own_not_settled),
+          own_is_usable n taken.xmax taken.ids taken.count id id (count_fits l) z refl,
         )
 
 -- from fresh, whatever was called before: a transaction that takes a snapshot is registered, its own id is listed there, and
@@ -84,7 +84,7 @@ pub own_in_flight :
     OwnInFlight n cs slot id (shown n (reached n cs) (own slot id clock sample))
 own_in_flight n cs slot id clock sample a =
     let t = reached n cs in
-    let answers = own-answers n t slot id clock sample a (good-reached n cs).txid_column in
+    let answers = own_answers n t slot id clock sample a (good-reached n cs).txid_column in
     record {
       registered = (owner n t slot id clock sample a).registered;
       is_listed = own-listed n t slot id clock sample a;

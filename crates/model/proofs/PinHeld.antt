@@ -26,7 +26,7 @@ use Rattle.model.proofs.Accepted.{accepted_acceptable}
 use Rattle.model.proofs.Moves.{is_taken, good-fresh}
 use Rattle.model.proofs.Facts.{good-after, pinned-from-line}
 use Rattle.model.proofs.Calls.{after_accepted}
-use Rattle.model.proofs.PinNoted.{LineUnder, PinNoted, now-pinned, now_released, pin-stays, pin-noted}
+use Rattle.model.proofs.PinNoted.{LineUnder, PinNoted, now-pinned, now_released, pin-stays, pin_noted}
 use Rattle.model.proofs.Snapshots.{Settles, settled_in_pinned}
 
 pub record KeepsPin (n : ℕ) (t : Table) (k : PinNo) (s : Snapshot) : Type 0 where
@@ -98,7 +98,7 @@ shown-pin n t clock sample e = ap (λ (v : Verdict). shown_by v n t (pin clock s
 pub keeps_held-after :
     (n : ℕ) (t : Table) (k : PinNo) (c : Call) (held : Option Snapshot) → Good n t → KeepsHeld n t k held →
     KeepsHeld n (after n t c) k (held_by (refusal n t c) n k t c held)
-keeps_held-after n t k c held g h = go (pin-noted n t k c held)
+keeps_held-after n t k c held g h = go (pin_noted n t k c held)
   where
     go :
         PinNoted n t k c held (refusal n t c) (after n t c) →

@@ -76,9 +76,9 @@ module _ (n : ℕ) (t : Table) (k : PinNo) where
           (pin-stays (rw (p, q)) (λ z. rw p q)
           (get_or-set_other t.pins j.0 k.0 0 0 (λ z. eqb-false j.0 k.0 q (sym z))) (under _ l))
 
-  pub pin-noted : (c : Call) (held : Option Snapshot) → PinNoted n t k c held (refusal n t c) (after n t c)
+  pub pin_noted : (c : Call) (held : Option Snapshot) → PinNoted n t k c held (refusal n t c) (after n t c)
   unfolding consumed spent after
-  pin-noted c held =
+  pin_noted c held =
       by_verdict n t c (λ v d. PinNoted n t k c held v (applied t d))
       (λ e. let p = accepted_acceptable n t c e in pin-noted-accepted c held (counts_on n t c p).line (does n t c p))
       (λ r f. pin-stays refl (λ p. absurd (refuse_not_pass r p)) refl (refused r f))

@@ -22,10 +22,10 @@ use Rattle.model.specs.History.{run, reached, Accepts, Never}
 use Rattle.model.specs.Pins.{held_by, held_from, held_snapshot, IsHeld}
 use Rattle.model.proofs.Tally.{lowest_empty_lem}
 use Rattle.model.proofs.Answers.{pin-told, refused_not_pinned, pinned_as}
-use Rattle.model.proofs.Never.{never-nil, never-cons, never-head, never-tail}
+use Rattle.model.proofs.Never.{never_nil, never_cons, never_head, never_tail}
 use Rattle.model.proofs.Facts.{good-after, good-reached}
 use Rattle.model.proofs.History.{run-append, run_snoc}
-use Rattle.model.proofs.PinNoted.{PinNoted, now-pinned, now_released, pin-stays, pin-noted}
+use Rattle.model.proofs.PinNoted.{PinNoted, now-pinned, now_released, pin-stays, pin_noted}
 use Rattle.model.proofs.PinHeld.{KeepsPin, KeepsHeld, kept_taken, keeps_held-after, held_keeps}
 
 pub held-append :
@@ -73,16 +73,16 @@ unfolding held_from
 held_kept n k t [] s g h never = refl
 held_kept n k t (c ∷ cs) s g h never =
     ap (λ (held : Option Snapshot). held_from n k (after n t c) cs held) same
-    ∙ held_kept n k (after n t c) cs s (good-after n t c g) still (never-tail n t (release_of k) c cs never)
+    ∙ held_kept n k (after n t c) cs s (good-after n t c g) still (never_tail n t (release_of k) c cs never)
   where
     one : PinNoted n t k c (some s) (refusal n t c) (after n t c) → held_by (refusal n t c) n k t c (some s) ≡ some s
     one (now-pinned clock sample p v y w e) =
         absurd (kept_taken n t k s h (rw w at (lowest_empty_lem t.pins)))
-    one (now_released p v e) = absurd (true≢false (sym p ∙ never-head n t (release_of k) c cs never v))
+    one (now_released p v e) = absurd (true≢false (sym p ∙ never_head n t (release_of k) c cs never v))
     one (pin-stays e p q l) = e
 
     same : held_by (refusal n t c) n k t c (some s) ≡ some s
-    same = one (pin-noted n t k c (some s))
+    same = one (pin_noted n t k c (some s))
 
     still : KeepsPin n (after n t c) k s
     still =
@@ -158,7 +158,7 @@ found :
     (n : ℕ) (k : PinNo) (t : Table) (cs : List Call) (held : Option Snapshot) (s : Snapshot) →
     held_from n k t cs held ≡ some s → ((held ≡ some s) × Never n t (release_of k) cs) ⊎ IsHeld n t k cs s
 unfolding held_from
-found n k t [] held s e = inl (e, never-nil n t (release_of k))
+found n k t [] held s e = inl (e, never_nil n t (release_of k))
 found n k t (c ∷ cs) held s e = go (found n k (after n t c) cs (held_by (refusal n t c) n k t c held) s e)
   where
     one :
@@ -168,13 +168,13 @@ found n k t (c ∷ cs) held s e = go (found n k (after n t c) cs (held_by (refus
     one p never (now-pinned clock sample q v y w r) =
         inr (first n k t c cs clock sample s q v w (some-injective s _ (sym p ∙ r)) never)
     one p never (now_released q v r) = absurd (none-ne-some s (sym r ∙ p))
-    one p never (pin-stays r h q l) = inl (sym r ∙ p, never-cons n t (release_of k) c cs h never)
+    one p never (pin-stays r h q l) = inl (sym r ∙ p, never_cons n t (release_of k) c cs h never)
 
     go :
         ((held_by (refusal n t c) n k t c held ≡ some s) × Never n (after n t c) (release_of k) cs)
         ⊎ IsHeld n (after n t c) k cs s →
         ((held ≡ some s) × Never n t (release_of k) (c ∷ cs)) ⊎ IsHeld n t k (c ∷ cs) s
-    go (inl (p, never)) = one p never (pin-noted n t k c held)
+    go (inl (p, never)) = one p never (pin_noted n t k c held)
     go (inr w) = inr (further n k t c cs s w)
 
 pub walk_words :

@@ -26,7 +26,7 @@ use Rattle.model.proofs.Tests.{free_lowest}
 use Rattle.model.proofs.Accepted.{accepted_acceptable}
 use Rattle.model.proofs.Transactions.{registered_taken}
 use Rattle.model.proofs.Answers.{begun-slot, begun_id, begun_as, refused_not_begun}
-use Rattle.model.proofs.Never.{never-nil, never-cons, never-head, never-tail}
+use Rattle.model.proofs.Never.{never_nil, never_cons, never_head, never_tail}
 use Rattle.model.proofs.Holders.{Was, before_it, begun-by-it, was, stays_after}
 use Rattle.model.proofs.Calls.{after-accepted}
 use Rattle.model.proofs.Facts.{good-reached}
@@ -39,8 +39,8 @@ stays-run :
 unfolding run
 stays-run n t slot id [] r k = r
 stays-run n t slot id (c ∷ cs) r k =
-    stays-run n (after n t c) slot id cs (stays_after n t slot id r c (never-head n t (end_of slot id) c cs k))
-    (never-tail n t (end_of slot id) c cs k)
+    stays-run n (after n t c) slot id cs (stays_after n t slot id r c (never_head n t (end_of slot id) c cs k))
+    (never_tail n t (end_of slot id) c cs k)
 
 -- a begin answers a registration exactly where it is accepted, with the lowest empty slot and its number
 pub begin_answers :
@@ -100,12 +100,12 @@ begun :
     (n : ℕ) (t : Table) (slot : SlotNo) (id : Txid) (cs : List Call) → Registered (run n t cs) slot id →
     (Registered t slot id × Never n t (end_of slot id) cs) ⊎ IsRegistered n t slot id cs
 unfolding run
-begun n t slot id [] r = inl (r, never-nil n t (end_of slot id))
+begun n t slot id [] r = inl (r, never_nil n t (end_of slot id))
 begun n t slot id (c ∷ cs) r = go (begun n (after n t c) slot id cs r)
   where
     one : Never n (after n t c) (end_of slot id) cs → Was t slot id c (refusal n t c) →
         (Registered t slot id × Never n t (end_of slot id) (c ∷ cs)) ⊎ IsRegistered n t slot id (c ∷ cs)
-    one k (before_it h f) = inl (h, never-cons n t (end_of slot id) c cs f k)
+    one k (before_it h f) = inl (h, never_cons n t (end_of slot id) c cs f k)
     one k (begun-by-it number p v s i) = inr (first n t slot id c cs number p v s i k)
 
     go : (Registered (after n t c) slot id × Never n (after n t c) (end_of slot id) cs) ⊎ IsRegistered n (after n t c) slot id cs →

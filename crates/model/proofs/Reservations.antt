@@ -169,12 +169,12 @@ reserves_above n cs c x y e h = go (reserve_step n (reached n cs) c)
         only (inr w) = absurd (listed_none y w)
 
 module _ (n : ℕ) (cs : List Call) (number : Stamp) (x : ℕ) (e : listed x (reservations n cs) ≡ true) where
-  pub begin-above : Accepts n (reached n cs) (begin number) → x < number.0
-  begin-above a = reserves_above n cs (begin number) x number.0 e (rw a (listed-head number.0 []))
+  pub begin_above : Accepts n (reached n cs) (begin number) → x < number.0
+  begin_above a = reserves_above n cs (begin number) x number.0 e (rw a (listed-head number.0 []))
 
-  pub stamp-above : Accepts n (reached n cs) (stamp number) → x < number.0
-  stamp-above a = reserves_above n cs (stamp number) x number.0 e (rw a (listed-head number.0 []))
+  pub stamp_above : Accepts n (reached n cs) (stamp number) → x < number.0
+  stamp_above a = reserves_above n cs (stamp number) x number.0 e (rw a (listed-head number.0 []))
 
   -- this stands in for upstream's `reader`
-  pub finish-above : (slot : SlotNo) (id : Txid) → Accepts n (reached n cs) (finish slot id number) → x < number.0
-  finish-above slot id a = reserves_above n cs (finish slot id number) x number.0 e (rw a (listed-head number.0 []))
+  pub finish_above : (slot : SlotNo) (id : Txid) → Accepts n (reached n cs) (finish slot id number) → x < number.0
+  finish_above slot id a = reserves_above n cs (finish slot id number) x number.0 e (rw a (listed-head number.0 []))

@@ -26,25 +26,25 @@ module _ (n : ℕ) (column : List ℕ) (h : length column ≡ n) where
       go true e = refl
       go false e = let k = ltb-false i n e in sym (set_out column i x (omega arith))
 
-  pub stored-txid : (c : SlotChange) → stored_txid n c column ≡ txids_after c column
+  pub stored_txid_lem : (c : SlotChange) → stored_txid n c column ≡ txids_after c column
   unfolding stored_txid
-  stored-txid Stays = refl
-  stored-txid (Enters slot txid) = stored_set slot.0 txid.0
-  stored-txid (Leaves slot) = stored_set slot.0 0
-  stored-txid (Retains slot xmin) = refl
-  stored-txid (Pins pin xmin) = refl
+  stored_txid_lem Stays = refl
+  stored_txid_lem (Enters slot txid) = stored_set slot.0 txid.0
+  stored_txid_lem (Leaves slot) = stored_set slot.0 0
+  stored_txid_lem (Retains slot xmin) = refl
+  stored_txid_lem (Pins pin xmin) = refl
 
-  pub stored-xmin : (c : SlotChange) → stored_xmin n c column ≡ xmins_after c column
+  pub stored_xmin_lem : (c : SlotChange) → stored_xmin n c column ≡ xmins_after c column
   unfolding stored_xmin
-  stored-xmin Stays = refl
-  stored-xmin (Enters slot txid) = stored_set slot.0 txid.0
-  stored-xmin (Leaves slot) = stored_set slot.0 0
-  stored-xmin (Retains slot xmin) = stored_set slot.0 xmin
-  stored-xmin (Pins pin xmin) = refl
+  stored_xmin_lem Stays = refl
+  stored_xmin_lem (Enters slot txid) = stored_set slot.0 txid.0
+  stored_xmin_lem (Leaves slot) = stored_set slot.0 0
+  stored_xmin_lem (Retains slot xmin) = stored_set slot.0 xmin
+  stored_xmin_lem (Pins pin xmin) = refl
 
   -- the column stays as long as it was
-  pub stored-txid-long : (c : SlotChange) → length (stored_txid n c column) ≡ length column
-  stored-txid-long c = ap length (stored-txid c) ∙ long c
+  pub stored_txid_long : (c : SlotChange) → length (stored_txid n c column) ≡ length column
+  stored_txid_long c = ap length (stored_txid_lem c) ∙ long c
     where
       long : (c : SlotChange) → length (txids_after c column) ≡ length column
       long Stays = refl
@@ -53,8 +53,8 @@ module _ (n : ℕ) (column : List ℕ) (h : length column ≡ n) where
       long (Retains slot xmin) = refl
       long (Pins pin xmin) = refl
 
-  pub stored-xmin-long : (c : SlotChange) → length (stored_xmin n c column) ≡ length column
-  stored-xmin-long c = ap length (stored-xmin c) ∙ long c
+  pub stored_xmin_long : (c : SlotChange) → length (stored_xmin n c column) ≡ length column
+  stored_xmin_long c = ap length (stored_xmin_lem c) ∙ long c
     where
       long : (c : SlotChange) → length (xmins_after c column) ≡ length column
       long Stays = refl
@@ -65,16 +65,16 @@ module _ (n : ℕ) (column : List ℕ) (h : length column ≡ n) where
 
 -- the pins likewise
 module _ (pins : List ℕ) (h : length pins ≡ pin_count) where
-  pub stored-pin : (c : SlotChange) → stored_pin c pins ≡ pins_after c pins
+  pub stored_pin_lem : (c : SlotChange) → stored_pin c pins ≡ pins_after c pins
   unfolding stored_pin
-  stored-pin Stays = refl
-  stored-pin (Enters slot txid) = refl
-  stored-pin (Leaves slot) = refl
-  stored-pin (Retains slot xmin) = refl
-  stored-pin (Pins pin xmin) = stored_set pin_count pins h pin.0 xmin
+  stored_pin_lem Stays = refl
+  stored_pin_lem (Enters slot txid) = refl
+  stored_pin_lem (Leaves slot) = refl
+  stored_pin_lem (Retains slot xmin) = refl
+  stored_pin_lem (Pins pin xmin) = stored_set pin_count pins h pin.0 xmin
 
-  pub stored-pin-long : (c : SlotChange) → length (stored_pin c pins) ≡ length pins
-  stored-pin-long c = ap length (stored-pin c) ∙ long c
+  pub stored_pin_long : (c : SlotChange) → length (stored_pin c pins) ≡ length pins
+  stored_pin_long c = ap length (stored_pin_lem c) ∙ long c
     where
       long : (c : SlotChange) → length (pins_after c pins) ≡ length pins
       long Stays = refl
@@ -91,7 +91,7 @@ pub stored_applied :
     lent txids xmins pins c.counters ≡ applied t c
 stored_applied n t c h k l a b d =
     rw (
-      a ∙ stored-txid n t.txids h c.slot,
-      b ∙ stored-xmin n t.snapshot_xmins k c.slot,
-      d ∙ stored-pin t.pins l c.slot,
+      a ∙ stored_txid_lem n t.txids h c.slot,
+      b ∙ stored_xmin_lem n t.snapshot_xmins k c.slot,
+      d ∙ stored_pin_lem t.pins l c.slot,
     )

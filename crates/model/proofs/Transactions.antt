@@ -29,18 +29,18 @@ pub same_itself : (slot : SlotNo) (id : Txid) → same_transaction slot id slot 
 same_itself slot id = rw (eq-eqb slot.0 slot.0 refl, eq-eqb id.0 id.0 refl)
 
 module _ (slot : SlotNo) (id : Txid) (slot' : SlotNo) (id' : Txid) where
-  pub same-both : same_transaction slot id slot' id' ≡ true → (slot ≡ slot') × (id ≡ id')
-  same-both e =
+  pub same_both : same_transaction slot id slot' id' ≡ true → (slot ≡ slot') × (id ≡ id')
+  same_both e =
       let (a, b) = (and-eq-true_iff (eqb slot.0 slot'.0) (eqb id.0 id'.0)).0 e in
       (same_slot slot slot' (eqb-true _ _ a), same_txid id id' (eqb-true _ _ b))
 
-  pub other-slot : slot.0 ≢ slot'.0 → same_transaction slot id slot' id' ≡ false
-  other-slot d = rw (ne_eqb slot.0 slot'.0 d)
+  pub other_slot : slot.0 ≢ slot'.0 → same_transaction slot id slot' id' ≡ false
+  other_slot d = rw (ne_eqb slot.0 slot'.0 d)
 
   -- two that are registered at once have a slot each
-  pub slots-differ :
+  pub slots_differ :
       (t : Table) → Registered t slot id → Registered t slot' id' → same_transaction slot id slot' id' ≡ false →
       slot.0 ≢ slot'.0
-  slots-differ t r r' e q =
+  slots_differ t r r' e q =
       let p : id.0 ≡ id'.0 = sym r.holds ∙ ap (λ (i : ℕ). txid_at t i) q ∙ r'.holds in
       true≢false (sym (rw (eq-eqb slot.0 slot'.0 q, eq-eqb id.0 id'.0 p)) ∙ e)

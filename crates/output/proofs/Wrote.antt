@@ -94,20 +94,20 @@ holder_few Proc3 = omega arith
 
 -- a record that has room, and one that has none
 module _ (v : Version) (n : ℕ) (xs : List ℕ) (at count : ℕ) where
-  pub fits-room : fits v n (length xs) at count ≡ true → at + (224 + holder_room v + 24 * count) ≤ length xs
-  fits-room e =
+  pub fits_room : fits v n (length xs) at count ≡ true → at + (224 + holder_room v + 24 * count) ≤ length xs
+  fits_room e =
       let (a, b) = (and-eq-true_iff (leb count n) (leb (need v count) (length xs - at))).0 e in
       let h = leb-true (need v count) (length xs - at) b in
       omega arith
 
   module _ (t : List ℕ) where
-    pub put-room :
+    pub put_room :
         {ys : List ℕ} {past most : ℕ} → fits v n (length xs) at count ≡ true → Wrote xs at t ys past most →
         (Past past ≡ put_text v n xs at count t) × (ys ≡ left_text v n xs at count t)
     unfolding put_text left_text
-    put-room e w = (rw e (ap Past w.end), rw e w.left)
+    put_room e w = (rw e (ap Past w.end), rw e w.left)
 
-    pub put-no-room :
+    pub put_no_room :
         fits v n (length xs) at count ≡ false → (NoRoom ≡ put_text v n xs at count t) × (xs ≡ left_text v n xs at count t)
     unfolding put_text left_text
-    put-no-room e = (rw e, rw e)
+    put_no_room e = (rw e, rw e)

@@ -20,10 +20,10 @@ use Rattle.model.specs.declared.answer.Decision.{Decision}
 use Rattle.model.specs.declared.answer.Numbers.{Numbers}
 use Rattle.model.specs.Tables.{lent_txids}
 use Rattle.model.specs.Calls.{Call, refusal, change_of, after, answer, shown_accepted, shown_by, shown, decision}
-use Rattle.model.proofs.Lent.{reads_more, lent-decides}
+use Rattle.model.proofs.Lent.{reads_more, lent_decides}
 use Rattle.place.specs.Words.{size_of, table_of, words_of, stored_words}
 use Rattle.place.specs.Shapes.{head, shape_of, list_shape, answer_words, told_in, plain_numbers}
-use Rattle.place.specs.Calls.{said, numberBy, tableBy, outBy, idsBy}
+use Rattle.place.specs.Calls.{said, number_by, table_by, out_by, ids_by}
 
 pub record Shaped (n table out : ℕ) : Type 0 where
   pub size : table ≡ size_of n
@@ -60,7 +60,7 @@ pub lent_words :
     (n : ℕ) (ws : List ℕ) (c : Call) {was : Counters} → was ≡ (table_of n ws).counters → reads_more c ≡ false →
     decision n (lent_txids (take n ws) was) c ≡ decision n (table_of n ws) c
 unfolding table_of
-lent_words n ws c e b = rw e (lent-decides n (table_of n ws) c b)
+lent_words n ws c e b = rw e (lent_decides n (table_of n ws) c b)
 
 -- what is told of a call that shows nothing
 pub plain-said :
@@ -89,28 +89,28 @@ module _ (shape n : ℕ) (ws : List ℕ) (c : Call) where
   abbrev pub Kept : ℕ → List ℕ → List ℕ → List ℕ → Type 0
   Kept k ws' out out' =
       record {
-        result_value : k ≡ numberBy shape n ws c;
-        table_after : ws' ≡ tableBy shape n ws c;
-        out_after : out' ≡ outBy shape n ws c out;
+        result_value : k ≡ number_by shape n ws c;
+        table_after : ws' ≡ table_by shape n ws c;
+        out_after : out' ≡ out_by shape n ws c out;
       }
 
   -- a shape that does not fit
   pub unfit : {s : ℕ} → s ≡ shape → (s ≡ 0 → ⊥) → (out : List ℕ) → Kept s ws out out
-  unfolding numberBy tableBy outBy
+  unfolding number_by table_by out_by
   unfit e h out =
       let b = ne_eqb shape 0 (λ z. h (e ∙ z)) in
       record { result_value = rw b e; table_after = rw b; out_after = rw b }
 
-  pub unfit-ids : {s : ℕ} → s ≡ shape → (s ≡ 0 → ⊥) → (ids : List ℕ) → ids ≡ idsBy shape n ws c ids
-  unfolding idsBy
-  unfit-ids e h ids = rw (ne_eqb shape 0 (λ z. h (e ∙ z)))
+  pub unfit_ids : {s : ℕ} → s ≡ shape → (s ≡ 0 → ⊥) → (ids : List ℕ) → ids ≡ ids_by shape n ws c ids
+  unfolding ids_by
+  unfit_ids e h ids = rw (ne_eqb shape 0 (λ z. h (e ∙ z)))
 
   -- a shape that does, of a call that shows nothing
   pub called :
       (out : List ℕ) → shape ≡ 0 → Shaped n (length ws) (length out) → {d : Decision} → d ≡ decision n (table_of n ws) c →
       shown_accepted n (table_of n ws) c ≡ no_snapshot n → {k : ℕ} {ws' out' : List ℕ} → k ≡ (plain_numbers d).told.number →
       ws' ≡ stored_words n ws d.change → out' ≡ told_in out (plain_numbers d) → Kept k ws' out out'
-  unfolding numberBy tableBy outBy
+  unfolding number_by table_by out_by
   called out fit s e none k w o =
       let b = eq-eqb shape 0 fit in
       let p = plain-said n (table_of n ws) c e none in

@@ -16,7 +16,7 @@ use Rattle.model.specs.declared.change.SlotChange.TheVariants.{Stays, Enters, Le
 use Rattle.model.specs.declared.change.Change.{Change}
 use Rattle.model.specs.Changes.{applied}
 use Rattle.model.specs.Stored.{stored_at, stored_txid, stored_xmin, stored_pin}
-use Rattle.model.proofs.Stores.{stored-txid, stored-xmin, stored-pin, stored-txid-long}
+use Rattle.model.proofs.Stores.{stored_txid_lem, stored_xmin_lem, stored_pin_lem, stored_txid_long}
 use Rattle.place.specs.Words.{pins_from, counters_from, size_of, table_of, laid, words_of, put_at, slot_put, stored_words}
 
 -- a store past the seam
@@ -86,7 +86,7 @@ module _ (n : ℕ) (txids xmins pins rest : List ℕ) (p : length txids ≡ n) (
         ≡ laid (stored_at n txids i x) (stored_at n xmins i y) pins rest
     put_both c i x y e =
         ap (λ (l : List ℕ). put_at l n n i y) (put_first n i x txids (xmins ++ (pins ++ rest)) p)
-        ∙ put_second n i y (stored_at n txids i x) xmins (pins ++ rest) (ap length (sym e) ∙ stored-txid-long n txids p c ∙ p) q
+        ∙ put_second n i y (stored_at n txids i x) xmins (pins ++ rest) (ap length (sym e) ∙ stored_txid_long n txids p c ∙ p) q
 
     slot-laid :
         (c : SlotChange) →
@@ -109,11 +109,11 @@ module _ (n : ℕ) (ws : List ℕ) (size : length ws ≡ size_of n) where
   pins-long = length-take-le pin_count (drop (pins_from n) ws) (omega (arith, length-drop (pins_from n) ws))
 
   -- the three columns, with three words after them
-  pub with-counters :
+  pub with_counters :
       (c s l : ℕ) →
       sets ws (counters_from n) (c ∷ s ∷ l ∷ [])
       ≡ laid (take n ws) (take n (drop n ws)) (take pin_count (drop (pins_from n) ws)) (c ∷ s ∷ l ∷ [])
-  with-counters c s l =
+  with_counters c s l =
       let zs : List ℕ = c ∷ s ∷ l ∷ [] in
       let two : pins_from n ≡ n + n = omega arith in
       let pins : List ℕ = take pin_count (drop (pins_from n) ws) in
@@ -127,18 +127,18 @@ module _ (n : ℕ) (ws : List ℕ) (size : length ws ≡ size_of n) where
       ∙ append_assoc (take n ws) (take n (drop n ws)) (pins ++ zs)
 
   -- the counters, then the slot or the pin: the change is made
-  pub stored-change :
+  pub stored_change :
       (c : Change) →
       slot_put n
       (sets ws (counters_from n) (c.counters.clock ∷ c.counters.sampled_clock ∷ c.counters.vacuum_line ∷ []))
       c.slot
       ≡ words_of (applied (table_of n ws) c)
   unfolding table_of words_of
-  stored-change c =
+  stored_change c =
       let txids : List ℕ = take n ws in
       let xmins : List ℕ = take n (drop n ws) in
       let pins : List ℕ = take pin_count (drop (pins_from n) ws) in
       let k : Counters = c.counters in
-      ap (λ (r : List ℕ). slot_put n r c.slot) (with-counters k.clock k.sampled_clock k.vacuum_line)
+      ap (λ (r : List ℕ). slot_put n r c.slot) (with_counters k.clock k.sampled_clock k.vacuum_line)
       ∙ slot-laid n txids xmins pins (k.clock ∷ k.sampled_clock ∷ k.vacuum_line ∷ []) txids-long xmins-long pins-long c.slot
-      ∙ rw (stored-txid n txids txids-long c.slot, stored-xmin n xmins xmins-long c.slot, stored-pin pins pins-long c.slot)
+      ∙ rw (stored_txid_lem n txids txids-long c.slot, stored_xmin_lem n xmins xmins-long c.slot, stored_pin_lem pins pins-long c.slot)

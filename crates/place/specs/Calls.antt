@@ -16,40 +16,40 @@ said n t c = numbers_beside (answer n t c) (shown n t c) (line_of (after n t c))
 
 module _ (shape n : ℕ) (table : List ℕ) (c : Call) where
   -- the number answered: of the shape, or of the call's refusal, or 0
-  unfoldable pub numberBy : ℕ
-  numberBy = cond (eqb shape 0) (said n (table_of n table) c).told.number shape
+  unfoldable pub number_by : ℕ
+  number_by = cond (eqb shape 0) (said n (table_of n table) c).told.number shape
 
   -- the words of the table after the call
-  unfoldable pub tableBy : List ℕ
-  tableBy = cond (eqb shape 0) (words_of (after n (table_of n table) c)) table
+  unfoldable pub table_by : List ℕ
+  table_by = cond (eqb shape 0) (words_of (after n (table_of n table) c)) table
 
   -- the answer's words in the first places of `out`; the others stay
-  unfoldable pub outBy : List ℕ → List ℕ
-  outBy out = cond (eqb shape 0) (sets out 0 (answer_words (said n (table_of n table) c))) out
+  unfoldable pub out_by : List ℕ → List ℕ
+  out_by out = cond (eqb shape 0) (sets out 0 (answer_words (said n (table_of n table) c))) out
 
   -- the ids listed in flight in the first places of `ids`; the others stay
-  unfoldable pub idsBy : List ℕ → List ℕ
-  idsBy ids = cond (eqb shape 0) (sets ids 0 (listing (shown n (table_of n table) c))) ids
+  unfoldable pub ids_by : List ℕ → List ℕ
+  ids_by ids = cond (eqb shape 0) (sets ids 0 (listing (shown n (table_of n table) c))) ids
 
 module _ (n : ℕ) (table out : List ℕ) (c : Call) where
   abbrev pub number_of : ℕ
-  number_of = numberBy (shape_of n (length table) (length out)) n table c
+  number_of = number_by (shape_of n (length table) (length out)) n table c
 
-  abbrev pub tableAfter : List ℕ
-  tableAfter = tableBy (shape_of n (length table) (length out)) n table c
+  abbrev pub table_left : List ℕ
+  table_left = table_by (shape_of n (length table) (length out)) n table c
 
-  abbrev pub outAfter : List ℕ
-  outAfter = outBy (shape_of n (length table) (length out)) n table c out
+  abbrev pub out_left : List ℕ
+  out_left = out_by (shape_of n (length table) (length out)) n table c out
 
 module _ (n : ℕ) (table out ids : List ℕ) (c : Call) where
-  abbrev pub listNumber : ℕ
-  listNumber = numberBy (list_shape n (length table) (length out) (length ids)) n table c
+  abbrev pub list_number : ℕ
+  list_number = number_by (list_shape n (length table) (length out) (length ids)) n table c
 
-  abbrev pub listTable : List ℕ
-  listTable = tableBy (list_shape n (length table) (length out) (length ids)) n table c
+  abbrev pub list_table : List ℕ
+  list_table = table_by (list_shape n (length table) (length out) (length ids)) n table c
 
-  abbrev pub listOut : List ℕ
-  listOut = outBy (list_shape n (length table) (length out) (length ids)) n table c out
+  abbrev pub list_out : List ℕ
+  list_out = out_by (list_shape n (length table) (length out) (length ids)) n table c out
 
   abbrev pub list_ids : List ℕ
-  list_ids = idsBy (list_shape n (length table) (length out) (length ids)) n table c ids
+  list_ids = ids_by (list_shape n (length table) (length out) (length ids)) n table c ids

@@ -19,12 +19,12 @@ use Rattle.model.specs.Tally.{active, snapshot_of}
 use Rattle.model.specs.Answers.{listing}
 use Rattle.model.specs.Calls.{Call, refusal, after, shown, decision}
 use Rattle.model.specs.Deeds.{opens}
-use Rattle.model.proofs.Decides.{refused-decides}
+use Rattle.model.proofs.Decides.{refused_decides}
 use Rattle.taken_scans.specs.declared.snapshot.Taken.{Taken}
 use Rattle.taken_scans.specs.Taken.{taken_of}
 use Rattle.place.specs.Words.{table_of, stored_words}
 use Rattle.place.specs.Shapes.{answer_words, list_shape, told_in, plain_numbers}
-use Rattle.place.specs.Calls.{said, numberBy, tableBy, outBy, idsBy}
+use Rattle.place.specs.Calls.{said, number_by, table_by, out_by, ids_by}
 use Rattle.place.proofs.Called.{Listing, listing_shaped, stored_after, told-fits}
 use Rattle.place_answers.specs.Taken.{refused_with, taken_numbers}
 
@@ -52,8 +52,8 @@ module _ (n : ℕ) (t : Table) (c : Call) {d : Decision} (e : d ≡ decision n t
 module _ (shape n : ℕ) (ws : List ℕ) (c : Call) (out ids : List ℕ) where
   abbrev pub ListKept : ℕ → List ℕ → List ℕ → List ℕ → Type 0
   ListKept k ws' out' ids' =
-      (k ≡ numberBy shape n ws c)
-      × ((ws' ≡ tableBy shape n ws c) × ((out' ≡ outBy shape n ws c out) × (ids' ≡ idsBy shape n ws c ids)))
+      (k ≡ number_by shape n ws c)
+      × ((ws' ≡ table_by shape n ws c) × ((out' ≡ out_by shape n ws c out) × (ids' ≡ ids_by shape n ws c ids)))
 
   module _ (fit : shape ≡ 0) (l : Listing n (length ws) (length out) (length ids)) where
     -- what was decided, stored and told, with these ids
@@ -61,7 +61,7 @@ module _ (shape n : ℕ) (ws : List ℕ) (c : Call) (out ids : List ℕ) where
         {d : Decision} → d ≡ decision n (table_of n ws) c → {a : Numbers} → a ≡ said n (table_of n ws) c →
         {k : ℕ} {ws' out' ids' : List ℕ} → k ≡ a.told.number → ws' ≡ stored_words n ws d.change → out' ≡ told_in out a →
         ids' ≡ sets ids 0 (listing (shown n (table_of n ws) c)) → ListKept k ws' out' ids'
-    unfolding numberBy tableBy outBy idsBy
+    unfolding number_by table_by out_by ids_by
     kept e s k w o i =
         let b = eq-eqb shape 0 fit in (
           rw b (k ∙ ap (λ (a : Numbers). a.told.number) s),
@@ -79,7 +79,7 @@ module _ (shape n : ℕ) (ws : List ℕ) (c : Call) (out ids : List ℕ) where
     unfolding shown no_snapshot
     refused {r} b v {was} same k w o =
         let t : Table = table_of n ws in
-        let e : refused_with was r ≡ decision n t c = rw same (refused-decides n t c b v) in
+        let e : refused_with was r ≡ decision n t c = rw same (refused_decides n t c b v) in
         let none : shown n t c ≡ no_snapshot n = rw v in
         kept e (none_said n t c e none) k w o (rw none)
 

@@ -6,7 +6,7 @@
 ghost use Rattle.std.specs.Prelude.{◌≡◌};
 ghost use Rattle.kinds.specs.Kinds.{number as numbered, slot as slotNo, txid};
 ghost use Rattle.model.specs.Calls.{begin, end, stamp, finish};
-ghost use Rattle.place.specs.Calls.{number_of, tableAfter, outAfter};
+ghost use Rattle.place.specs.Calls.{number_of, table_left, out_left};
 
 use kinds::{SLOTS, SlotNo, Stamp, Txid};
 
@@ -14,8 +14,8 @@ use kinds::{SLOTS, SlotNo, Stamp, Txid};
 #[unsafe(no_mangle)]
 pub extern "C" fn sockhurdle_begin(table: &mut [u64], number: u64, out: &mut [u64]) -> u64
     ensures result_value { result ≡ number_of SLOTS table.old out.old (begin (numbered number)) }
-    ensures table_after { table.new ≡ tableAfter SLOTS table.old out.old (begin (numbered number)) }
-    ensures out_after { out.new ≡ outAfter SLOTS table.old out.old (begin (numbered number)) }
+    ensures table_after { table.new ≡ table_left SLOTS table.old out.old (begin (numbered number)) }
+    ensures out_after { out.new ≡ out_left SLOTS table.old out.old (begin (numbered number)) }
 {
     let shape = place::shape_test(table.len(), out.len());
     if shape != 0 {
@@ -33,8 +33,8 @@ pub extern "C" fn sockhurdle_begin(table: &mut [u64], number: u64, out: &mut [u6
 #[unsafe(no_mangle)]
 pub extern "C" fn sockhurdle_end(table: &mut [u64], slot: u16, id: u64, out: &mut [u64]) -> u64
     ensures result_value { result ≡ number_of SLOTS table.old out.old (end (slotNo slot) (txid id)) }
-    ensures table_after { table.new ≡ tableAfter SLOTS table.old out.old (end (slotNo slot) (txid id)) }
-    ensures out_after { out.new ≡ outAfter SLOTS table.old out.old (end (slotNo slot) (txid id)) }
+    ensures table_after { table.new ≡ table_left SLOTS table.old out.old (end (slotNo slot) (txid id)) }
+    ensures out_after { out.new ≡ out_left SLOTS table.old out.old (end (slotNo slot) (txid id)) }
 {
     let shape = place::shape_test(table.len(), out.len());
     if shape != 0 {
@@ -52,8 +52,8 @@ pub extern "C" fn sockhurdle_end(table: &mut [u64], slot: u16, id: u64, out: &mu
 #[unsafe(no_mangle)]
 pub extern "C" fn sockhurdle_stamp(table: &mut [u64], number: u64, out: &mut [u64]) -> u64
     ensures result_value { result ≡ number_of SLOTS table.old out.old (stamp (numbered number)) }
-    ensures table_after { table.new ≡ tableAfter SLOTS table.old out.old (stamp (numbered number)) }
-    ensures out_after { out.new ≡ outAfter SLOTS table.old out.old (stamp (numbered number)) }
+    ensures table_after { table.new ≡ table_left SLOTS table.old out.old (stamp (numbered number)) }
+    ensures out_after { out.new ≡ out_left SLOTS table.old out.old (stamp (numbered number)) }
 {
     let shape = place::shape_test(table.len(), out.len());
     if shape != 0 {
@@ -77,8 +77,8 @@ pub extern "C" fn sockhurdle_finish(
     out: &mut [u64],
 ) -> u64
     ensures result_value { result ≡ number_of SLOTS table.old out.old (finish (slotNo slot) (txid id) (numbered number)) }
-    ensures table_after { table.new ≡ tableAfter SLOTS table.old out.old (finish (slotNo slot) (txid id) (numbered number)) }
-    ensures out_after { out.new ≡ outAfter SLOTS table.old out.old (finish (slotNo slot) (txid id) (numbered number)) }
+    ensures table_after { table.new ≡ table_left SLOTS table.old out.old (finish (slotNo slot) (txid id) (numbered number)) }
+    ensures out_after { out.new ≡ out_left SLOTS table.old out.old (finish (slotNo slot) (txid id) (numbered number)) }
 {
     let shape = place::shape_test(table.len(), out.len());
     if shape != 0 {

@@ -17,7 +17,7 @@ use Rattle.model.specs.Tables.{clock_of, line_of}
 use Rattle.model.specs.Changes.{change, observed}
 use Rattle.model.specs.Tests.{observation_test}
 use Rattle.model.specs.Calls.{pin, refusal, change_accepted, answer_accepted, shown_accepted, shown, decision}
-use Rattle.model.proofs.Decides.{accepted-decides}
+use Rattle.model.proofs.Decides.{accepted_decides}
 use Rattle.taken_scans.specs.declared.snapshot.Taken.{Taken}
 use Rattle.taken_scans.specs.Taken.{taken_of}
 use Rattle.place.specs.Words.{pins_from, table_of}
@@ -43,7 +43,7 @@ module _ (n : ℕ) (t : Table) (clock sample : ℕ) where
         {a : Taken} → a ≡ taken_of t.txids used →
         record { change = change (Pins (pin_no at) a.xmin) k; answer = Pinned (pin_no at) } ≡ decision n t (pin clock sample)
     unfolding change_accepted answer_accepted taken_of
-    decides h k u a = rw (a, k, u, low) (accepted-decides n t (pin clock sample) (one_free h))
+    decides h k u a = rw (a, k, u, low) (accepted_decides n t (pin clock sample) (one_free h))
 
     shows :
         at < pin_count → {used : ℕ} → used ≡ max sample (line_of t) →
@@ -65,13 +65,13 @@ module _ (n : ℕ) (ws : List ℕ) (clock sample : ℕ) {was : Counters} (same :
       unfolding table_of
       none_free h = all-taken n (table_of n ws) clock sample (rw same at e) low h
 
-      pub pin-decided :
+      pub pin_decided :
           (ids : List ℕ) → n ≤ length ids → at < pin_count → {k : Counters} → k ≡ observed clock sample was → {used : ℕ} →
           used ≡ max sample was.vacuum_line → {a : Taken} → a ≡ taken_of (take (length ids) (take n ws)) used →
           record { change = change (Pins (pin_no at) a.xmin) k; answer = Pinned (pin_no at) }
           ≡ decision n (table_of n ws) (pin clock sample)
       unfolding table_of
-      pin-decided ids m h k u a =
+      pin_decided ids m h k u a =
           decides n (table_of n ws) clock sample (rw same at e) low h (rw same at k) (rw same at u) (rw (taken_all n ws ids m) at a)
 
       pub pin-shown :

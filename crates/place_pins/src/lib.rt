@@ -6,7 +6,7 @@
 ghost use Rattle.std.specs.Prelude.{◌≡◌};
 ghost use Rattle.kinds.specs.Kinds.{pin_no};
 ghost use Rattle.model.specs.Calls.{pin as pinned, unpin};
-ghost use Rattle.place.specs.Calls.{number_of, tableAfter, outAfter, listNumber, listTable, listOut, list_ids};
+ghost use Rattle.place.specs.Calls.{number_of, table_left, out_left, list_number, list_table, list_out, list_ids};
 
 use kinds::{PINS, PinNo, Refusal, SLOTS, Verdict};
 use model::{Answer, Change, Decision, SlotChange};
@@ -22,9 +22,9 @@ pub extern "C" fn sockhurdle_pin(
     out: &mut [u64],
     ids: &mut [u64],
 ) -> u64
-    ensures result_value { result ≡ listNumber SLOTS table.old out.old ids.old (pinned clock sample) }
-    ensures table_after { table.new ≡ listTable SLOTS table.old out.old ids.old (pinned clock sample) }
-    ensures out_after { out.new ≡ listOut SLOTS table.old out.old ids.old (pinned clock sample) }
+    ensures result_value { result ≡ list_number SLOTS table.old out.old ids.old (pinned clock sample) }
+    ensures table_after { table.new ≡ list_table SLOTS table.old out.old ids.old (pinned clock sample) }
+    ensures out_after { out.new ≡ list_out SLOTS table.old out.old ids.old (pinned clock sample) }
     ensures ids_after { ids.new ≡ list_ids SLOTS table.old out.old ids.old (pinned clock sample) }
 {
     let shape = place::list_shape(table.len(), out.len(), ids.len());
@@ -65,8 +65,8 @@ pub extern "C" fn sockhurdle_pin(
 #[unsafe(no_mangle)]
 pub extern "C" fn sockhurdle_unpin(table: &mut [u64], pin: u16, out: &mut [u64]) -> u64
     ensures result_value { result ≡ number_of SLOTS table.old out.old (unpin (pin_no pin)) }
-    ensures table_after { table.new ≡ tableAfter SLOTS table.old out.old (unpin (pin_no pin)) }
-    ensures out_after { out.new ≡ outAfter SLOTS table.old out.old (unpin (pin_no pin)) }
+    ensures table_after { table.new ≡ table_left SLOTS table.old out.old (unpin (pin_no pin)) }
+    ensures out_after { out.new ≡ out_left SLOTS table.old out.old (unpin (pin_no pin)) }
 {
     let shape = place::shape_test(table.len(), out.len());
     if shape != 0 {

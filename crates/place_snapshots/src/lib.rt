@@ -7,7 +7,7 @@
 ghost use Rattle.std.specs.Prelude.{◌≡◌};
 ghost use Rattle.kinds.specs.Kinds.{slot as slotNo, txid};
 ghost use Rattle.model.specs.Calls.{snap, own};
-ghost use Rattle.place.specs.Calls.{listNumber, listTable, listOut, list_ids};
+ghost use Rattle.place.specs.Calls.{list_number, list_table, list_out, list_ids};
 
 use kinds::{SLOTS, SlotNo, Txid, Verdict};
 use model::{Answer, Change, Decision, SlotChange};
@@ -21,9 +21,9 @@ pub extern "C" fn sockhurdle_snap(
     out: &mut [u64],
     ids: &mut [u64],
 ) -> u64
-    ensures result_value { result ≡ listNumber SLOTS table.old out.old ids.old (snap clock sample) }
-    ensures table_after { table.new ≡ listTable SLOTS table.old out.old ids.old (snap clock sample) }
-    ensures out_after { out.new ≡ listOut SLOTS table.old out.old ids.old (snap clock sample) }
+    ensures result_value { result ≡ list_number SLOTS table.old out.old ids.old (snap clock sample) }
+    ensures table_after { table.new ≡ list_table SLOTS table.old out.old ids.old (snap clock sample) }
+    ensures out_after { out.new ≡ list_out SLOTS table.old out.old ids.old (snap clock sample) }
     ensures ids_after { ids.new ≡ list_ids SLOTS table.old out.old ids.old (snap clock sample) }
 {
     let shape = place::list_shape(table.len(), out.len(), ids.len());
@@ -61,9 +61,9 @@ pub extern "C" fn sockhurdle_own(
     out: &mut [u64],
     ids: &mut [u64],
 ) -> u64
-    ensures result_value { result ≡ listNumber SLOTS table.old out.old ids.old (own (slotNo slot) (txid id) clock sample) }
-    ensures table_after { table.new ≡ listTable SLOTS table.old out.old ids.old (own (slotNo slot) (txid id) clock sample) }
-    ensures out_after { out.new ≡ listOut SLOTS table.old out.old ids.old (own (slotNo slot) (txid id) clock sample) }
+    ensures result_value { result ≡ list_number SLOTS table.old out.old ids.old (own (slotNo slot) (txid id) clock sample) }
+    ensures table_after { table.new ≡ list_table SLOTS table.old out.old ids.old (own (slotNo slot) (txid id) clock sample) }
+    ensures out_after { out.new ≡ list_out SLOTS table.old out.old ids.old (own (slotNo slot) (txid id) clock sample) }
     ensures ids_after { ids.new ≡ list_ids SLOTS table.old out.old ids.old (own (slotNo slot) (txid id) clock sample) }
 {
     let shape = place::list_shape(table.len(), out.len(), ids.len());

@@ -9,7 +9,7 @@ use lib.Seq.{sets, drop-cons, set_at, append_snoc, take_at, drop_at}
 use Rattle.kinds.specs.Kinds.{pin_count, free_pins}
 use Rattle.model.specs.Tables.{fresh_table}
 use Rattle.place.specs.Words.{pins_from, counters_from, size_of, words_of}
-use Rattle.place.proofs.Laid.{with-counters}
+use Rattle.place.proofs.Laid.{with_counters}
 
 abbrev pub cleared : List ℕ → ℕ → List ℕ
 cleared ws i = replicate i 0 ++ drop i ws
@@ -54,4 +54,4 @@ fresh_words n ws e z =
     let second : take n (drop n (replicate size zero)) ≡ replicate n zero = zeros_part size n n (pin_count + 3) (omega arith) in
     let third : take pin_count (drop (pins_from n) (replicate size zero)) ≡ replicate pin_count zero =
     zeros_part size (pins_from n) pin_count 3 (omega arith) in
-    rw z (with-counters n (replicate size zero) (length-replicate size zero ∙ e) 1 1 1 ∙ rw (first, second, third))
+    rw z (with_counters n (replicate size zero) (length-replicate size zero ∙ e) 1 1 1 ∙ rw (first, second, third))

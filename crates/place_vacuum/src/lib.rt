@@ -5,7 +5,7 @@
 
 ghost use Rattle.std.specs.Prelude.{◌≡◌};
 ghost use Rattle.model.specs.Calls.{oldest, vacuum};
-ghost use Rattle.place.specs.Calls.{number_of, tableAfter, outAfter};
+ghost use Rattle.place.specs.Calls.{number_of, table_left, out_left};
 
 use kinds::SLOTS;
 use place::{CLOCK, PINS_FROM};
@@ -19,8 +19,8 @@ pub extern "C" fn sockhurdle_oldest(
     out: &mut [u64],
 ) -> u64
     ensures result_value { result ≡ number_of SLOTS table.old out.old (oldest clock sample) }
-    ensures table_after { table.new ≡ tableAfter SLOTS table.old out.old (oldest clock sample) }
-    ensures out_after { out.new ≡ outAfter SLOTS table.old out.old (oldest clock sample) }
+    ensures table_after { table.new ≡ table_left SLOTS table.old out.old (oldest clock sample) }
+    ensures out_after { out.new ≡ out_left SLOTS table.old out.old (oldest clock sample) }
 {
     let shape = place::shape_test(table.len(), out.len());
     if shape != 0 {
@@ -50,8 +50,8 @@ pub extern "C" fn sockhurdle_vacuum(
     out: &mut [u64],
 ) -> u64
     ensures result_value { result ≡ number_of SLOTS table.old out.old (vacuum clock sample) }
-    ensures table_after { table.new ≡ tableAfter SLOTS table.old out.old (vacuum clock sample) }
-    ensures out_after { out.new ≡ outAfter SLOTS table.old out.old (vacuum clock sample) }
+    ensures table_after { table.new ≡ table_left SLOTS table.old out.old (vacuum clock sample) }
+    ensures out_after { out.new ≡ out_left SLOTS table.old out.old (vacuum clock sample) }
 {
     let shape = place::shape_test(table.len(), out.len());
     if shape != 0 {

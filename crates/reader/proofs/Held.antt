@@ -15,7 +15,7 @@ use Rattle.trace.specs.declared.RecordAt.{RecordAt}
 use Rattle.trace.specs.contracts.RecordAt as F
 use Rattle.trace.proofs.RecordAt.TheLaws as F'
 use Rattle.hand_proofs.proofs.Words.{refl, ℕ, ◌<◌, ◌^◌, List, [], ◌∷◌, Ura, Heap, Lft, Lfts, Fml, Val, vint, w64, RefT, slice_val, Is, Typed}
-use Rattle.hand_proofs.proofs.Words.{World, Param, struct, Plain, word, choice-of, owned, is_whole, is_spelled, shuts-struct, opens-struct}
+use Rattle.hand_proofs.proofs.Words.{World, Param, struct, Plain, word, choice_of, owned, is_whole, is_spelled, shuts_struct, opens_struct}
 use Rattle.hand_proofs.proofs.Words.{Item, ◌$◌, ‵, move, drop}
 use Rattle.reader.specs.Reader.{standing}
 use Rattle.reader.specs.declared.Reader.{Reader}
@@ -63,33 +63,33 @@ module _ (κ : Lft) where
       is_whole (Reading κ) (standing r.text n) (spelled r.text ∷ [], (vint w64 n ∷ [], tt))
       ((LL.owed (Reading κ) (T'.the_laws (lft κ)) r (T'.lowered r ∷ []) is).0, ((refl, fits), tt))
 
-  pub made-step : (s : A.Step) → IsFound s.found → IsReader κ s.reader → IsStep κ s
-  made-step s f r = is_whole (Stepping κ) s (F'.lowered s.found ∷ [], (T'.lowered s.reader ∷ [], tt)) (f, (r, tt))
+  pub made_step : (s : A.Step) → IsFound s.found → IsReader κ s.reader → IsStep κ s
+  made_step s f r = is_whole (Stepping κ) s (F'.lowered s.found ∷ [], (T'.lowered s.reader ∷ [], tt)) (f, (r, tt))
 
   pub found_of : (s : A.Step) → IsStep κ s → IsFound s.found
   found_of s is = is_spelled F'.lowers s.found _ (LL.owed (Stepping κ) (S'.the_laws (lft κ)) s (S'.lowered s ∷ []) is).0
 
-  pub reader-of : (s : A.Step) → IsStep κ s → IsReader κ s.reader
-  reader-of s is = is_spelled (T'.lowers (lft κ)) s.reader _ (LL.owed (Stepping κ) (S'.the_laws (lft κ)) s (S'.lowered s ∷ []) is).1.0
+  pub reader_of : (s : A.Step) → IsStep κ s → IsReader κ s.reader
+  reader_of s is = is_spelled (T'.lowers (lft κ)) s.reader _ (LL.owed (Stepping κ) (S'.the_laws (lft κ)) s (S'.lowered s ∷ []) is).1.0
 
 module _ {M : Type 1} {𝓤 : Ura M} {H : Heap 𝓤} (w : World {𝓤 = 𝓤} _) where
   abbrev pub found : Plain w F.the_row
-  found = choice-of w F.the_type F'.the_laws tt F'.the_copy F'.the_plain
+  found = choice_of w F.the_type F'.the_laws tt F'.the_copy F'.the_plain
 
   -- a reader as the parameter of a function
-  abbrev pub a-reader : Param w {n = 1} (plain (λ (κs : Lfts 1). T.the_row (named_lft 1 0 tt κs))) yes
-  a-reader = struct w (λ κs. T.the_type (named_lft 1 0 tt κs)) (λ κs. T'.the_laws (named_lft 1 0 tt κs)) (λ κs x f. refl)
+  abbrev pub a_reader : Param w {n = 1} (plain (λ (κs : Lfts 1). T.the_row (named_lft 1 0 tt κs))) yes
+  a_reader = struct w (λ κs. T.the_type (named_lft 1 0 tt κs)) (λ κs. T'.the_laws (named_lft 1 0 tt κs)) (λ κs x f. refl)
 
   -- the machine values have their types, whichever lifetime MIR writes
-  pub found-typed : (x : RecordAt) → IsFound x → Typed F'.mir (F'.lowered x)
-  found-typed x is = (found.lawful.typed x (F'.lowered x ∷ []) is).0
+  pub found_typed : (x : RecordAt) → IsFound x → Typed F'.mir (F'.lowered x)
+  found_typed x is = (found.lawful.typed x (F'.lowered x ∷ []) is).0
 
   module _ (κ : Lft) (m : Lifetime) where
     abbrev a : NamedLft
     a = record { mir = m; lft = κ }
 
-    pub reader-typed : (r : Reader) → IsReader κ r → Typed (T'.mir m) (T'.lowered r)
-    reader-typed r is = ((LL.lawful (T.the_type a) (T'.the_laws a) 𝓤 H w.atoms w.given).typed r (T'.lowered r ∷ []) is).0
+    pub reader_typed : (r : Reader) → IsReader κ r → Typed (T'.mir m) (T'.lowered r)
+    reader_typed r is = ((LL.lawful (T.the_type a) (T'.the_laws a) 𝓤 H w.atoms w.given).typed r (T'.lowered r ∷ []) is).0
 
     pub step_typed : (s : A.Step) → IsStep κ s → Typed (S'.mir m) (S'.lowered s)
     step_typed s is = ((LL.lawful (S.the_type a) (S'.the_laws a) 𝓤 H w.atoms w.given).typed s (S'.lowered s ∷ []) is).0
@@ -103,11 +103,11 @@ module _ {M : Type 1} {𝓤 : Ura M} {H : Heap 𝓤} (w : World {𝓤 = 𝓤} _)
         use2 w.given (‵ (Held κ (standing r.text n)))
         (own_put 𝓤 H w.atoms w.given (Reading κ) (T'.the_laws (lft κ)) 1 (r.text, (r.at, tt)) n (T'.lowered r)) $
         nothing t $ move t (1 ∷ 0 ∷ []) $ fjoin t $ owned w t found x (F'.lowered x) is $ fjoin t $
-        shuts-struct w t (Stepping κ) (record { found = x; reader = standing r.text n })
+        shuts_struct w t (Stepping κ) (record { found = x; reader = standing r.text n })
         (F'.lowered x ∷ [], (T'.lowered (standing r.text n) ∷ [], tt)) $ s)
 
     -- [what a step owns; ..] becomes [what its reader owns; ..]
-    pub moves-on : K → (κ : Lft) (s : A.Step) → Step K w.given (‵ (Held κ s.reader) ∷ Γ) G (‵ (Stepped κ s) ∷ Γ) G
-    moves-on t κ s = step (λ k.
-        opens-struct w t (Stepping κ) (S'.the_laws (lft κ)) (s.found, (s.reader, tt)) (S'.lowered s) $
+    pub moves_on : K → (κ : Lft) (s : A.Step) → Step K w.given (‵ (Held κ s.reader) ∷ Γ) G (‵ (Stepped κ s) ∷ Γ) G
+    moves_on t κ s = step (λ k.
+        opens_struct w t (Stepping κ) (S'.the_laws (lft κ)) (s.found, (s.reader, tt)) (S'.lowered s) $
         fsplit t $ drop t $ fsplit t $ move t (1 ∷ []) $ drop t $ k)

@@ -30,9 +30,9 @@ module _
     (count : ℕ) (xs : List ℕ) {ys : List ℕ} {at : ℕ} (k : at ≡ length (line_text records_key count))
     (p : ys ≡ spliced xs 0 (line_text records_key count))
   where
-    pub ends-plain : Ends Proc1 count xs ys at
+    pub ends_plain : Ends Proc1 count xs ys at
     unfolding last_text agree_line
-    ends-plain = let none = append-nil (line_text records_key count) in record { size = k ∙ rw none; text = p ∙ rw none }
+    ends_plain = let none = append-nil (line_text records_key count) in record { size = k ∙ rw none; text = p ∙ rw none }
 
     module _ {zs : List ℕ} {end most : ℕ} (w : Wrote ys at (line_text agree_key 1) zs end most) where
       both-size : end ≡ length (line_text records_key count ++ line_text agree_key 1)
@@ -44,13 +44,13 @@ module _
           let one = rw (zero-add (length first)) at (splice_append xs 0 first (line_text agree_key 1) (omega arith)) in
           w.left ∙ rw (p, k) one
 
-      pub ends-2 : Ends Proc2 count xs zs end
+      pub ends_2 : Ends Proc2 count xs zs end
       unfolding last_text agree_line
-      ends-2 = record { size = both-size; text = both-text }
+      ends_2 = record { size = both-size; text = both-text }
 
-      pub ends-3 : Ends Proc3 count xs zs end
+      pub ends_3 : Ends Proc3 count xs zs end
       unfolding last_text agree_line
-      ends-3 = record { size = both-size; text = both-text }
+      ends_3 = record { size = both-size; text = both-text }
 
 -- an answer is one or the other
 pub no_other : {b : Bool} → b ≡ true → b ≡ false → ⊥

@@ -24,15 +24,15 @@ use Rattle.replay.specs.declared.into.Replayed.TheVariants.{Written}
 use Rattle.replay.specs.declared.into.Replayed.TheVariants.{NoRoom as Short}
 
 module _ (line : ℕ) (xs : List ℕ) where
-  pub broken-short : length xs < 33 → BrokenFits line xs xs (Short 0)
-  broken-short h = let e = lt-leb 33 (length xs) h in record { says = rw e; text = rw e }
+  pub broken_short : length xs < 33 → BrokenFits line xs xs (Short 0)
+  broken_short h = let e = lt-leb 33 (length xs) h in record { says = rw e; text = rw e }
 
   module _
       (room : 33 ≤ length xs) {ys : List ℕ} {put : Put} (p : put ≡ put_at xs 0 (line_text answer_key 9))
       (w : ys ≡ written xs 0 (line_text answer_key 9))
     where
-      pub first-there : put ≡ NoRoom → ⊥
-      first-there e = line-put_there xs 0 answer_key 9 (omega arith) (omega arith) p e
+      pub first_there : put ≡ NoRoom → ⊥
+      first_there e = line-put_there xs 0 answer_key 9 (omega arith) (omega arith) p e
 
       module _ {at : ℕ} (e : put ≡ Past at) (small : line < 2 ^ 64) where
         one : Wrote xs 0 (line_text answer_key 9) ys at 28
@@ -47,12 +47,12 @@ module _ (line : ℕ) (xs : List ℕ) where
             {zs : List ℕ} {put' : Put} (q : put' ≡ put_at ys at (line_text at_key line))
             (v : zs ≡ written ys at (line_text at_key line))
           where
-            pub second-there : put' ≡ NoRoom → ⊥
-            second-there f = line-put_there ys at at_key line small (omega (arith, nine, one.size)) q f
+            pub second_there : put' ≡ NoRoom → ⊥
+            second_there f = line-put_there ys at at_key line small (omega (arith, nine, one.size)) q f
 
-            pub broken-written : {end : ℕ} → put' ≡ Past end → BrokenFits line xs zs (Written end)
+            pub broken_written : {end : ℕ} → put' ≡ Past end → BrokenFits line xs zs (Written end)
             unfolding told broken_text
-            broken-written {end} f =
+            broken_written {end} f =
                 let two = line_wrote ys at at_key line small (omega (arith, nine, one.size)) q v f in
                 let both = wrote_then (omega arith) one two in
                 let ok = le-leb 33 (length xs) room in

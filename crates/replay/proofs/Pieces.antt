@@ -33,7 +33,7 @@ use Rattle.replay.specs.declared.border.Went.{Went}
 use Rattle.replay.specs.declared.border.Went.TheVariants.{On, Failed}
 use Rattle.replay.specs.declared.out.Sent.{Sent}
 use Rattle.replay.proofs.Parts.{parts_join}
-use Rattle.replay_part.proofs.Room.{part-good, part-goes-on}
+use Rattle.replay_part.proofs.Room.{part_good, part_goes_on}
 use Rattle.replay.proofs.Next.{begins_with}
 
 parts_joined :
@@ -44,9 +44,9 @@ parts_joined zero v n t [] g room h = refl
 parts_joined zero v n t (r ∷ rs) g room h = absurd (omega arith)
 parts_joined (suc k) v n t [] g room h = refl
 parts_joined (suc k) v n t (r ∷ rs) g room h =
-    let on = part-goes-on v n 65536 t r rs g room in
+    let on = part_goes_on v n 65536 t r rs g room in
     let p = part_of v n 65536 0 t (r ∷ rs) in
-    let more = parts_joined k v n p.table p.left (part-good v n 65536 t (r ∷ rs) g) room (omega (arith, on)) in
+    let more = parts_joined k v n p.table p.left (part_good v n 65536 t (r ∷ rs) g) room (omega (arith, on)) in
     rw more (sym (parts_join v n 65536 0 t (r ∷ rs)).text)
 
 -- one after the other, the pieces are what the trace prints
@@ -94,10 +94,10 @@ went_stopped h f e = rw e at f
 
 module _ {n : ℕ} {s : List ℕ} (h : Handed) where
   -- a text that was put at a buffer's start is the piece that comes next
-  pub piece-next :
+  pub piece_next :
       (xs : List ℕ) {t ys : List ℕ} {size : ℕ} {later : List (List ℕ)} → length (pieces_of n s) < 2 ^ 64 →
       drop h.pieces (pieces_of n s) ≡ t ∷ later → size ≡ length t → ys ≡ spliced xs 0 t → PieceNext n s h size ys
-  piece-next xs {t} {ys} {size} {later} few e k put =
+  piece_next xs {t} {ys} {size} {later} few e k put =
       let first : take size ys ≡ t = rw k (begins_with xs t put) in
       record { few = few; later = later; next = e ∙ ap (λ (x : List ℕ). x ∷ later) (sym first) }
 
@@ -105,16 +105,16 @@ module _ {n : ℕ} {s : List ℕ} (h : Handed) where
   pub still : {size : ℕ} {buf : List ℕ} → PieceNext n s h size buf → h.pieces < length (pieces_of n s)
   still p = omega (arith, sym (length-drop h.pieces (pieces_of n s)) ∙ ap length p.next)
 
-  pub some-went :
+  pub some_went :
       {size : ℕ} {buf : List ℕ} {to : ℤ} {r : Stopped} → PieceNext n s h size buf → h.to ≡ to →
       r ≡ stopped h.to h.pieces → SomeWent n s to r
-  some-went p same e = record { same = rw e same; pieces = rw e (still p) }
+  some_went p same e = record { same = rw e same; pieces = rw e (still p) }
 
   -- where one piece is left, all have gone when it has
-  pub all-went :
+  pub all_went :
       {t : List ℕ} {to : ℤ} {trace : Bool} {r : Handed} → is_trace (trace_of s) ≡ trace →
       drop h.pieces (pieces_of n s) ≡ t ∷ [] → h.to ≡ to → r ≡ handed h.to (h.pieces + 1) → AllWent n s to trace r
-  all-went read e same g =
+  all_went read e same g =
       let all : length (pieces_of n s) ≡ h.pieces + 1 = omega (arith, sym (length-drop h.pieces (pieces_of n s)) ∙ ap length e) in
       record { read = read; pieces = g ∙ rw (same, all) }
 

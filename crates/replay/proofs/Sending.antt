@@ -22,10 +22,10 @@ use Rattle.trace.specs.declared.Version.TheVariants.{Proc2}
 use Rattle.trace.specs.Trace.{trace_grammar, trace_format, trace_of, reading, records_from, first_record, Boundary}
 use Rattle.trace.specs.Record.{any_form}
 use Rattle.trace.proofs.Shape.{trace_grammar_lem, trace_laws, any_facts}
-use Rattle.trace.proofs.Answers.{reading-is}
+use Rattle.trace.proofs.Answers.{reading_is}
 use Rattle.grammar.proofs.Laws.{opened, count_breaks}
 use Rattle.grammar.proofs.Grammar.{accepted}
-use Rattle.grammar.proofs.Walk.{none_left, items-inside, end-only}
+use Rattle.grammar.proofs.Walk.{none_left, items_inside, end_only}
 use Rattle.output.specs.Output.{need}
 use Rattle.output.proofs.Wrote.{holder_few}
 use Rattle.replay_text.specs.Replay.{broken_text, last_text}
@@ -33,25 +33,25 @@ use Rattle.replay_part.specs.Part.{part_of, PartFits}
 use Rattle.replay.specs.declared.border.Handed.{Handed}
 use Rattle.replay_part.specs.declared.Progress.{Progress}
 use Rattle.replay.specs.Sent.{parts_of, pieces_of, handed, is_trace, PieceNext, AllWent}
-use Rattle.replay_part.proofs.Room.{part-good, part-goes-on}
-use Rattle.replay.proofs.Pieces.{pieces_few, no_parts, piece-next, all-went}
+use Rattle.replay_part.proofs.Room.{part_good, part_goes_on}
+use Rattle.replay.proofs.Pieces.{pieces_few, no_parts, piece_next, all_went}
 
 -- refusal 9 is the one piece of a text that is no trace
 module _ (n : ℕ) (s : List ℕ) (line : ℕ) (e : reading s ≡ Broken line) where
   breaks : trace_of s ≡ texts.Broken line
-  breaks = count_breaks trace_format s (reading-is s e)
+  breaks = count_breaks trace_format s (reading_is s e)
 
   one_piece : pieces_of n s ≡ broken_text line ∷ []
   unfolding pieces_of
   one_piece = rw breaks
 
-  pub broken-next :
+  pub broken_next :
       (to : ℤ) (xs : List ℕ) {ys : List ℕ} {size : ℕ} → size ≡ length (broken_text line) → ys ≡ spliced xs 0 (broken_text line) →
       PieceNext n s (handed to 0) size ys
-  broken-next to xs k put = piece-next (handed to 0) xs (rw one_piece (omega arith)) one_piece k put
+  broken_next to xs k put = piece_next (handed to 0) xs (rw one_piece (omega arith)) one_piece k put
 
-  pub broken-all : {to : ℤ} {r : Handed} → r ≡ handed to (0 + 1) → AllWent n s to false r
-  broken-all {to} g = all-went (handed to 0) (ap is_trace breaks) (one_piece) refl g
+  pub broken_all : {to : ℤ} {r : Handed} → r ≡ handed to (0 + 1) → AllWent n s to false r
+  broken_all {to} g = all_went (handed to 0) (ap is_trace breaks) (one_piece) refl g
 
 -- the parts to come and the last line; `most` is at least how many records are left
 abbrev to_come : ℕ → Version → ℕ → List ℕ → ℕ → Table → ℕ → List (List ℕ)
@@ -83,17 +83,17 @@ to_fresh {v} {n} {t₀} e w =
 
 module _ (v : Version) (n : ℕ) (s : List ℕ) (count : ℕ) where
   pub is_whole : reading s ≡ Whole v count → is_trace (trace_of s) ≡ true
-  is_whole e = ap is_trace (opened trace_grammar trace_grammar_lem s v count (reading-is s e)).items
+  is_whole e = ap is_trace (opened trace_grammar trace_grammar_lem s v count (reading_is s e)).items
 
-  pub sending-start :
+  pub sending_start :
       {to : ℤ} → reading s ≡ Whole v count →
       Sending v n s count to (fresh_table n) first_record (handed to 0)
   unfolding pieces_of
-  sending-start e =
-      let b = opened trace_grammar trace_grammar_lem s v count (reading-is s e) in
+  sending_start e =
+      let b = opened trace_grammar trace_grammar_lem s v count (reading_is s e) in
       let rs = records_from s first_record in
       let short = (accepted trace_format trace_laws s v rs b.items).short in
-      let inside = items-inside any_form any_facts s first_record b.boundary in
+      let inside = items_inside any_form any_facts s first_record b.boundary in
       record {
         boundary = b.boundary;
         good = good-fresh n;
@@ -120,10 +120,10 @@ module _ (v : Version) (n : ℕ) (s : List ℕ) (count : ℕ) where
       split size room more = go (records_from s at) refl w.most refl
         where
           go : (rs : List Record) → records_from s at ≡ rs → (m : ℕ) → w.most ≡ m → Split
-          go [] e m f = absurd (more (end-only any_form any_facts s at w.boundary e))
+          go [] e m f = absurd (more (end_only any_form any_facts s at w.boundary e))
           go (q ∷ rs) e zero f = absurd (omega (arith, w.enough, ap length e))
           go (q ∷ rs) e (suc m) f =
-              let on = part-goes-on v n (length xs) t q rs w.good (omega (arith, holder_few v)) in
+              let on = part_goes_on v n (length xs) t q rs w.good (omega (arith, holder_few v)) in
               let left : length (records_from s r.at) ≤ length rs = rw (p.left, e) on in
               record {
                 most = m;
@@ -133,19 +133,19 @@ module _ (v : Version) (n : ℕ) (s : List ℕ) (count : ℕ) where
               }
 
       module _ (size : length xs ≡ 65536) (room : need Proc2 n ≤ 65536) (more : at ≡ length s → ⊥) where
-        pub part-next : PieceNext n s h r.filled ys
-        part-next = piece-next h xs w.few (split size room more).next p.filled p.text
+        pub part_next : PieceNext n s h r.filled ys
+        part_next = piece_next h xs w.few (split size room more).next p.filled p.text
 
-        pub part-less : length (records_from s r.at) < length (records_from s at)
-        part-less = (split size room more).less
+        pub part_less : length (records_from s r.at) < length (records_from s at)
+        part_less = (split size room more).less
 
         -- one piece more
-        pub sending-part : Sending v n s count to r.table r.at (handed h.to (h.pieces + 1))
-        sending-part =
+        pub sending_part : Sending v n s count to r.table r.at (handed h.to (h.pieces + 1))
+        sending_part =
             let part = split size room more in
             record {
               boundary = p.boundary;
-              good = rw p.table (part-good v n (length xs) t (records_from s at) w.good);
+              good = rw p.table (part_good v n (length xs) t (records_from s at) w.good);
               few = w.few;
               same = w.same;
               most = part.most;
@@ -158,12 +158,12 @@ module _ (v : Version) (n : ℕ) (s : List ℕ) (count : ℕ) where
       last-piece : drop h.pieces (pieces_of n s) ≡ last_text v count ∷ []
       last-piece = w.rest ∙ rw (none_left any_form any_facts s at over, no_parts w.most v n t)
 
-      pub last-next :
+      pub last_next :
           (xs : List ℕ) {ys : List ℕ} {size : ℕ} → size ≡ length (last_text v count) →
           ys ≡ spliced xs 0 (last_text v count) → PieceNext n s h size ys
-      last-next xs k put = piece-next h xs w.few last-piece k put
+      last_next xs k put = piece_next h xs w.few last-piece k put
 
-      pub last-all :
+      pub last_all :
           {fd : ℤ} {r : Handed} → reading s ≡ Whole v count → h.to ≡ fd →
           r ≡ handed h.to (h.pieces + 1) → AllWent n s fd true r
-      last-all e same g = all-went h (is_whole e) last-piece same g
+      last_all e same g = all_went h (is_whole e) last-piece same g

@@ -21,9 +21,9 @@ use Rattle.trace.specs.declared.Version.{Version}
 use Rattle.trace.specs.Trace.{trace_grammar, trace_format, trace_of, reading, records_from, first_record, Boundary}
 use Rattle.trace.specs.Record.{any_form}
 use Rattle.trace.proofs.Shape.{trace_grammar_lem, any_facts}
-use Rattle.trace.proofs.Answers.{reading-is}
+use Rattle.trace.proofs.Answers.{reading_is}
 use Rattle.grammar.proofs.Laws.{opened, count_breaks}
-use Rattle.grammar.proofs.Walk.{none_left, end-only}
+use Rattle.grammar.proofs.Walk.{none_left, end_only}
 use Rattle.replay_text.specs.Replay.{broken_text}
 use Rattle.replay_part.specs.Part.{Part, part_of, PartFits}
 use Rattle.replay.specs.Into.{Into, whole, cut, text_in, into_end, into_of, BrokenFits, EndFits, replayed, IntoFits}
@@ -37,12 +37,12 @@ module _ (n : ℕ) (s xs : List ℕ) where
       IntoFits n s xs ys r
   fits_by i e a b = record { says = rw e a; text = rw e b }
 
-  pub into-broken : (line : ℕ) {ys : List ℕ} {r : Replayed} → reading s ≡ reads.Broken line → BrokenFits line xs ys r → IntoFits n s xs ys r
+  pub into_broken : (line : ℕ) {ys : List ℕ} {r : Replayed} → reading s ≡ reads.Broken line → BrokenFits line xs ys r → IntoFits n s xs ys r
   unfolding reading into_of
-  into-broken line {ys} {r} e f = go (leb 33 (length xs)) refl
+  into_broken line {ys} {r} e f = go (leb 33 (length xs)) refl
     where
       found : trace_of s ≡ Broken line
-      found = count_breaks trace_format s (reading-is s e)
+      found = count_breaks trace_format s (reading_is s e)
 
       go : (b : Bool) → leb 33 (length xs) ≡ b → IntoFits n s xs ys r
       go true q = fits_by (whole (broken_text line)) (rw (found, q)) (rw q at f.says) (rw q at f.text)
@@ -73,13 +73,13 @@ module _ (n : ℕ) (s xs : List ℕ) where
 
       into-is : into_of n (length xs) s ≡ into_end (length xs) count part.left part.text
       unfolding into_of part
-      into-is = let b = opened trace_grammar trace_grammar_lem s version count (reading-is s e) in rw b.items (rw b.many)
+      into-is = let b = opened trace_grammar trace_grammar_lem s version count (reading_is s e) in rw b.items (rw b.many)
 
-      pub into-whole :
+      pub into_whole :
           {zs : List ℕ} {r : Replayed} → at ≡ length s → length ys ≡ length xs → EndFits count filled ys zs r →
           IntoFits n s xs zs r
       unfolding written part
-      into-whole {zs} {r} h k f = go (leb (length part.text + length (line_text records_key count)) (length xs)) refl
+      into_whole {zs} {r} h k f = go (leb (length part.text + length (line_text records_key count)) (length xs)) refl
         where
           none : part.left ≡ []
           none = sym p.left ∙ none_left any_form any_facts s at h
@@ -100,10 +100,10 @@ module _ (n : ℕ) (s xs : List ℕ) where
               let text = rw (p.filled, k, q) at f.text in
               fits_by (cut part.text) (ended ∙ rw q) says (text ∙ p.text)
 
-      pub into-cut : (at ≡ length s → ⊥) → IntoFits n s xs ys (NoRoom filled)
+      pub into_cut : (at ≡ length s → ⊥) → IntoFits n s xs ys (NoRoom filled)
       unfolding part
-      into-cut h = go part.left refl
+      into_cut h = go part.left refl
         where
           go : (l : List Record) → part.left ≡ l → IntoFits n s xs ys (NoRoom filled)
-          go [] q = absurd (h (end-only any_form any_facts s at p.boundary (p.left ∙ q)))
+          go [] q = absurd (h (end_only any_form any_facts s at p.boundary (p.left ∙ q)))
           go (r ∷ rs) q = fits_by (cut part.text) (into-is ∙ rw q) (ap NoRoom p.filled) p.text

@@ -69,15 +69,15 @@ module _ (v : Version) (n size : ℕ) (s : List ℕ) where
 
   module _ (at filled : ℕ) (t : Table) where
     -- the text is over
-    pub course-over : at ≡ length s → course_of v n size s at filled t ≡ staying at t
+    pub course_over : at ≡ length s → course_of v n size s at filled t ≡ staying at t
     unfolding course_of
-    course-over h =
+    course_over h =
         ap (λ (k : ℕ). course_in k v n size s at filled t) (add-one (length s - at)) ∙ in_end (length s - at) at filled t h
 
     -- what follows is no record
-    pub course-broken : {k : ℕ} → (at ≡ length s → ⊥) → record_at s at ≡ Broken k → course_of v n size s at filled t ≡ staying at t
+    pub course_broken : {k : ℕ} → (at ≡ length s → ⊥) → record_at s at ≡ Broken k → course_of v n size s at filled t ≡ staying at t
     unfolding course_of
-    course-broken h q =
+    course_broken h q =
         ap (λ (k : ℕ). course_in k v n size s at filled t) (add-one (length s - at)) ∙ in_step (length s - at) at filled t h q
 
     module _ (r : Record) (e : ℕ) (q : record_at s at ≡ Is r e) where
@@ -89,16 +89,16 @@ module _ (v : Version) (n size : ℕ) (s : List ℕ) where
           ∙ in_step (length s - at) at filled t (λ z. omega (arith, m.0, m.1)) q
 
       -- the next one has no room
-      pub course-full : fits v n size filled (shown n t (call_of r)).count ≡ false → course_of v n size s at filled t ≡ staying at t
-      course-full short = course-record ∙ rw short
+      pub course_full : fits v n size filled (shown n t (call_of r)).count ≡ false → course_of v n size s at filled t ≡ staying at t
+      course_full short = course-record ∙ rw short
 
       -- it has
-      pub course-next :
+      pub course_next :
           fits v n size filled (shown n t (call_of r)).count ≡ true →
           course_of v n size s at filled t
           ≡ printing (printed v n t (call_of r)) (course_of v n size s e (filled + length (printed v n t (call_of r))) (after n t (call_of r)))
       unfolding course_of
-      course-next ok =
+      course_next ok =
           let m = any_facts.moves s at r e (record_is s at q) in
           let out = printed v n t (call_of r) in
           let same =

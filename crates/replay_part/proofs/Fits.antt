@@ -6,7 +6,7 @@ use mathlib.Core.List.{List, ◌++◌}
 use native.Mathlib.Omega.{arith}
 use lib.ListN.{length}
 use Rattle.grammar.specs.Items as items
-use Rattle.grammar.proofs.Walk.{along, look, At, ended, broke, went, Past, next-item, none_left, no_items}
+use Rattle.grammar.proofs.Walk.{along, look, At, ended, broke, went, Past, next_item, none_left, no_items}
 use Rattle.model.specs.declared.Table.{Table}
 use Rattle.model.specs.Calls.{after, shown}
 use Rattle.text.specs.Write.{spliced}
@@ -21,7 +21,7 @@ use Rattle.step.specs.Named.{call_of}
 use Rattle.replay_part.specs.declared.Progress.{Progress}
 use Rattle.replay_part.specs.Course.{course_of, progress_of}
 use Rattle.replay_part.specs.Part.{part_of, PartFits}
-use Rattle.replay_part.proofs.Courses.{course-over, course-full, course-next}
+use Rattle.replay_part.proofs.Courses.{course_over, course_full, course_next}
 use Rattle.replay_part.proofs.Running.{inside_of}
 
 said : (s : List ℕ) (at : ℕ) {r : Record} {e : ℕ} → any_form.at s at ≡ items.Is r e → record_at s at ≡ Is r e
@@ -45,20 +45,20 @@ module _ (v : Version) (n size : ℕ) (s : List ℕ) where
       go : (at : ℕ) → Past any_form any_facts s Alike at → (filled : ℕ) (t : Table) → Boundary s at → At any_form any_facts s at 0 → Same at filled t
       go at ih filled t h (ended p q) =
           let none = none_left any_form any_facts s at p in
-          let c = course-over v n size s at filled t p in
+          let c = course_over v n size s at filled t p in
           record { text = rw (c, none); table = rw (c, none); left = rw (c, none); boundary = rw c h }
       go at ih filled t h (broke k p q) = absurd (no_items (0 + k) (records_from s at) (sym q ∙ h))
       go at ih filled t h (went r e p q) = step (fits v n size filled (shown n t (call_of r)).count) refl
         where
           step : (b : Bool) → fits v n size filled (shown n t (call_of r)).count ≡ b → Same at filled t
           step false short =
-              let m = next-item any_form any_facts s at r e h p in
-              let c = course-full v n size s at filled t r e (said s at p) short in
+              let m = next_item any_form any_facts s at r e h p in
+              let c = course_full v n size s at filled t r e (said s at p) short in
               record { text = rw (c, m.first, short); table = rw (c, m.first, short); left = rw (c, m.first, short); boundary = rw c h }
           step true ok =
-              let m = next-item any_form any_facts s at r e h p in
+              let m = next_item any_form any_facts s at r e h p in
               let out = printed v n t (call_of r) in
-              let c = course-next v n size s at filled t r e (said s at p) ok in
+              let c = course_next v n size s at filled t r e (said s at p) ok in
               let i = ih r e p (filled + length out) (after n t (call_of r)) m.again in
               record {
                 text = rw (c, m.first, ok) (ap (λ (u : List ℕ). out ++ u) i.text);

@@ -75,13 +75,13 @@ module _ (v : Version) (n size : ℕ) where
       go true l = record { few = omega (arith, l.few); good = l.good }
       go false l = record { few = omega arith; good = g }
 
-  pub part-good : (t : Table) (rs : List Record) → Good n t → Good n (part_of v n size 0 t rs).table
-  part-good t rs g = (part_left 0 t rs g).good
+  pub part_good : (t : Table) (rs : List Record) → Good n t → Good n (part_of v n size 0 t rs).table
+  part_good t rs g = (part_left 0 t rs g).good
 
   -- and fewer from an empty buffer
-  pub part-goes-on :
+  pub part_goes_on :
       (t : Table) (r : Record) (rs : List Record) → Good n t → need v n ≤ size → length (part_of v n size 0 t (r ∷ rs)).left ≤ length rs
   unfolding part_of
-  part-goes-on t r rs g h =
+  part_goes_on t r rs g h =
       rw (room_fits v n size 0 t (call_of r) g (omega arith))
       (part_left (0 + length (printed v n t (call_of r))) (after n t (call_of r)) rs (good-after n t (call_of r) g)).few

@@ -23,7 +23,7 @@ use Rattle.step.specs.Named.{call_of}
 use Rattle.step.specs.Step.{ran_of, left_of, ran, ran_left}
 use Rattle.replay_part.specs.declared.Progress.{Progress}
 use Rattle.replay_part.specs.Course.{printing, staying, course_of, progress_of}
-use Rattle.replay_part.proofs.Courses.{course-over, course-broken, course-full, course-next}
+use Rattle.replay_part.proofs.Courses.{course_over, course_broken, course_full, course_next}
 use Rattle.step.specs.declared.Ran.{Ran}
 
 -- a text that leaves the length as it was ends inside
@@ -92,8 +92,8 @@ module _ (v : Version) (n : ℕ) (s : List ℕ) (from : ℕ) (t₀ : Table) (xs 
   Ended ys r =
       (r ≡ progress_of (course_of v n (length xs) s from 0 t₀)) × (ys ≡ spliced xs 0 (course_of v n (length xs) s from 0 t₀).text)
 
-  pub running-start : length t₀.txids ≡ n → Running v n s from t₀ xs xs t₀ from 0
-  running-start k =
+  pub running_start : length t₀.txids ≡ n → Running v n s from t₀ xs xs t₀ from 0
+  running_start k =
       record { done = []; text = splice_none xs 0; size = refl; count = refl; inside = omega arith; few = k; rest = refl }
 
   module _ {ys : List ℕ} {t : Table} {at filled : ℕ} (w : Running v n s from t₀ xs ys t at filled) where
@@ -119,7 +119,7 @@ module _ (v : Version) (n : ℕ) (s : List ℕ) (from : ℕ) (t₀ : Table) (xs 
           count = omega (arith, end, w.count, length-append w.done out);
           inside = omega (arith, end, bound, w.size);
           few = few';
-          rest = w.rest ∙ rw (course-next v n (length xs) s at filled t r e q ok, next, end, append_assoc);
+          rest = w.rest ∙ rw (course_next v n (length xs) s at filled t r e q ok, next, end, append_assoc);
         }
 
     -- it stops where it stands
@@ -131,22 +131,22 @@ module _ (v : Version) (n : ℕ) (s : List ℕ) (from : ℕ) (t₀ : Table) (xs 
         (rw (whole, w.count), rw whole z)
 
     -- what follows is no record
-    pub running-broken :
+    pub running_broken :
         {k : ℕ} → (at ≡ length s → ⊥) → record_at s at ≡ Broken k → Ended ys (record { table = t; at = at; filled = filled })
-    running-broken h q = stopping ys w.text (course-broken v n (length xs) s at filled t h q)
+    running_broken h q = stopping ys w.text (course_broken v n (length xs) s at filled t h q)
 
     -- the next record has no room
-    pub running-full :
+    pub running_full :
         (r : Record) (e : ℕ) {o : Ran} {zs : List ℕ} → record_at s at ≡ Is r e → RanThere v n t (call_of r) ys filled zs o →
         o.put ≡ NoRoom → Ended zs (record { table = t; at = at; filled = filled })
-    running-full r e {o} {zs} q a p =
+    running_full r e {o} {zs} q a p =
         let out = printed v n t (call_of r) in
         let many = (shown n t (call_of r)).count in
         let put = sym p ∙ a.put in
         let no : fits v n (length xs) filled many ≡ false = rw (← w.size) (not-put-fits v n ys filled many out put) in
         let same = not-put-left v n ys filled many out put a.left in
-        stopping zs (same ∙ w.text) (course-full v n (length xs) s at filled t r e q no)
+        stopping zs (same ∙ w.text) (course_full v n (length xs) s at filled t r e q no)
 
     -- no record is left
-    pub running-over : at ≡ length s → Ended ys (record { table = t; at = at; filled = filled })
-    running-over h = stopping ys w.text (course-over v n (length xs) s at filled t h)
+    pub running_over : at ≡ length s → Ended ys (record { table = t; at = at; filled = filled })
+    running_over h = stopping ys w.text (course_over v n (length xs) s at filled t h)

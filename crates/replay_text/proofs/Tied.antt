@@ -23,7 +23,7 @@ use Rattle.grammar.specs.Texts.{Whole}
 use Rattle.output.specs.Output.{printed, answer_text, rest_lines}
 use Rattle.step.specs.Named.{call_of, call_by}
 use Rattle.replay_text.specs.Replay.{calls_of, text_of, agree_line, replay_of}
-use Rattle.replay_text.specs.Tied.{TakesSnapshot, plain, of_transaction, record_lines, shownAt, line_at, Tied}
+use Rattle.replay_text.specs.Tied.{TakesSnapshot, plain, of_transaction, record_lines, shown_at, line_at, Tied}
 
 -- records print their text, and those after them start on the table that their calls reach
 pub text_append :
@@ -72,5 +72,5 @@ tied n s v before r later e =
     record {
       stands = rw (e, step) (ap (λ (text : List ℕ). text ++ last ++ agree_line v) around);
       prints = rw line;
-      snapshot = λ k. rw (line, no_other_xmin n t r (shownAt v n before r).xmin k);
+      snapshot = λ k. rw (line, no_other_xmin n t r (shown_at v n before r).xmin k);
     }

@@ -33,14 +33,14 @@ pub data TakesSnapshot : Op → Type 0 where
 -- a record r of a trace with header v, and the records before it: their calls are a history, and r's call is one more
 module _ (v : Version) (n : ℕ) (before : List Record) (r : Record) where
   -- what r prints, what its call answers, the snapshot that it shows, and the line that the history has reached with it
-  abbrev pub textAt : List ℕ
-  textAt = printed v n (reached n (calls_of before)) (call_of r)
+  abbrev pub text_at : List ℕ
+  text_at = printed v n (reached n (calls_of before)) (call_of r)
 
-  abbrev pub answerAt : Answer
-  answerAt = answer n (reached n (calls_of before)) (call_of r)
+  abbrev pub answer_at : Answer
+  answer_at = answer n (reached n (calls_of before)) (call_of r)
 
-  abbrev pub shownAt : Snapshot
-  shownAt = shown n (reached n (calls_of before)) (call_of r)
+  abbrev pub shown_at : Snapshot
+  shown_at = shown n (reached n (calls_of before)) (call_of r)
 
   abbrev pub line_at : ℕ
   line_at = line_after n (calls_of (before ++ r ∷ []))
@@ -51,11 +51,11 @@ module _ (v : Version) (n : ℕ) (before : List Record) (r : Record) where
     pub stands :
         replay_of n s
         ≡ text_of v n (fresh_table n) before
-        ++ textAt
+        ++ text_at
         ++ text_of v n (reached n (calls_of (before ++ r ∷ []))) later
         ++ line_text records_key (length (before ++ r ∷ later))
         ++ agree_line v
     -- xmax, count and ids are of the snapshot that the call shows, and the vacuum line is that of the history with the call
-    pub prints : textAt ≡ record_lines v answerAt (xmin_told answerAt shownAt.xmin) shownAt line_at
+    pub prints : text_at ≡ record_lines v answer_at (xmin_told answer_at shown_at.xmin) shown_at line_at
     -- of a record that takes a snapshot, so is the xmin
-    pub snapshot : TakesSnapshot r.op → textAt ≡ record_lines v answerAt shownAt.xmin shownAt line_at
+    pub snapshot : TakesSnapshot r.op → text_at ≡ record_lines v answer_at shown_at.xmin shown_at line_at

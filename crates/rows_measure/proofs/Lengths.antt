@@ -12,7 +12,7 @@ use Rattle.text.proofs.Splice.{line-length}
 use Rattle.grammar.specs.Names.{name_line}
 use Rattle.grammar.specs.Items.{item_text, lines_of}
 use Rattle.grammar.specs.Named.{six_lines}
-use Rattle.grammar.proofs.Grammar.{lines-first}
+use Rattle.grammar.proofs.Grammar.{lines_first}
 use Rattle.trace.specs.Op.{op_name}
 use Rattle.trace.specs.Record.{any_form, record_text}
 use Rattle.trace.specs.declared.Record.{Record}
@@ -53,4 +53,4 @@ records_none = refl
 
 pub records-first : (r : Record) (rs : List Record) → records_text (r ∷ rs) ≡ record_text r ++ records_text rs
 unfolding records_text
-records-first r rs = lines-first any_form any_facts r rs
+records-first r rs = lines_first any_form any_facts r rs

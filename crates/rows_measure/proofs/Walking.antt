@@ -26,20 +26,20 @@ pub bad_run : (rs : List Record) → BadRow ≡ Are rs → ⊥
 bad_run rs h = let z : ◌≡◌ {A = ℕ} 0 1 = cc in omega arith
 
 module _ (v : Version) (rows : List (List ℕ)) (i : ℕ) where
-  pub rows-here : i < length rows → records_of v (drop i rows) ≡ on_judged (row_under v (get_or rows i [])) (records_of v (drop (i + 1) rows))
+  pub rows_here : i < length rows → records_of v (drop i rows) ≡ on_judged (row_under v (get_or rows i [])) (records_of v (drop (i + 1) rows))
   unfolding records_of
-  rows-here h = rw (add-one, drop-cons rows i [])
+  rows_here h = rw (add-one, drop-cons rows i [])
 
-  pub rows-over : length rows ≤ i → records_of v (drop i rows) ≡ Are []
+  pub rows_over : length rows ≤ i → records_of v (drop i rows) ≡ Are []
   unfolding records_of
-  rows-over h = rw (drop_of_length-le rows h)
+  rows_over h = rw (drop_of_length-le rows h)
 
   pub measure-good : (n : ℕ) (r : Record) → i < length rows → Good r ≡ row_under v (get_or rows i [])
       → sized n (records_of v (drop i rows)) ≡ sized (min (n + length (record_text r)) too_long) (records_of v (drop (i + 1) rows))
-  measure-good n r h e = rw (rows-here h, ← e) (sized-first n r (records_of v (drop (i + 1) rows)))
+  measure-good n r h e = rw (rows_here h, ← e) (sized-first n r (records_of v (drop (i + 1) rows)))
 
-  pub measure-bad : (n : ℕ) → i < length rows → Bad ≡ row_under v (get_or rows i []) → sized n (records_of v (drop i rows)) ≡ measure.BadRow
-  measure-bad n h e = rw (rows-here h, ← e)
+  pub measure_bad : (n : ℕ) → i < length rows → Bad ≡ row_under v (get_or rows i []) → sized n (records_of v (drop i rows)) ≡ measure.BadRow
+  measure_bad n h e = rw (rows_here h, ← e)
 
-  pub measure-over : (n : ℕ) → n ≤ too_long → length rows ≤ i → sized n (records_of v (drop i rows)) ≡ measure.Length n
-  measure-over n l h = rw (rows-over h) (ap measure.Length (omega (arith, ap length records_none)))
+  pub measure_over : (n : ℕ) → n ≤ too_long → length rows ≤ i → sized n (records_of v (drop i rows)) ≡ measure.Length n
+  measure_over n l h = rw (rows_over h) (ap measure.Length (omega (arith, ap length records_none)))

@@ -8,7 +8,7 @@ use mathlib.Core.Path.{◌≡◌, refl, sym, ap, ◌∙◌}
 use mathlib.Core.List.{List, [], ◌∷◌, ◌++◌}
 use lib.ListN.{length, drop, set, length-set}
 use lib.Seq.{sets, sets-eq}
-use Rattle.grammar.proofs.Walk.{next-item, none_left}
+use Rattle.grammar.proofs.Walk.{next_item, none_left}
 use Rattle.trace.specs.Record.{any_form, record_at}
 use Rattle.trace.specs.Trace.{records_from, Boundary}
 use Rattle.trace.specs.declared.Record.{Record}
@@ -33,9 +33,9 @@ pub record Filled (s : List ℕ) (whole run : List (List ℕ)) (at i : ℕ) : Ty
   pub text : whole ≡ sets run i (rows_of (records_from s at))
 
 module _ (s : List ℕ) where
-  pub filled-start : (run : List (List ℕ)) (at : ℕ) → Boundary s at → length (records_from s at) ≤ length run
+  pub filled_start : (run : List (List ℕ)) (at : ℕ) → Boundary s at → length (records_from s at) ≤ length run
       → Filled s (in_front (rows_of (records_from s at)) run) run at 0
-  filled-start run at b h = record {
+  filled_start run at b h = record {
     boundary = b;
     room = omega arith;
     text = front_sets (rows_of (records_from s at)) run (omega (arith, rows_many (records_from s at)));
@@ -43,18 +43,18 @@ module _ (s : List ℕ) where
 
   module _ (whole run : List (List ℕ)) (at i : ℕ) (r : Record) (e : ℕ) where
     pub row_room : Filled s whole run at i → record_at s at ≡ Is r e → i < length run
-    row_room f q = omega (arith, f.room, ap length (next-item any_form any_facts s at r e f.boundary (record_is s at q)).first)
+    row_room f q = omega (arith, f.room, ap length (next_item any_form any_facts s at r e f.boundary (record_is s at q)).first)
 
     pub filled_next : Filled s whole run at i → record_at s at ≡ Is r e → Filled s whole (set run i (row_of r)) e (i + 1)
     unfolding rows_of
     filled_next f q =
-        let n = next-item any_form any_facts s at r e f.boundary (record_is s at q) in
+        let n = next_item any_form any_facts s at r e f.boundary (record_is s at q) in
         record {
           boundary = n.again;
           room = omega (arith, f.room, ap length n.first, length-set run i (row_of r));
           text = f.text ∙ rw (n.first, add-one);
         }
 
-  pub filled-over : (whole run : List (List ℕ)) (at i : ℕ) → at ≡ length s → Filled s whole run at i → run ≡ whole
+  pub filled_over : (whole run : List (List ℕ)) (at i : ℕ) → at ≡ length s → Filled s whole run at i → run ≡ whole
   unfolding rows_of
-  filled-over whole run at i h f = sym (f.text ∙ rw (none_left any_form any_facts s at h))
+  filled_over whole run at i h f = sym (f.text ∙ rw (none_left any_form any_facts s at h))

@@ -33,9 +33,9 @@ module _ (a b : List ℕ) (i : ℕ) (h : i < length a) (k : i < length b) where
   unfolding equal_bytes
   same_here e = rw (from a i h, from b i k, eq-eqb _ _ e)
 
-  pub differs-here : (get_or a i 0 ≡ get_or b i 0 → ⊥) → equal_bytes (drop i a) (drop i b) ≡ false
+  pub differs_here : (get_or a i 0 ≡ get_or b i 0 → ⊥) → equal_bytes (drop i a) (drop i b) ≡ false
   unfolding equal_bytes
-  differs-here e = rw (from a i h, from b i k, ne_eqb _ _ e)
+  differs_here e = rw (from a i h, from b i k, ne_eqb _ _ e)
 
 pub both_over : (a b : List ℕ) (i : ℕ) → length a ≤ i → length b ≤ i → equal_bytes (drop i a) (drop i b) ≡ true
 unfolding equal_bytes

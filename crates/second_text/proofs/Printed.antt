@@ -74,9 +74,9 @@ module _ (v : Version) (n : ℕ) (rows : List (List ℕ)) (row : List ℕ) {s : 
         let fit : need v s.numbers.count ≤ length zeros - 0 = omega arith in
         rw (le-leb s.numbers.count n c, le-leb (need v s.numbers.count) (length zeros - 0) fit)
 
-    pub never-full : {p : Put} → p ≡ put_text v n zeros 0 s.numbers.count (said_text v s) → p ≡ NoRoom → ⊥
+    pub never_full : {p : Put} → p ≡ put_text v n zeros 0 s.numbers.count (said_text v s) → p ≡ NoRoom → ⊥
     unfolding put_text
-    never-full q z =
+    never_full q z =
         let full : NoRoom ≡ Past (0 + length (said_text v s)) = sym z ∙ q ∙ rw has_room_lem in
         let b : ◌≡◌ {A = ℕ} 0 1 = cc in
         omega arith
@@ -91,24 +91,24 @@ module _ (v : Version) (n : ℕ) (rows : List (List ℕ)) (row : List ℕ) {s : 
         omega arith
 
     -- what stands in front is the second engine's text
-    pub front-is :
+    pub front_is :
         {buf : List ℕ} {end : ℕ} → buf ≡ left_text v n zeros 0 s.numbers.count (said_text v s) →
         end ≡ length (said_text v s) → take end buf ≡ second_text v n rows row
     unfolding left_text spliced
-    front-is {buf} q z =
+    front_is {buf} q z =
         let left : buf ≡ said_text v s ++ drop (0 + length (said_text v s)) zeros = q ∙ rw has_room_lem in
         rw (z, left) (take-append_seam (said_text v s) (drop (0 + length (said_text v s)) zeros) ∙ ap (said_text v) e)
 
     -- .. and all of it stands inside
-    pub front-count :
+    pub front_count :
         {buf : List ℕ} {end : ℕ} → buf ≡ left_text v n zeros 0 s.numbers.count (said_text v s) →
         end ≡ length (said_text v s) → end ≡ length (take end buf)
-    front-count {buf} {end} q z = z ∙ ap (λ (u : Said). length (said_text v u)) e ∙ sym (ap length (front-is q z))
+    front_count {buf} {end} q z = z ∙ ap (λ (u : Said). length (said_text v u)) e ∙ sym (ap length (front_is q z))
 
-    pub front-inside :
+    pub front_inside :
         {buf : List ℕ} {end : ℕ} → buf ≡ left_text v n zeros 0 s.numbers.count (said_text v s) →
         end ≡ length (said_text v s) → end ≤ length buf
-    front-inside {buf} {end} q z = let m = length-take end buf in let k = front-count q z in omega arith
+    front_inside {buf} {end} q z = let m = length-take end buf in let k = front_count q z in omega arith
 
 -- it is what the call prints on the table that the list reaches, so what was printed there agrees
 pub prints_same :

@@ -11,7 +11,7 @@ use Rattle.model.specs.Tables.{clock_of}
 use Rattle.model.specs.Changes.{change}
 use Rattle.model.specs.Tests.{reservation_test}
 use Rattle.model.specs.Calls.{stamp, refusal, change_accepted, answer_accepted, decision}
-use Rattle.model.proofs.Decides.{accepted-decides}
+use Rattle.model.proofs.Decides.{accepted_decides}
 use Rattle.counters.specs.Reserved.{reserved_from}
 use Rattle.counters.proofs.Past.{reserved-past}
 
@@ -21,4 +21,4 @@ module _ (n : ℕ) (t : Table) (number : Stamp) {k : Counters} (past : k ≡ res
       record { change = change Stays k; answer = Stamped number } ≡ decision n t (stamp number)
   unfolding refusal change_accepted answer_accepted
   stamp-accepted e =
-      rw (past, reserved-past (clock_of t) number t.counters e) (accepted-decides n t (stamp number) e)
+      rw (past, reserved-past (clock_of t) number t.counters e) (accepted_decides n t (stamp number) e)

@@ -16,7 +16,7 @@ use Rattle.model.specs.Tables.{clock_of}
 use Rattle.model.specs.Tests.{observation_test}
 use Rattle.model.specs.Calls.{Call, pin, refusal, change_of, after, answer, shown_accepted, shown_by, shown, decision, snapshot_decision}
 use Rattle.model.specs.Deeds.{opens}
-use Rattle.model.proofs.Decides.{refused-shows}
+use Rattle.model.proofs.Decides.{refused_shows}
 use Rattle.trace.specs.declared.Version.{Version}
 use Rattle.output.specs.Output.{printed}
 use Rattle.step.specs.declared.Ran.{Ran}
@@ -45,11 +45,11 @@ module _
     (e : refusal n t c ≡ Refuse r) where
   pub refused-ran : plain_ran v n (refused_call t.counters r) xs at ≡ listing_ran v n (snapshot_decision n t c) xs at
   unfolding no_snapshot
-  refused-ran = ap (λ (d : SnapshotDecision). listing_ran v n d xs at) (refused-shows n t c free e)
+  refused-ran = ap (λ (d : SnapshotDecision). listing_ran v n d xs at) (refused_shows n t c free e)
 
   pub refused-left : plain_left v n (refused_call t.counters r) xs at ≡ listing_left v n (snapshot_decision n t c) xs at
   unfolding no_snapshot
-  refused-left = ap (λ (d : SnapshotDecision). listing_left v n d xs at) (refused-shows n t c free e)
+  refused-left = ap (λ (d : SnapshotDecision). listing_left v n d xs at) (refused_shows n t c free e)
 
 module _ (v : Version) (n : ℕ) (t : Table) (c : Call) (few : length t.txids ≤ n) (xs : List ℕ) (at : ℕ) where
   module _ {d : Decision} (e : d ≡ decision n t c) (none : shown_accepted n t c ≡ no_snapshot n) where

@@ -8,34 +8,34 @@ use Rattle.kinds.proofs.Lists.{from}
 use Rattle.model.specs.Check.{slot_passes, slots_pass, pin_passes, pins_pass}
 
 module _ (clock line : ℕ) (txids xmins : List ℕ) (i : ℕ) where
-  pub slots-bad :
+  pub slots_bad :
       i < length txids → i < length xmins → slot_passes clock line (get_or txids i 0) (get_or xmins i 0) ≡ false →
       slots_pass clock line (drop i txids) (drop i xmins) ≡ false
   unfolding slots_pass
-  slots-bad h k e = rw (from txids i h, from xmins i k, e)
+  slots_bad h k e = rw (from txids i h, from xmins i k, e)
 
-  pub slots-good :
+  pub slots_good :
       i < length txids → i < length xmins → slot_passes clock line (get_or txids i 0) (get_or xmins i 0) ≡ true →
       slots_pass clock line (drop i txids) (drop i xmins) ≡ slots_pass clock line (drop (i + 1) txids) (drop (i + 1) xmins)
   unfolding slots_pass
-  slots-good h k e = rw (from txids i h, from xmins i k, e)
+  slots_good h k e = rw (from txids i h, from xmins i k, e)
 
-  pub slots-short : i < length txids → length xmins ≤ i → slots_pass clock line (drop i txids) (drop i xmins) ≡ false
+  pub slots_short : i < length txids → length xmins ≤ i → slots_pass clock line (drop i txids) (drop i xmins) ≡ false
   unfolding slots_pass
-  slots-short h k = rw (from txids i h, drop_of_length-le xmins k)
+  slots_short h k = rw (from txids i h, drop_of_length-le xmins k)
 
-  pub slots-over : length txids ≤ i → length xmins ≤ i → slots_pass clock line (drop i txids) (drop i xmins) ≡ true
+  pub slots_over : length txids ≤ i → length xmins ≤ i → slots_pass clock line (drop i txids) (drop i xmins) ≡ true
   unfolding slots_pass
-  slots-over h k = rw (drop_of_length-le txids h, drop_of_length-le xmins k)
+  slots_over h k = rw (drop_of_length-le txids h, drop_of_length-le xmins k)
 
-  pub slots-long : length txids ≤ i → i < length xmins → slots_pass clock line (drop i txids) (drop i xmins) ≡ false
+  pub slots_long : length txids ≤ i → i < length xmins → slots_pass clock line (drop i txids) (drop i xmins) ≡ false
   unfolding slots_pass
-  slots-long h k = rw (drop_of_length-le txids h, from xmins i k)
+  slots_long h k = rw (drop_of_length-le txids h, from xmins i k)
 
 module _ (clock line : ℕ) (pins : List ℕ) (i : ℕ) where
-  pub pins-bad : i < length pins → pin_passes clock line (get_or pins i 0) ≡ false → pins_pass clock line (drop i pins) ≡ false
+  pub pins_bad : i < length pins → pin_passes clock line (get_or pins i 0) ≡ false → pins_pass clock line (drop i pins) ≡ false
   unfolding pins_pass
-  pins-bad h e = rw (from pins i h, e)
+  pins_bad h e = rw (from pins i h, e)
 
   pub pins-good :
       i < length pins → pin_passes clock line (get_or pins i 0) ≡ true →
@@ -43,6 +43,6 @@ module _ (clock line : ℕ) (pins : List ℕ) (i : ℕ) where
   unfolding pins_pass
   pins-good h e = rw (from pins i h, e)
 
-  pub pins-over : length pins ≤ i → pins_pass clock line (drop i pins) ≡ true
+  pub pins_over : length pins ≤ i → pins_pass clock line (drop i pins) ≡ true
   unfolding pins_pass
-  pins-over h = rw (drop_of_length-le pins h)
+  pins_over h = rw (drop_of_length-le pins h)

@@ -57,9 +57,9 @@ module _ (x y : ℕ) (xs : List ℕ) (at : ℕ) (h : at + length (slot_lines x y
   txid-fits = fits-first txid xmin at h
 
   module _ {ys : List ℕ} {p : ℕ} (a : Placed xs at txid ys p) where
-    pub xmin-fits : p + length xmin ≤ length ys
+    pub xmin_fits : p + length xmin ≤ length ys
     unfolding slot_lines
-    xmin-fits = fits_next txid xmin h a
+    xmin_fits = fits_next txid xmin h a
 
     pub slot_placed : {zs : List ℕ} {q : ℕ} → Placed ys p xmin zs q → Placed xs at (slot_lines x y) zs q
     unfolding slot_lines
@@ -79,21 +79,21 @@ module _ (c : Counters) (xs : List ℕ) (at : ℕ) (h : at + length (counter_lin
   unfolding counter_lines
   two-fit = fits-first (clock ++ sample) line at h
 
-  pub clock-fits : at + length clock ≤ length xs
-  clock-fits = fits-first clock sample at two-fit
+  pub clock_fits : at + length clock ≤ length xs
+  clock_fits = fits-first clock sample at two-fit
 
   module _ {ys : List ℕ} {p : ℕ} (a : Placed xs at clock ys p) where
-    pub sample-fits : p + length sample ≤ length ys
-    sample-fits = fits_next clock sample two-fit a
+    pub sample_fits : p + length sample ≤ length ys
+    sample_fits = fits_next clock sample two-fit a
 
     module _ {zs : List ℕ} {q : ℕ} (b : Placed ys p sample zs q) where
       pub line-fits : q + length line ≤ length zs
       unfolding counter_lines
       line-fits = fits_next (clock ++ sample) line h (both_placed clock sample two-fit a b)
 
-      pub counters-placed : {us : List ℕ} {r : ℕ} → Placed zs q line us r → Placed xs at (counter_lines c) us r
+      pub counters_placed : {us : List ℕ} {r : ℕ} → Placed zs q line us r → Placed xs at (counter_lines c) us r
       unfolding counter_lines
-      counters-placed d = both_placed (clock ++ sample) line h (both_placed clock sample two-fit a b) d
+      counters_placed d = both_placed (clock ++ sample) line h (both_placed clock sample two-fit a b) d
 
 -- a text that is walked piece by piece, of which `under i` is left at step i: the whole, put at `at` of start, is what is left put at
 -- `past` of buf
@@ -150,39 +150,39 @@ module _ (xs ys pins : List ℕ) (c : Counters) where
   abbrev pub under : ℕ → List ℕ
   under i = lines_under (drop i xs) (drop i ys) pins c
 
-  pub none-counted : length (lines_under xs ys pins c) ≡ 0 + length (under 0)
-  none-counted = omega arith
+  pub none_counted : length (lines_under xs ys pins c) ≡ 0 + length (under 0)
+  none_counted = omega arith
 
-  pub under-here : (i : ℕ) → i < length xs → i < length ys → under i ≡ slot_lines (get_or xs i 0) (get_or ys i 0) ++ under (i + 1)
-  under-here i h k =
+  pub under_here : (i : ℕ) → i < length xs → i < length ys → under i ≡ slot_lines (get_or xs i 0) (get_or ys i 0) ++ under (i + 1)
+  under_here i h k =
       rw (add-one, drop-cons xs i 0 h, drop-cons ys i 0 k)
       (under_first (get_or xs i 0) (get_or ys i 0) (drop (suc i) xs) (drop (suc i) ys) pins c)
 
-  pub under-over : (i : ℕ) → length xs ≤ i → length ys ≤ i → under i ≡ pin_lines pins c
-  under-over i h k = rw (drop_of_length-le xs h, drop_of_length-le ys k) (under_none pins c)
+  pub under_over : (i : ℕ) → length xs ≤ i → length ys ≤ i → under i ≡ pin_lines pins c
+  under_over i h k = rw (drop_of_length-le xs h, drop_of_length-le ys k) (under_none pins c)
 
-  pub here-length : (i : ℕ) → i < length xs → i < length ys
+  pub here_length : (i : ℕ) → i < length xs → i < length ys
       → length (under i) ≡ length (slot_lines (get_or xs i 0) (get_or ys i 0)) + length (under (i + 1))
-  here-length i h k = ap length (under-here i h k) ∙ length-append (slot_lines (get_or xs i 0) (get_or ys i 0)) (under (i + 1))
+  here_length i h k = ap length (under_here i h k) ∙ length-append (slot_lines (get_or xs i 0) (get_or ys i 0)) (under (i + 1))
 
-  pub left-start : (start : List ℕ) (at : ℕ) → Left under start at start at 0
-  left-start start at = left_at under start at
+  pub left_start : (start : List ℕ) (at : ℕ) → Left under start at start at 0
+  left_start start at = left_at under start at
 
   module _ (start : List ℕ) (at : ℕ) (room : at + length (lines_under xs ys pins c) ≤ length start) (buf : List ℕ) (past i : ℕ) where
-    pub slot-room : i < length xs → i < length ys → Left under start at buf past i
+    pub slot_room : i < length xs → i < length ys → Left under start at buf past i
         → past + length (slot_lines (get_or xs i 0) (get_or ys i 0)) ≤ length buf
-    slot-room h k l = piece-room under start at room buf past i l (slot_lines (get_or xs i 0) (get_or ys i 0)) (under-here i h k)
+    slot_room h k l = piece-room under start at room buf past i l (slot_lines (get_or xs i 0) (get_or ys i 0)) (under_here i h k)
 
     pub left-next : {zs : List ℕ} {q : ℕ} → i < length xs → i < length ys → Left under start at buf past i
         → Placed buf past (slot_lines (get_or xs i 0) (get_or ys i 0)) zs q → Left under start at zs q (i + 1)
-    left-next h k l p = piece-put under start at room buf past i l (slot_lines (get_or xs i 0) (get_or ys i 0)) (under-here i h k) p
+    left-next h k l p = piece-put under start at room buf past i l (slot_lines (get_or xs i 0) (get_or ys i 0)) (under_here i h k) p
 
-    pub pins-room : length xs ≤ i → length ys ≤ i → Left under start at buf past i → past + length (pin_lines pins c) ≤ length buf
-    pins-room h k l = last-room under start at room buf past i l _ (under-over i h k)
+    pub pins_room : length xs ≤ i → length ys ≤ i → Left under start at buf past i → past + length (pin_lines pins c) ≤ length buf
+    pins_room h k l = last-room under start at room buf past i l _ (under_over i h k)
 
     pub left_over : {zs : List ℕ} {q : ℕ} → length xs ≤ i → length ys ≤ i → Left under start at buf past i
         → Placed buf past (pin_lines pins c) zs q → Placed start at (lines_under xs ys pins c) zs q
-    left_over h k l p = last-put under start at room buf past i l _ (under-over i h k) p
+    left_over h k l p = last-put under start at room buf past i l _ (under_over i h k) p
 
 -- a pin and those after it, and no pin
 module _ (pins : List ℕ) (c : Counters) where
@@ -190,38 +190,38 @@ module _ (pins : List ℕ) (c : Counters) where
   abbrev pub from-pin : ℕ → List ℕ
   from-pin k = pin_lines (drop k pins) c
 
-  pub no-pin-counted : length (pin_lines pins c) ≡ 0 + length (from-pin 0)
-  no-pin-counted = omega arith
+  pub no_pin-counted : length (pin_lines pins c) ≡ 0 + length (from-pin 0)
+  no_pin-counted = omega arith
 
-  pub pin-here : (k : ℕ) → k < length pins → from-pin k ≡ line_text pin_key (get_or pins k 0) ++ from-pin (k + 1)
+  pub pin_here : (k : ℕ) → k < length pins → from-pin k ≡ line_text pin_key (get_or pins k 0) ++ from-pin (k + 1)
   unfolding pin_lines
-  pin-here k h = rw (add-one, drop-cons pins k 0 h)
+  pin_here k h = rw (add-one, drop-cons pins k 0 h)
 
-  pub pins-over : (k : ℕ) → length pins ≤ k → from-pin k ≡ counter_lines c
+  pub pins_over : (k : ℕ) → length pins ≤ k → from-pin k ≡ counter_lines c
   unfolding pin_lines
-  pins-over k h = rw (drop_of_length-le pins h)
+  pins_over k h = rw (drop_of_length-le pins h)
 
-  pub pin-here-length : (k : ℕ) → k < length pins
+  pub pin_here_length : (k : ℕ) → k < length pins
       → length (from-pin k) ≡ length (line_text pin_key (get_or pins k 0)) + length (from-pin (k + 1))
-  pin-here-length k h = ap length (pin-here k h) ∙ length-append (line_text pin_key (get_or pins k 0)) (from-pin (k + 1))
+  pin_here_length k h = ap length (pin_here k h) ∙ length-append (line_text pin_key (get_or pins k 0)) (from-pin (k + 1))
 
-  pub pins-start : (start : List ℕ) (at : ℕ) → Left from-pin start at start at 0
-  pins-start start at = left_at from-pin start at
+  pub pins_start : (start : List ℕ) (at : ℕ) → Left from-pin start at start at 0
+  pins_start start at = left_at from-pin start at
 
   module _ (start : List ℕ) (at : ℕ) (room : at + length (pin_lines pins c) ≤ length start) (buf : List ℕ) (past k : ℕ) where
-    pub pin-room : k < length pins → Left from-pin start at buf past k → past + length (line_text pin_key (get_or pins k 0)) ≤ length buf
-    pin-room h l = piece-room from-pin start at room buf past k l (line_text pin_key (get_or pins k 0)) (pin-here k h)
+    pub pin_room : k < length pins → Left from-pin start at buf past k → past + length (line_text pin_key (get_or pins k 0)) ≤ length buf
+    pin_room h l = piece-room from-pin start at room buf past k l (line_text pin_key (get_or pins k 0)) (pin_here k h)
 
     pub pin-next : {zs : List ℕ} {q : ℕ} → k < length pins → Left from-pin start at buf past k
         → Placed buf past (line_text pin_key (get_or pins k 0)) zs q → Left from-pin start at zs q (k + 1)
-    pin-next h l p = piece-put from-pin start at room buf past k l (line_text pin_key (get_or pins k 0)) (pin-here k h) p
+    pin-next h l p = piece-put from-pin start at room buf past k l (line_text pin_key (get_or pins k 0)) (pin_here k h) p
 
-    pub counter-room : length pins ≤ k → Left from-pin start at buf past k → past + length (counter_lines c) ≤ length buf
-    counter-room h l = last-room from-pin start at room buf past k l _ (pins-over k h)
+    pub counter_room : length pins ≤ k → Left from-pin start at buf past k → past + length (counter_lines c) ≤ length buf
+    counter_room h l = last-room from-pin start at room buf past k l _ (pins_over k h)
 
-    pub pins-placed : {zs : List ℕ} {q : ℕ} → length pins ≤ k → Left from-pin start at buf past k
+    pub pins_placed : {zs : List ℕ} {q : ℕ} → length pins ≤ k → Left from-pin start at buf past k
         → Placed buf past (counter_lines c) zs q → Placed start at (pin_lines pins c) zs q
-    pins-placed h l p = last-put from-pin start at room buf past k l _ (pins-over k h) p
+    pins_placed h l p = last-put from-pin start at room buf past k l _ (pins_over k h) p
 
 -- the whole text: line 1, and the lines under it
 module _ (t : Table) (xs : List ℕ) (at : ℕ) (h : at + length (table_text t) ≤ length xs) where
@@ -237,6 +237,6 @@ module _ (t : Table) (xs : List ℕ) (at : ℕ) (h : at + length (table_text t) 
     unfolding table_text
     under-fits = fits_next header rest h a
 
-    pub table-placed : {zs : List ℕ} {q : ℕ} → Placed ys p rest zs q → Placed xs at (table_text t) zs q
+    pub table_placed : {zs : List ℕ} {q : ℕ} → Placed ys p rest zs q → Placed xs at (table_text t) zs q
     unfolding table_text
-    table-placed b = both_placed header rest h a b
+    table_placed b = both_placed header rest h a b

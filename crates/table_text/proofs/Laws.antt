@@ -123,9 +123,9 @@ module _ (n : ℕ) (s : List ℕ) where
         expressible = record { txids = places.0; xmins = places.1; pins = pins; numbers = rw same lines.within };
       }
 
-  pub text-of-table : (table_of n s).broken ≡ 0 → Accepted n s (table_of n s).table
+  pub text_of_table : (table_of n s).broken ≡ 0 → Accepted n s (table_of n s).table
   unfolding table_of broken_at
-  text-of-table = head (starts header s) refl
+  text_of_table = head (starts header s) refl
     where
       ended : (ns : List ℕ) (e : ℕ) → starts header s ≡ true → lines_at s first_slot 2 (table_rules n pin_count) ≡ Read ns e
           → (b : Bool) → eqb e (length s) ≡ b → (cond b (whole (table_from n ns)) (broken_at n (past_last n))).broken ≡ 0

@@ -87,24 +87,24 @@ module _ (n : ℕ) (s xs ys pins : List ℕ) (at line : ℕ) where
   abbrev last : TableRead
   last = pins_read n s xs ys pins 0 (lines_at s at line (pin_rules 0))
 
-  pub clock-broken : field_at s at clock_key most ≡ Bad → broken_at n line ≡ last
+  pub clock_broken : field_at s at clock_key most ≡ Bad → broken_at n line ≡ last
   unfolding pin_rules lines_at
-  clock-broken a = rw a
+  clock_broken a = rw a
 
   module _ {x a : ℕ} (p : field_at s at clock_key most ≡ Is x a) where
-    pub sample-broken : field_at s a sample_key most ≡ Bad → broken_at n (line + 1) ≡ last
+    pub sample_broken : field_at s a sample_key most ≡ Bad → broken_at n (line + 1) ≡ last
     unfolding pin_rules lines_at
-    sample-broken b = rw (p, b)
+    sample_broken b = rw (p, b)
 
     module _ {y b : ℕ} (q : field_at s a sample_key most ≡ Is y b) where
-      pub line-broken : field_at s b line_key most ≡ Bad → broken_at n (line + 1 + 1) ≡ last
+      pub line_broken : field_at s b line_key most ≡ Bad → broken_at n (line + 1 + 1) ≡ last
       unfolding pin_rules lines_at
-      line-broken c = rw (p, q, c)
+      line_broken c = rw (p, q, c)
 
       module _ {z e : ℕ} (r : field_at s b line_key most ≡ Is z e) where
-        pub more-stands : (e ≡ length s → ⊥) → broken_at n (past_last n) ≡ last
+        pub more_stands : (e ≡ length s → ⊥) → broken_at n (past_last n) ≡ last
         unfolding pin_rules lines_at
-        more-stands h = rw (p, q, r, ne_eqb e (length s) h)
+        more_stands h = rw (p, q, r, ne_eqb e (length s) h)
 
         pub all_read : e ≡ length s → whole (lent xs ys pins (counted x y z)) ≡ last
         unfolding pin_rules lines_at
@@ -125,9 +125,9 @@ module _ (n : ℕ) (s xs ys : List ℕ) (start : ℕ) where
   abbrev wanted : TableRead
   wanted = rest_read n s xs ys 0 (lines_at s start (2 * n + 2) (table_rules 0 pin_count))
 
-  pub pinning-start : {pins : List ℕ} → length pins ≡ pin_count → Pinning n s xs ys start pins start 0
+  pub pinning_start : {pins : List ℕ} → length pins ≡ pin_count → Pinning n s xs ys start pins start 0
   unfolding table_rules
-  pinning-start h =
+  pinning_start h =
       let line : 2 * n + 2 + 0 ≡ 2 * n + 2 = omega arith in
       record { within = omega arith; places = h; rest = rw line (none_pinned n s xs ys (lines_at s start (2 * n + 2) (pin_rules pin_count))) }
 
@@ -142,8 +142,8 @@ module _ (n : ℕ) (s xs ys : List ℕ) (start : ℕ) where
           l.rest
           ∙ ap (λ (m : ℕ). pins_read n s xs ys (take k pins) m (lines_at s at (2 * n + 2 + k) (pin_rules m))) one_fewer
 
-      pub read-no-pin : field_at s at pin_key most ≡ Bad → broken_at n (2 * n + 2 + k) ≡ wanted
-      read-no-pin a = sym (here-pinned ∙ pin-broken n s xs ys (take k pins) (pin_count - (k + 1)) at (2 * n + 2 + k) a)
+      pub read_no_pin : field_at s at pin_key most ≡ Bad → broken_at n (2 * n + 2 + k) ≡ wanted
+      read_no_pin a = sym (here-pinned ∙ pin-broken n s xs ys (take k pins) (pin_count - (k + 1)) at (2 * n + 2 + k) a)
 
       pub pinning-next : {x b : ℕ} → field_at s at pin_key most ≡ Is x b → Pinning n s xs ys start (set pins k x) b (k + 1)
       pinning-next {x} {b} p =
@@ -157,9 +157,9 @@ module _ (n : ℕ) (s xs ys : List ℕ) (start : ℕ) where
             rest = here-pinned ∙ step ∙ rw (more, ← line);
           }
 
-    pub pinning-over : pin_count ≤ k
+    pub pinning_over : pin_count ≤ k
         → pins_read n s xs ys pins 0 (lines_at s at (2 * n + 2 + pin_count) (pin_rules 0)) ≡ wanted
-    pinning-over h =
+    pinning_over h =
         let same : k ≡ pin_count = omega (arith, l.within) in
         let none : pin_count - k ≡ 0 = omega arith in
         let all = take_all k pins (omega (arith, l.places)) in
@@ -182,8 +182,8 @@ module _ (n : ℕ) (s : List ℕ) where
   all_left : n - 0 ≡ n
   all_left = omega arith
 
-  pub reading-start : {txids xmins : List ℕ} → length txids ≡ n → length xmins ≡ n → Reading n s txids xmins first_slot 0
-  reading-start a b = record {
+  pub reading_start : {txids xmins : List ℕ} → length txids ≡ n → length xmins ≡ n → Reading n s txids xmins first_slot 0
+  reading_start a b = record {
     within = omega arith;
     txid_places = a;
     xmin_places = b;
@@ -203,12 +203,12 @@ module _ (n : ℕ) (s : List ℕ) where
           ≡ rest_read n s (take i txids) (take i xmins) (suc (n - (i + 1))) (lines_at s at (2 * i + 2) (table_rules (suc (n - (i + 1))) pin_count))
       here = lines_are ∙ l.rest ∙ rw one_left
 
-      pub read-no-txid : field_at s at txid_key most ≡ Bad → broken_at n (2 * i + 2) ≡ table_of n s
-      read-no-txid a = sym (here ∙ txid-broken n s (take i txids) (take i xmins) (n - (i + 1)) at (2 * i + 2) a)
+      pub read_no_txid : field_at s at txid_key most ≡ Bad → broken_at n (2 * i + 2) ≡ table_of n s
+      read_no_txid a = sym (here ∙ txid-broken n s (take i txids) (take i xmins) (n - (i + 1)) at (2 * i + 2) a)
 
-      pub read-no-xmin : {x a : ℕ} → field_at s at txid_key most ≡ Is x a → field_at s a xmin_key most ≡ Bad
+      pub read_no_xmin : {x a : ℕ} → field_at s at txid_key most ≡ Is x a → field_at s a xmin_key most ≡ Bad
           → broken_at n (2 * i + 3) ≡ table_of n s
-      read-no-xmin p q =
+      read_no_xmin p q =
           sym (here
           ∙ xmin-broken n s (take i txids) (take i xmins) (n - (i + 1)) at (2 * i + 2) p q
           ∙ ap (broken_at n) (omega arith))
@@ -228,8 +228,8 @@ module _ (n : ℕ) (s : List ℕ) where
             rest = l.rest ∙ rw one_left (step ∙ rw (xs, ys, ← line));
           }
 
-    pub reading-over : n ≤ i → rest_read n s txids xmins 0 (lines_at s at (2 * n + 2) (table_rules 0 pin_count)) ≡ table_of n s
-    reading-over h =
+    pub reading_over : n ≤ i → rest_read n s txids xmins 0 (lines_at s at (2 * n + 2) (table_rules 0 pin_count)) ≡ table_of n s
+    reading_over h =
         let same : i ≡ n = omega (arith, l.within) in
         let none : n - i ≡ 0 = omega arith in
         let xs = take_all i txids (omega (arith, l.txid_places)) in

@@ -19,7 +19,7 @@ use Rattle.turns.proofs.Turns.{past-eight}
 use Rattle.taken_scans.specs.declared.snapshot.Taken.{Taken}
 use Rattle.taken_scans.specs.Empty.{all_empty}
 use Rattle.taken_scans.specs.Taken.{taken_of}
-use Rattle.taken_scans.proofs.Slots.{active-miss, active-hit, active-none}
+use Rattle.taken_scans.proofs.Slots.{active_miss, active_hit, active_none}
 
 -- the places that a scan has filled, where it began with n zeros
 places_are : (n : ℕ) (ids : List ℕ) → length ids ≤ n → sets (replicate n 0) 0 ids ≡ places n ids
@@ -69,10 +69,10 @@ further s t =
 module _ {txids start : List ℕ} {count₀ low₀ high₀ i₀ : ℕ} where
   module _ {ids : List ℕ} {count low high i : ℕ} (s : Scanned txids start count₀ low₀ high₀ i₀ ids count low high i) where
     -- over slots that add no active id
-    pub scanned-on :
+    pub scanned_on :
         {j : ℕ} → i ≤ j → j ≤ length txids → active (drop i txids) ≡ active (drop j txids) →
         Scanned txids start count₀ low₀ high₀ i₀ ids count low high j
-    scanned-on h l m =
+    scanned_on h l m =
         record {
           within = l;
           fewer = omega (arith, s.fewer, h);
@@ -82,17 +82,17 @@ module _ {txids start : List ℕ} {count₀ low₀ high₀ i₀ : ℕ} where
           highest = rw m at s.highest;
         }
 
-    pub scanned-miss :
+    pub scanned_miss :
         i < length txids → get_or txids i 0 ≡ 0 → Scanned txids start count₀ low₀ high₀ i₀ ids count low high (i + 1)
-    scanned-miss h e = scanned-on (omega arith) (omega (arith, h)) (active-miss txids i h e)
+    scanned_miss h e = scanned_on (omega arith) (omega (arith, h)) (active_miss txids i h e)
 
-    pub scanned-hit :
+    pub scanned_hit :
         {x low' high' : ℕ} → i < length txids → x ≡ get_or txids i 0 → (x ≡ 0 → ⊥) → low' ≡ min low x → high' ≡ max high x →
         Scanned txids start count₀ low₀ high₀ i₀ (set ids count x) (count + 1) low' high' (i + 1)
     unfolding minimum maximum
-    scanned-hit {x} h q e l g =
+    scanned_hit {x} h q e l g =
         let m : active (drop i txids) ≡ x ∷ active (drop (i + 1) txids) =
-        rw q (active-hit txids i h (λ z. e (q ∙ z))) in
+        rw q (active_hit txids i h (λ z. e (q ∙ z))) in
         record {
           within = omega arith;
           fewer = omega arith;
@@ -108,7 +108,7 @@ module _
     (h : length txids ≤ i)
   where
     none : active (drop i txids) ≡ []
-    none = active-none txids i h
+    none = active_none txids i h
 
     count-is : length (active txids) ≡ count
     count-is = omega (arith, ap length none, s.counted)
@@ -121,19 +121,19 @@ module _
     unfolding maximum
     high_is = s.highest ∙ ap (maximum high) none
 
-    pub scanned-ids : ids ≡ sets start 0 (active txids)
-    scanned-ids = sym (s.filled ∙ ap (sets ids count) none)
+    pub scanned_ids : ids ≡ sets start 0 (active txids)
+    scanned_ids = sym (s.filled ∙ ap (sets ids count) none)
 
-    pub scanned-nothing :
+    pub scanned_nothing :
         count ≡ 0 → ◌≡◌ {A = Taken} (record { xmin = low; xmax = sample; count = count }) (taken_of txids sample)
     unfolding taken_of
-    scanned-nothing e = rw (count-is, low-is, eq-eqb _ _ e)
+    scanned_nothing e = rw (count-is, low-is, eq-eqb _ _ e)
 
-    pub scanned-some :
+    pub scanned_some :
         {xmax : ℕ} → (count ≡ 0 → ⊥) → xmax ≡ max sample (saturating_next high) →
         ◌≡◌ {A = Taken} (record { xmin = low; xmax = xmax; count = count }) (taken_of txids sample)
     unfolding taken_of
-    scanned-some e m = rw (count-is, low-is, high_is, ne_eqb _ _ e, m)
+    scanned_some e m = rw (count-is, low-is, high_is, ne_eqb _ _ e, m)
 
 -- a scan of at most k slots, where k is the number of places
 module _
@@ -150,15 +150,15 @@ module _
     pub read : i < end → get_or (take k txids) i 0 ≡ get_or txids i 0
     read h = get_or-take k txids i 0 (omega (arith, bound))
 
-    pub scanned-eight :
+    pub scanned_eight :
         i + 8 ≤ end → all_empty txids i ≡ true →
         Scanned (take k txids) start count₀ low₀ high₀ i₀ ids count low high (i + 8)
-    scanned-eight h e =
+    scanned_eight h e =
         let first = take k txids in
         let past : (j : ℕ) → j < end → eqb (get_or txids j 0) 0 ≡ true → active (drop j first) ≡ active (drop (j + 1) first) =
-        λ j l q. active-miss first j (omega (arith, short, l))
+        λ j l q. active_miss first j (omega (arith, short, l))
         (get_or-take k txids j 0 (omega (arith, bound, l)) ∙ eqb-true (get_or txids j 0) 0 q) in
-        scanned-on s (omega arith) (omega (arith, short, h))
+        scanned_on s (omega arith) (omega (arith, short, h))
         (past-eight (λ j. active (drop j first)) (λ m. eqb (get_or txids m 0) 0) end past i h e)
 
     pub room : i < end → count < k

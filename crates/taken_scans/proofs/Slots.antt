@@ -13,40 +13,40 @@ use Rattle.turns.proofs.Turns.{past-eight}
 use Rattle.taken_scans.specs.Empty.{all_empty}
 
 module _ (txids : List ℕ) (i : ℕ) where
-  pub active-miss : i < length txids → get_or txids i 0 ≡ 0 → active (drop i txids) ≡ active (drop (i + 1) txids)
+  pub active_miss : i < length txids → get_or txids i 0 ≡ 0 → active (drop i txids) ≡ active (drop (i + 1) txids)
   unfolding active
-  active-miss h e = rw (from txids i h, eq-eqb _ _ e)
+  active_miss h e = rw (from txids i h, eq-eqb _ _ e)
 
-  pub active-hit :
+  pub active_hit :
       i < length txids → (get_or txids i 0 ≡ 0 → ⊥) → active (drop i txids) ≡ get_or txids i 0 ∷ active (drop (i + 1) txids)
   unfolding active
-  active-hit h e = rw (from txids i h, ne_eqb _ _ e)
+  active_hit h e = rw (from txids i h, ne_eqb _ _ e)
 
-  pub active-none : length txids ≤ i → active (drop i txids) ≡ []
+  pub active_none : length txids ≤ i → active (drop i txids) ≡ []
   unfolding active
-  active-none h = rw (drop_of_length-le txids h)
+  active_none h = rw (drop_of_length-le txids h)
 
   module _ (xmins : List ℕ) (low : ℕ) where
-    pub oldest-miss :
+    pub oldest_miss :
         i < length txids → i < length xmins → get_or txids i 0 ≡ 0 →
         oldest_of (drop i txids) (drop i xmins) low ≡ oldest_of (drop (i + 1) txids) (drop (i + 1) xmins) low
     unfolding retained
-    oldest-miss h k e = rw (from txids i h, from xmins i k, eq-eqb _ _ e)
+    oldest_miss h k e = rw (from txids i h, from xmins i k, eq-eqb _ _ e)
 
-    pub oldest-hit :
+    pub oldest_hit :
         i < length txids → i < length xmins → (get_or txids i 0 ≡ 0 → ⊥) →
         oldest_of (drop i txids) (drop i xmins) low
         ≡ oldest_of (drop (i + 1) txids) (drop (i + 1) xmins) (min low (get_or xmins i 0))
     unfolding retained minimum
-    oldest-hit h k e = rw (from txids i h, from xmins i k, ne_eqb _ _ e)
+    oldest_hit h k e = rw (from txids i h, from xmins i k, ne_eqb _ _ e)
 
-    pub oldest-none : length txids ≤ i → oldest_of (drop i txids) (drop i xmins) low ≡ low
+    pub oldest_none : length txids ≤ i → oldest_of (drop i txids) (drop i xmins) low ≡ low
     unfolding retained minimum
-    oldest-none h = rw (drop_of_length-le txids h)
+    oldest_none h = rw (drop_of_length-le txids h)
 
-    pub oldest-short : i < length txids → length xmins ≤ i → oldest_of (drop i txids) (drop i xmins) low ≡ low
+    pub oldest_short : i < length txids → length xmins ≤ i → oldest_of (drop i txids) (drop i xmins) low ≡ low
     unfolding retained minimum
-    oldest-short h k = rw (from txids i h, drop_of_length-le xmins k)
+    oldest_short h k = rw (from txids i h, drop_of_length-le xmins k)
 
 -- The same for eight slots in a turn, and where the shorter column is over.
 module _ (txids : List ℕ) (i : ℕ) (xmins : List ℕ) where
@@ -55,12 +55,12 @@ module _ (txids : List ℕ) (i : ℕ) (xmins : List ℕ) where
       oldest_of (drop i txids) (drop i xmins) low ≡ oldest_of (drop (i + 8) txids) (drop (i + 8) xmins) low
   eight-oldest low =
       past-eight (λ j. oldest_of (drop j txids) (drop j xmins) low) _ (min (length txids) (length xmins))
-      (λ j h e. oldest-miss txids j xmins low (omega (arith, h)) (omega (arith, h)) (eqb-true _ _ e)) i
+      (λ j h e. oldest_miss txids j xmins low (omega (arith, h)) (omega (arith, h)) (eqb-true _ _ e)) i
 
-  pub oldest-over :
+  pub oldest_over :
       (low : ℕ) → min (length txids) (length xmins) ≤ i → oldest_of (drop i txids) (drop i xmins) low ≡ low
-  oldest-over low h = go (ltb i (length txids)) refl
+  oldest_over low h = go (ltb i (length txids)) refl
     where
       go : (b : Bool) → ltb i (length txids) ≡ b → oldest_of (drop i txids) (drop i xmins) low ≡ low
-      go true e = oldest-short txids i xmins low (ltb-true _ _ e) (omega (arith, h, ltb-true i (length txids) e))
-      go false e = oldest-none txids i xmins low (ltb-false _ _ e)
+      go true e = oldest_short txids i xmins low (ltb-true _ _ e) (omega (arith, h, ltb-true i (length txids) e))
+      go false e = oldest_none txids i xmins low (ltb-false _ _ e)

@@ -58,10 +58,10 @@ unfolding starts
 starts-end k j t h = rw (drop_of_length-le k)
 
 module _ (k s : List ℕ) (j i : ℕ) where
-  pub starts-same : j < length k → i < length s → get_or s i 0 ≡ get_or k j 0
+  pub starts_same : j < length k → i < length s → get_or s i 0 ≡ get_or k j 0
       → starts (drop j k) (drop i s) ≡ starts (drop (j + 1) k) (drop (i + 1) s)
   unfolding starts
-  starts-same h g e = rw (drop-cons k j 0, drop-cons s i 0, eq-eqb (get_or s i 0) (get_or k j 0) e) (simp add-one)
+  starts_same h g e = rw (drop-cons k j 0, drop-cons s i 0, eq-eqb (get_or s i 0) (get_or k j 0) e) (simp add-one)
 
   pub starts_other : j < length k → i < length s → (get_or s i 0 ≡ get_or k j 0 → ⊥) → starts (drop j k) (drop i s) ≡ false
   unfolding starts

@@ -50,8 +50,8 @@ module _ (P : ℕ → Type 0) (small : (n : ℕ) → n < 10 → P n) (more : (n 
       go (yes l) p = small n l
       go (no l) p = more n (omega arith) p
 
-  pub by-tens : (n : ℕ) → P n
-  by-tens n = below n n (le_refl n)
+  pub by_tens : (n : ℕ) → P n
+  by_tens n = below n n (le_refl n)
 
 -- how many digits a number has
 pub length_small : (n : ℕ) → n < 10 → length (decimal n) ≡ 1
@@ -62,7 +62,7 @@ length_more n h = ap length (decimal_more n h) ∙ length-append (decimal (n / 1
 
 pub length_some : (n : ℕ) → 1 ≤ length (decimal n)
 length_some =
-    by-tens (λ (n : ℕ). 1 ≤ length (decimal n))
+    by_tens (λ (n : ℕ). 1 ≤ length (decimal n))
     (λ n h. omega (arith, length_small n h))
     (λ n h ih. omega (arith, length_more n h))
 

@@ -37,19 +37,19 @@ module _ (fourth : List ℕ) (reads : Reads) where
   fits-made : (ns : List ℕ) → Within (field_rules fourth reads) ns → Fits fourth reads (values_of ns)
   fits-made ns w = subst (Within (field_rules fourth reads)) (made ns w) w
 
-  pub zeros-fit : Fits fourth reads (values_of [])
+  pub zeros_fit : Fits fourth reads (values_of [])
   unfolding field_rules zeros
-  zeros-fit = zeros_within (field_rules fourth reads)
+  zeros_fit = zeros_within (field_rules fourth reads)
 
   pub five : (v : Values) → length (five_lines fourth reads v) ≡ 5
   unfolding five_lines line_texts field_rules
   five v = refl
 
-  pub fields-of : (v : Values) (s : List ℕ) (at : ℕ) (rest : List ℕ) → Fits fourth reads v
+  pub fields_of : (v : Values) (s : List ℕ) (at : ℕ) (rest : List ℕ) → Fits fourth reads v
       → drop at s ≡ joined (five_lines fourth reads v) ++ rest
       → fields_at s at fourth reads ≡ Are v (at + length (joined (five_lines fourth reads v)))
   unfolding fields_at five_lines
-  fields-of v s at rest w e = ap as_fields (lines_of (field_rules fourth reads) (numbers_of v) s at 2 rest w e)
+  fields_of v s at rest w e = ap as_fields (lines_of (field_rules fourth reads) (numbers_of v) s at 2 rest w e)
 
   -- the text of some values that keep the rules
   pub record Spelled (s : List ℕ) (at : ℕ) (v : Values) (e : ℕ) : Type 0 where
@@ -59,9 +59,9 @@ module _ (fourth : List ℕ) (reads : Reads) where
   no_fields : (k : ℕ) (v : Values) (e : ℕ) → Broken k ≡ Are v e → ⊥
   no_fields k v e h = let z : ◌≡◌ {A = ℕ} 0 1 = cc in omega arith
 
-  pub fields-text : (s : List ℕ) (at : ℕ) (v : Values) (e : ℕ) → fields_at s at fourth reads ≡ Are v e → Spelled s at v e
+  pub fields_text : (s : List ℕ) (at : ℕ) (v : Values) (e : ℕ) → fields_at s at fourth reads ≡ Are v e → Spelled s at v e
   unfolding fields_at five_lines
-  fields-text s at v e = go (lines_at s at 2 (field_rules fourth reads)) refl
+  fields_text s at v e = go (lines_at s at 2 (field_rules fourth reads)) refl
     where
       go : (x : Lines) → lines_at s at 2 (field_rules fourth reads) ≡ x → as_fields x ≡ Are v e → Spelled s at v e
       go (Breaks k) q h = absurd (no_fields k v e h)
@@ -107,10 +107,10 @@ module _ (fourth : List ℕ) (reads : Reads) where
           }
 
   -- and where the first i lines of such values stand, a line that breaks its rule comes later
-  pub fields-late : (v : Values) (i : ℕ) (s : List ℕ) (at k : ℕ) (rest : List ℕ) → Fits fourth reads v
+  pub fields_late : (v : Values) (i : ℕ) (s : List ℕ) (at k : ℕ) (rest : List ℕ) → Fits fourth reads v
       → drop at s ≡ joined (take i (five_lines fourth reads v)) ++ rest → fields_at s at fourth reads ≡ Broken k → 2 + i ≤ k
   unfolding fields_at five_lines
-  fields-late v i s at k rest w e = go (lines_at s at 2 (field_rules fourth reads)) refl
+  fields_late v i s at k rest w e = go (lines_at s at 2 (field_rules fourth reads)) refl
     where
       go : (x : Lines) → lines_at s at 2 (field_rules fourth reads) ≡ x → as_fields x ≡ Broken k → 2 + i ≤ k
       go (Read ns b) q h = absurd (no_fields k (values_of ns) b (sym h))
@@ -126,40 +126,40 @@ module _ (s : List ℕ) (at : ℕ) (fourth : List ℕ) (reads : Reads) where
   abbrev pub id_at : ℕ → Number
   id_at a = field_at s a id_key (limit reads.id most)
 
-  abbrev pub fourthAt : ℕ → Number
-  fourthAt a = field_at s a fourth (limit reads.fourth most)
+  abbrev pub fourth_at : ℕ → Number
+  fourth_at a = field_at s a fourth (limit reads.fourth most)
 
-  abbrev pub clockAt : ℕ → Number
-  clockAt a = field_at s a clock_key (limit reads.clock most)
+  abbrev pub clock_at : ℕ → Number
+  clock_at a = field_at s a clock_key (limit reads.clock most)
 
-  abbrev pub sampleAt : ℕ → Number
-  sampleAt a = field_at s a sample_key (limit reads.clock most)
+  abbrev pub sample_at : ℕ → Number
+  sample_at a = field_at s a sample_key (limit reads.clock most)
 
-  pub broken-slot : slot_at ≡ number.Bad → fields_at s at fourth reads ≡ Broken 2
+  pub broken_slot : slot_at ≡ number.Bad → fields_at s at fourth reads ≡ Broken 2
   unfolding fields_at field_rules lines_at
-  broken-slot x = rw x
+  broken_slot x = rw x
 
   module _ {n a : ℕ} (slot : slot_at ≡ number.Is n a) where
-    pub broken-id : id_at a ≡ number.Bad → fields_at s at fourth reads ≡ Broken 3
+    pub broken_id : id_at a ≡ number.Bad → fields_at s at fourth reads ≡ Broken 3
     unfolding fields_at field_rules lines_at
-    broken-id x = rw (slot, x)
+    broken_id x = rw (slot, x)
 
     module _ {i b : ℕ} (id : id_at a ≡ number.Is i b) where
-      pub broken-fourth : fourthAt b ≡ number.Bad → fields_at s at fourth reads ≡ Broken 4
+      pub broken_fourth : fourth_at b ≡ number.Bad → fields_at s at fourth reads ≡ Broken 4
       unfolding fields_at field_rules lines_at
-      broken-fourth x = rw (slot, id, x)
+      broken_fourth x = rw (slot, id, x)
 
-      module _ {f c : ℕ} (third : fourthAt b ≡ number.Is f c) where
-        pub broken-clock : clockAt c ≡ number.Bad → fields_at s at fourth reads ≡ Broken 5
+      module _ {f c : ℕ} (third : fourth_at b ≡ number.Is f c) where
+        pub broken_clock : clock_at c ≡ number.Bad → fields_at s at fourth reads ≡ Broken 5
         unfolding fields_at field_rules lines_at
-        broken-clock x = rw (slot, id, third, x)
+        broken_clock x = rw (slot, id, third, x)
 
-        module _ {k d : ℕ} (clock : clockAt c ≡ number.Is k d) where
-          pub broken-sample : sampleAt d ≡ number.Bad → fields_at s at fourth reads ≡ Broken 6
+        module _ {k d : ℕ} (clock : clock_at c ≡ number.Is k d) where
+          pub broken_sample : sample_at d ≡ number.Bad → fields_at s at fourth reads ≡ Broken 6
           unfolding fields_at field_rules lines_at
-          broken-sample x = rw (slot, id, third, clock, x)
+          broken_sample x = rw (slot, id, third, clock, x)
 
-          pub all-five : {m e : ℕ} → sampleAt d ≡ number.Is m e
+          pub all_five : {m e : ℕ} → sample_at d ≡ number.Is m e
               → fields_at s at fourth reads ≡ Are (record { slot = n; id = i; fourth = f; clock = k; sample = m }) e
           unfolding fields_at field_rules lines_at
-          all-five x = rw (slot, id, third, clock, x)
+          all_five x = rw (slot, id, third, clock, x)

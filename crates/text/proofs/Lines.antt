@@ -13,7 +13,7 @@ use Rattle.text.specs.Decimal.{decimal, number_text, number_at}
 use Rattle.text.specs.Bytes.{starts}
 use Rattle.text.specs.Line.{line_text, at_most, field_at, Rule, line_texts, one_line, joined, Within, none, also}
 use Rattle.text.specs.Line.{Lines, Read, Breaks, on_field, with_first, lines_at}
-use Rattle.text.proofs.Decimal.{decimal_small, decimal_more, by-tens}
+use Rattle.text.proofs.Decimal.{decimal_small, decimal_more, by_tens}
 use Rattle.text.proofs.Numbers.{number_of, text_of, no_number}
 use Rattle.text.proofs.Bytes.{starts_of}
 use Rattle.text.proofs.Places.{rest_of, There, there, then, key_there}
@@ -64,7 +64,7 @@ field_text s at key n most e = go (starts key (drop at s)) refl
 -- a line is one line, where its key has no newline
 digits-plain : (n : ℕ) (t : List ℕ) → one_line (decimal n ++ t) ≡ one_line t
 unfolding one_line
-digits-plain = by-tens (λ (n : ℕ). (t : List ℕ) → one_line (decimal n ++ t) ≡ one_line t)
+digits-plain = by_tens (λ (n : ℕ). (t : List ℕ) → one_line (decimal n ++ t) ≡ one_line t)
     (λ n h t. rw (decimal_small n h, ne_eqb (48 + n) 10 (λ e. omega arith)))
     (λ n h ih t. rw (decimal_more n h, append_assoc, ih, ne_eqb (48 + n % 10) 10 (λ e. omega arith)))
 

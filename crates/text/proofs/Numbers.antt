@@ -13,7 +13,7 @@ use lib.Seq.{drop-cons}
 use borrow.Author.Tests.{eq-eqb, ne_eqb, le-leb, lt-leb, lt-ltb, le-ltb, leb-true, ltb-true, eqb-true}
 use Rattle.text.specs.Decimal.{decimal, number_text, is_digit, goes_on, number_tail, number_from, number_at}
 use Rattle.text.specs.declared.Number.TheVariants.{Is, Bad}
-use Rattle.text.proofs.Decimal.{decimal_small, decimal_more, by-tens, length_text}
+use Rattle.text.proofs.Decimal.{decimal_small, decimal_more, by_tens, length_text}
 
 -- one step of reading, at an index
 module _ (s : List ℕ) (i : ℕ) where
@@ -21,22 +21,22 @@ module _ (s : List ℕ) (i : ℕ) where
   unfolding number_at number_from
   start_none h = rw (drop_of_length-le s)
 
-  pub start-step : i < length s → number_at s i ≡ cond (is_digit (get_or s i 0)) (number_tail (drop (i + 1) s) (get_or s i 0 - 48) (i + 1)) Bad
+  pub start_step : i < length s → number_at s i ≡ cond (is_digit (get_or s i 0)) (number_tail (drop (i + 1) s) (get_or s i 0 - 48) (i + 1)) Bad
   unfolding number_at number_from
-  start-step h = rw (drop-cons s i 0) (simp add-one)
+  start_step h = rw (drop-cons s i 0) (simp add-one)
 
   pub tail_none : (n : ℕ) → length s ≤ i → number_tail (drop i s) n i ≡ Bad
   unfolding number_tail
   tail_none n h = rw (drop_of_length-le s)
 
-  pub tail-ends : (n : ℕ) → i < length s → get_or s i 0 ≡ 10 → number_tail (drop i s) n i ≡ Is n (i + 1)
+  pub tail_ends : (n : ℕ) → i < length s → get_or s i 0 ≡ 10 → number_tail (drop i s) n i ≡ Is n (i + 1)
   unfolding number_tail
-  tail-ends n h e = rw (drop-cons s i 0, eq-eqb (get_or s i 0) 10 e)
+  tail_ends n h e = rw (drop-cons s i 0, eq-eqb (get_or s i 0) 10 e)
 
-  pub tail-goes : (n : ℕ) (x : Bool) → i < length s → (get_or s i 0 ≡ 10 → ⊥) → goes_on n (get_or s i 0) ≡ x
+  pub tail_goes : (n : ℕ) (x : Bool) → i < length s → (get_or s i 0 ≡ 10 → ⊥) → goes_on n (get_or s i 0) ≡ x
       → number_tail (drop i s) n i ≡ cond x (number_tail (drop (i + 1) s) (n * 10 + (get_or s i 0 - 48)) (i + 1)) Bad
   unfolding number_tail
-  tail-goes n x h e g = rw (drop-cons s i 0, ne_eqb (get_or s i 0) 10 e, g) (simp add-one)
+  tail_goes n x h e g = rw (drop-cons s i 0, ne_eqb (get_or s i 0) 10 e, g) (simp add-one)
 
 pub goes : (n b : ℕ) → 48 ≤ b → b ≤ 57 → 0 < n → n * 10 + (b - 48) < 2 ^ 64 → goes_on n b ≡ true
 goes n b lo hi pos fits = simp (le-leb 48 b lo, le-leb b 57 hi, lt-ltb 0 n pos, lt-ltb (n * 10 + (b - 48)) (2 ^ 64) fits)
@@ -58,7 +58,7 @@ Reads n = n < 2 ^ 64 → (t : List ℕ) (at : ℕ) → number_from (decimal n ++
 
 reads : (n : ℕ) → Reads n
 unfolding Reads number_from number_tail
-reads = by-tens Reads one-digit more-digits
+reads = by_tens Reads one-digit more-digits
   where
     one-digit : (n : ℕ) → n < 10 → Reads n
     one-digit n h fits t at =

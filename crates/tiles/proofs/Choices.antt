@@ -81,17 +81,17 @@ module _ (n : ℕ) (shown : Snapshot) (own maker : Txid) (older olderUsed newer 
   may-use = usable_in shown.xmax shown.ids shown.count own.0 maker.0
 
   -- by the usable answer, and what `fitting` made of it
-  pub choice-yes :
+  pub choice_yes :
       (r : Choice) → paper_usable Yes ≡ usable_test n shown.xmax shown.ids shown.count own maker →
       r ≡ fitted (length_test older olderUsed newer newerUsed) Newer → r ≡ choice n shown own maker older olderUsed newer newerUsed
   unfolding usable_test choice
-  choice-yes r e f = f ∙ sym (by_yes first_two may-use lengths e)
+  choice_yes r e f = f ∙ sym (by_yes first_two may-use lengths e)
 
-  pub choice-no :
+  pub choice_no :
       (r : Choice) → paper_usable No ≡ usable_test n shown.xmax shown.ids shown.count own maker →
       r ≡ fitted (length_test older olderUsed newer newerUsed) Older → r ≡ choice n shown own maker older olderUsed newer newerUsed
   unfolding usable_test choice
-  choice-no r e f = f ∙ sym (by_no first_two may-use lengths e)
+  choice_no r e f = f ∙ sym (by_no first_two may-use lengths e)
 
   pub choice-refused :
       (r : Refusal) → paper_usable (Unanswered r) ≡ usable_test n shown.xmax shown.ids shown.count own maker →
@@ -100,14 +100,14 @@ module _ (n : ℕ) (shown : Snapshot) (own maker : Txid) (older olderUsed newer 
   choice-refused r e = sym (by_refused r first_two may-use lengths e)
 
   -- the chosen run has its used bytes
-  pub newer-within : (r : Choice) → r ≡ choice n shown own maker older olderUsed newer newerUsed → r ≡ Newer → newerUsed ≤ newer
+  pub newer_within : (r : Choice) → r ≡ choice n shown own maker older olderUsed newer newerUsed → r ≡ Newer → newerUsed ≤ newer
   unfolding choice
-  newer-within r p e =
+  newer_within r p e =
       let passed = then_pass first_two lengths (newer_passed (then first_two lengths) may-use (sym p ∙ e)) in
       (within older olderUsed newer newerUsed passed.1).1
 
-  pub older-within : (r : Choice) → r ≡ choice n shown own maker older olderUsed newer newerUsed → r ≡ Older → olderUsed ≤ older
+  pub older_within : (r : Choice) → r ≡ choice n shown own maker older olderUsed newer newerUsed → r ≡ Older → olderUsed ≤ older
   unfolding choice
-  older-within r p e =
+  older_within r p e =
       let passed = then_pass first_two lengths (older_passed (then first_two lengths) may-use (sym p ∙ e)) in
       (within older olderUsed newer newerUsed passed.1).0

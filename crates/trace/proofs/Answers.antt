@@ -7,7 +7,7 @@ use Rattle.grammar.specs.Names as name
 use Rattle.grammar.specs.Items.{ItemAt}
 use Rattle.grammar.specs.Items as item
 use Rattle.grammar.specs.Texts.{Count, Many, Refused, count_text}
-use Rattle.grammar.proofs.Said.{name-said, item-said, count-said}
+use Rattle.grammar.proofs.Said.{name_said, item_said, count_said}
 use Rattle.trace.specs.Op.{op_names, op_at}
 use Rattle.trace.specs.Version.{versions, header_at}
 use Rattle.trace.specs.Record.{record_form, any_form, record_under, record_at}
@@ -43,21 +43,21 @@ reading_meant (reading.Broken k) = Refused k
 module _ (s : List ℕ) where
   pub header_is : {a : HeaderAt} → header_at s ≡ a → name_at versions s 0 ≡ header_meant a
   unfolding header_at
-  header_is h = name-said header.Is header.Unknown header_meant (λ v e. refl) refl (name_at versions s 0) h
+  header_is h = name_said header.Is header.Unknown header_meant (λ v e. refl) refl (name_at versions s 0) h
 
-  pub reading-is : {a : Reading} → reading s ≡ a → count_text trace_format s ≡ reading_meant a
+  pub reading_is : {a : Reading} → reading s ≡ a → count_text trace_format s ≡ reading_meant a
   unfolding reading
-  reading-is h = count-said reading.Whole reading.Broken reading_meant (λ v n. refl) (λ k. refl) (count_text trace_format s) h
+  reading_is h = count_said reading.Whole reading.Broken reading_meant (λ v n. refl) (λ k. refl) (count_text trace_format s) h
 
   module _ (at : ℕ) where
-    pub op-is : {a : OpAt} → op_at s at ≡ a → name_at op_names s at ≡ op_meant a
+    pub op_is : {a : OpAt} → op_at s at ≡ a → name_at op_names s at ≡ op_meant a
     unfolding op_at
-    op-is h = name-said op.Is op.Unknown op_meant (λ o e. refl) refl (name_at op_names s at) h
+    op_is h = name_said op.Is op.Unknown op_meant (λ o e. refl) refl (name_at op_names s at) h
 
     pub record_is : {a : RecordAt} → record_at s at ≡ a → any_form.at s at ≡ record_meant a
     unfolding record_at
-    record_is h = item-said Is Broken record_meant (λ r e. refl) (λ k. refl) (any_form.at s at) h
+    record_is h = item_said Is Broken record_meant (λ r e. refl) (λ k. refl) (any_form.at s at) h
 
-    pub under-is : (v : Version) {a : RecordAt} → record_under v s at ≡ a → (record_form v).at s at ≡ record_meant a
+    pub under_is : (v : Version) {a : RecordAt} → record_under v s at ≡ a → (record_form v).at s at ≡ record_meant a
     unfolding record_under
-    under-is v h = item-said Is Broken record_meant (λ r e. refl) (λ k. refl) ((record_form v).at s at) h
+    under_is v h = item_said Is Broken record_meant (λ r e. refl) (λ k. refl) ((record_form v).at s at) h

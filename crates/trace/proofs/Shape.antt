@@ -11,7 +11,7 @@ use Rattle.grammar.specs.Names.{name_line, Named, first_named}
 use Rattle.grammar.proofs.Named.{ShapeLaws}
 use Rattle.grammar.proofs.Facts.{Facts, Laws}
 use Rattle.grammar.proofs.Laws as grammar
-use Rattle.grammar.proofs.Laws.{GrammarLaws, format-laws}
+use Rattle.grammar.proofs.Laws.{GrammarLaws, format_laws}
 use Rattle.trace.specs.Op.{op_name, ops, op_names}
 use Rattle.trace.specs.Version.{version_name, versions, header_of, allowed}
 use Rattle.trace.specs.Record.{record_shape, any_form}
@@ -95,7 +95,7 @@ trace_grammar_lem = record {
 
 -- so traces have all of the grammar's laws
 pub trace_laws : Laws trace_format
-trace_laws = format-laws trace_grammar trace_grammar_lem
+trace_laws = format_laws trace_grammar trace_grammar_lem
 
 pub any_facts : Facts any_form
 any_facts = grammar.any-facts trace_grammar trace_grammar_lem

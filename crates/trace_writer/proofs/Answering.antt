@@ -18,9 +18,9 @@ use Rattle.trace_writer.proofs.Texts.{trace_length}
 
 module _ (v : Version) (rows : List (List ℕ)) where
   -- a bad row was found
-  pub measured-bad : measured v rows ≡ measure.BadRow → records_of v rows ≡ BadRow
+  pub measured_bad : measured v rows ≡ measure.BadRow → records_of v rows ≡ BadRow
   unfolding measured
-  measured-bad = go (records_of v rows)
+  measured_bad = go (records_of v rows)
     where
       go : (x : Records) → sized first_record x ≡ measure.BadRow → x ≡ BadRow
       go BadRow h = refl
@@ -42,23 +42,23 @@ module _ (v : Version) (rows : List (List ℕ)) where
           record { good = q ∙ ap Are (sym (ap listed q)); size = rw (q, trace_length v rs) (sym held) }
 
   module _ (xs : List ℕ) where
-    pub refused-bad : measured v rows ≡ measure.BadRow
+    pub refused_bad : measured v rows ≡ measure.BadRow
         → (wrote.Refused refusal.BadRecord ≡ wrote_of v rows (length xs)) × (xs ≡ left_of v rows xs)
     unfolding wrote_of left_of
-    refused-bad h = (rw (measured-bad h), rw (measured-bad h))
+    refused_bad h = (rw (measured_bad h), rw (measured_bad h))
 
-    pub refused-long : (n : ℕ) → measured v rows ≡ measure.Length n → longest < n
+    pub refused_long : (n : ℕ) → measured v rows ≡ measure.Length n → longest < n
         → (wrote.Refused refusal.NoRoom ≡ wrote_of v rows (length xs)) × (xs ≡ left_of v rows xs)
     unfolding wrote_of left_of
-    refused-long n h l =
+    refused_long n h l =
         let k = measured-good n h in
         let over = lt-leb (length (trace_text v (listed (records_of v rows)))) longest (omega (arith, k.size)) in
         (rw (k.good, over), rw (k.good, over))
 
-    pub refused-short : (n : ℕ) → measured v rows ≡ measure.Length n → n ≤ longest → length xs < n
+    pub refused_short : (n : ℕ) → measured v rows ≡ measure.Length n → n ≤ longest → length xs < n
         → (wrote.Refused refusal.NoRoom ≡ wrote_of v rows (length xs)) × (xs ≡ left_of v rows xs)
     unfolding wrote_of left_of
-    refused-short n h l s =
+    refused_short n h l s =
         let k = measured-good n h in
         let size = length (trace_text v (listed (records_of v rows))) in
         let inside = le-leb size longest (omega (arith, k.size)) in
@@ -66,9 +66,9 @@ module _ (v : Version) (rows : List (List ℕ)) where
         (rw (k.good, inside, over), rw (k.good, inside, over))
 
     -- there is room: the writer has what it requires, and what it leaves is what is promised
-    pub room-written : (n : ℕ) → measured v rows ≡ measure.Length n → n ≤ longest → n ≤ length xs
+    pub room_written : (n : ℕ) → measured v rows ≡ measure.Length n → n ≤ longest → n ≤ length xs
         → (records_of v rows ≡ Are (listed (records_of v rows))) × (length (trace_text v (listed (records_of v rows))) ≤ length xs)
-    room-written n h l s =
+    room_written n h l s =
         let k = measured-good n h in
         (k.good, omega (arith, k.size))
 

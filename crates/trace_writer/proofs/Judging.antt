@@ -16,7 +16,7 @@ use Rattle.trace.specs.declared.Version.{Version}
 use Rattle.rows_measure.specs.Measuring.{Records, Are, BadRow, with_first, row_under, records_of, listed, records_text}
 use Rattle.rows_measure.specs.declared.Judged.TheVariants.{Good, Bad}
 use Rattle.rows_measure.proofs.Lengths.{records_none, records-first}
-use Rattle.rows_measure.proofs.Walking.{bad_run, rows-here, rows-over}
+use Rattle.rows_measure.proofs.Walking.{bad_run, rows_here, rows_over}
 use Rattle.trace_writer.proofs.Texts.{trace_text_lem}
 
 -- every row from i on is a record, and the whole text is what those records put at `at`
@@ -27,10 +27,10 @@ pub record Left (v : Version) (rows : List (List ℕ)) (whole buf : List ℕ) (a
 
 module _ (v : Version) (rows : List (List ℕ)) where
   -- past the header
-  pub left-start : (xs buf : List ℕ) (at : ℕ) → records_of v rows ≡ Are (listed (records_of v rows))
+  pub left_start : (xs buf : List ℕ) (at : ℕ) → records_of v rows ≡ Are (listed (records_of v rows))
       → length (trace_text v (listed (records_of v rows))) ≤ length xs → Placed xs 0 (header_of v) buf at
       → Left v rows (spliced buf at (records_text (listed (records_of v rows)))) buf at 0
-  left-start xs buf at g h p =
+  left_start xs buf at g h p =
       let rs = listed (records_of v rows) in
       let size = ap length (trace_text_lem v rs) ∙ length-append (header_of v) (records_text rs) in
       record { good = g; room = omega (arith, p.size, p.end, size); text = refl }
@@ -49,16 +49,16 @@ module _ (v : Version) (rows : List (List ℕ)) where
     first-left r h e l = go (records_of v (drop (i + 1) rows)) refl
       where
         here : (x : Records) → records_of v (drop (i + 1) rows) ≡ x → records_of v (drop i rows) ≡ with_first r x
-        here x q = rows-here v rows i h ∙ rw (← e, q)
+        here x q = rows_here v rows i h ∙ rw (← e, q)
 
         go : (x : Records) → records_of v (drop (i + 1) rows) ≡ x
             → (listed (records_of v (drop i rows)) ≡ r ∷ listed x) × (x ≡ Are (listed x))
         go BadRow q = absurd (bad_run _ (sym (here BadRow q) ∙ l.good))
         go (Are rs) q = (ap listed (here (Are rs) q), refl)
 
-    pub record-room : (r : Record) → i < length rows → Good r ≡ row_under v (get_or rows i []) → Left v rows whole buf at i
+    pub record_room : (r : Record) → i < length rows → Good r ≡ row_under v (get_or rows i []) → Left v rows whole buf at i
         → at + length (record_text r) ≤ length buf
-    record-room r h e l =
+    record_room r h e l =
         let f = (first-left r h e l).0 in
         let rest = listed (records_of v (drop (i + 1) rows)) in
         let size = ap (λ (x : List Record). length (records_text x)) f ∙ ap length (records-first r rest) in
@@ -78,11 +78,11 @@ module _ (v : Version) (rows : List (List ℕ)) where
           text = l.text ∙ ap (spliced buf at) t ∙ sym both ∙ rw (p.left, p.end);
         }
 
-    pub none-bad : i < length rows → Bad ≡ row_under v (get_or rows i []) → Left v rows whole buf at i → ⊥
-    none-bad h e l = bad_run _ (sym (rows-here v rows i h ∙ rw (← e)) ∙ l.good)
+    pub none_bad : i < length rows → Bad ≡ row_under v (get_or rows i []) → Left v rows whole buf at i → ⊥
+    none_bad h e l = bad_run _ (sym (rows_here v rows i h ∙ rw (← e)) ∙ l.good)
 
     pub left_over : length rows ≤ i → Left v rows whole buf at i → buf ≡ whole
     left_over h l =
-        let over = ap (λ (x : Records). records_text (listed x)) (rows-over v rows i h) in
+        let over = ap (λ (x : Records). records_text (listed x)) (rows_over v rows i h) in
         let none : records_text (listed (records_of v (drop i rows))) ≡ [] = over ∙ records_none in
         sym (l.text ∙ ap (spliced buf at) none ∙ sym (splice_none buf at))

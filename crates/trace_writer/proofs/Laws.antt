@@ -22,7 +22,7 @@ use Rattle.trace.specs.declared.Op.{Op}
 use Rattle.trace.specs.declared.Op.TheVariants.{Begin, End, Snap, Own, Oldest, Vacuum, Stamp, Finish, Pin, Unpin}
 use Rattle.trace.specs.declared.Version.{Version}
 use Rattle.trace.specs.declared.Record.{Record}
-use Rattle.grammar.proofs.Grammar.{accepted, accepts, one-text}
+use Rattle.grammar.proofs.Grammar.{accepted, accepts, one_text}
 use Rattle.trace.proofs.Shape.{trace_laws}
 use Rattle.record_rows.specs.Rows.{row_of, record_row}
 use Rattle.record_rows.specs.declared.RowIs.{RowIs}
@@ -177,7 +177,7 @@ pub one-run : (v w : Version) (rows others : List (List ℕ)) (rs ts : List Reco
 one-run v w rows others rs ts m k p q l e =
     let a = rows_are v rows rs m p in
     let b = rows_are w others ts k q in
-    let both = one-text trace_format trace_laws v w rs ts a.expressible b.expressible l e in
+    let both = one_text trace_format trace_laws v w rs ts a.expressible b.expressible l e in
     let same : rs ≡ ts = cc in
     let heads : v ≡ w = cc in
     (heads, sym a.rows_are ∙ ap rows_of same ∙ b.rows_are)

@@ -16,7 +16,7 @@ use Rattle.grammar.specs.Names.{name_line}
 use Rattle.grammar.specs.Items.{item_text, lines_of}
 use Rattle.grammar.specs.Named.{six_lines}
 use Rattle.grammar.specs.Texts.{first_line, text_lines, whole_text}
-use Rattle.grammar.proofs.Grammar.{lines-first}
+use Rattle.grammar.proofs.Grammar.{lines_first}
 use Rattle.trace.specs.Op.{op_name, op_names}
 use Rattle.trace.specs.Version.{header_of}
 use Rattle.trace.specs.Record.{record_form, any_form, record_text}
@@ -104,8 +104,8 @@ module _ (r : Record) (xs : List ℕ) (at : ℕ) (h : at + length (record_text r
     after_two : p + (length id + (length stamp + (length clock + length sample))) ≤ length ys
     after_two = room_after _ a sizes
 
-    pub id-fits : p + length id ≤ length ys
-    id-fits = first_fits _ _ _ _ after_two
+    pub id_fits : p + length id ≤ length ys
+    id_fits = first_fits _ _ _ _ after_two
 
     module _ {zs : List ℕ} {q : ℕ} (b : Placed ys p id zs q) where
       after-id : q + (length stamp + (length clock + length sample)) ≤ length zs
@@ -118,15 +118,15 @@ module _ (r : Record) (xs : List ℕ) (at : ℕ) (h : at + length (record_text r
         after-stamp : e + (length clock + length sample) ≤ length us
         after-stamp = room_after _ c after-id
 
-        pub clock-fits : e + length clock ≤ length us
-        clock-fits = first_fits _ _ _ _ after-stamp
+        pub clock_fits : e + length clock ≤ length us
+        clock_fits = first_fits _ _ _ _ after-stamp
 
         module _ {vs : List ℕ} {f : ℕ} (d : Placed us e clock vs f) where
-          pub sample-fits : f + length sample ≤ length vs
-          sample-fits = room_after _ d after-stamp
+          pub sample_fits : f + length sample ≤ length vs
+          sample_fits = room_after _ d after-stamp
 
-          pub record-placed : {ws : List ℕ} {g : ℕ} → Placed vs f sample ws g → Placed xs at (record_text r) ws g
-          record-placed last =
+          pub record_placed : {ws : List ℕ} {g : ℕ} → Placed vs f sample ws g → Placed xs at (record_text r) ws g
+          record_placed last =
               let start : at ≤ length xs = omega arith in
               let three = placed_then start a b in
               let five = placed_then start (placed_then start three c) d in

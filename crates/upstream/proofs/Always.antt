@@ -30,9 +30,9 @@ use Rattle.model.proofs.Holders.{Was, before_it, begun-by-it, was}
 use Rattle.model.proofs.Reservations.{reserve_step}
 use Rattle.upstream.specs.States.{State, at, pushes, pinning, state_of, state_after, history_by, Shaped}
 use Rattle.upstream.specs.Relations.{Contains, TableOf, HistoryOf, WellFormed, Kept}
-use Rattle.upstream.proofs.Pairs.{slots_of, txid-at, shaped-applied}
+use Rattle.upstream.proofs.Pairs.{slots_of, txid-at, shaped_applied}
 use Rattle.upstream.proofs.Yes.{from-good, beside, unpinned, to_good}
-use Rattle.upstream.proofs.Histories.{contains_pushes, contains_last, history-step}
+use Rattle.upstream.proofs.Histories.{contains_pushes, contains_last, history_step}
 
 -- no test but those of a pinned snapshot and a release reads the pins, and none the line ..
 pub refusal_unseen :
@@ -140,13 +140,13 @@ table_kept n t history s (unpin k) y = go (refusal n t (unpin k)) refl
 module _ (n : ℕ) (t : Table) (history : List ℕ) (s : Shaped n t) (c : Call) where
   history-kept : HistoryOf (state_of t history) → HistoryOf (state_after n t history c)
   unfolding after
-  history-kept h = history-step _ _ _ _ history h ids (reserve_step n t c) registered
+  history-kept h = history_step _ _ _ _ history h ids (reserve_step n t c) registered
     where
       ids : List ℕ
       ids = reserves_by (refusal n t c) c
 
       later : Shaped n (after n t c)
-      later = shaped-applied n t s (change_of n t c).slot (change_of n t c).counters
+      later = shaped_applied n t s (change_of n t c).slot (change_of n t c).counters
 
       had : (i x : ℕ) → Was t (slot i) (txid x) c (refusal n t c) → Contains (pushes history ids) x
       had i x (before_it r f) =
@@ -166,9 +166,9 @@ module _ (n : ℕ) (t : Table) (history : List ℕ) (s : Shaped n t) (c : Call) 
           in
           rw held (had i _ (was n t (slot i) (txid _) c there))
 
-  pub well-formed-kept : Kept n (state_of t history) (state_after n t history c)
-  well-formed-kept = record { table = table_kept n t history s c; history = history-kept }
+  pub well_formed_kept : Kept n (state_of t history) (state_after n t history c)
+  well_formed_kept = record { table = table_kept n t history s c; history = history-kept }
 
   -- and so it is as L has it
-  pub still-well-formed : WellFormed n (state_of t history) → WellFormed n (state_after n t history c)
-  still-well-formed w = record { table = table_kept n t history s c w.table; history = history-kept w.history }
+  pub still_well_formed : WellFormed n (state_of t history) → WellFormed n (state_after n t history c)
+  still_well_formed w = record { table = table_kept n t history s c w.table; history = history-kept w.history }

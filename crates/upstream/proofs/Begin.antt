@@ -18,7 +18,7 @@ use Rattle.upstream.specs.Relations.{Kept}
 use Rattle.upstream.specs.Clauses.{BeginTransaction, BeginAcquired}
 use Rattle.upstream.proofs.Pairs.{pairs_set, slots_length, txid-at}
 use Rattle.upstream.proofs.Histories.{length_push}
-use Rattle.upstream.proofs.Always.{well-formed-kept}
+use Rattle.upstream.proofs.Always.{well_formed_kept}
 use Rattle.upstream.proofs.Runs.{state_by, Beginning, entered, full, beginning}
 
 module _ (n : ℕ) (t : Table) (history : List ℕ) (k : Stamp) (s : Shaped n t) where
@@ -57,11 +57,11 @@ module _ (n : ℕ) (t : Table) (history : List ℕ) (k : Stamp) (s : Shaped n t)
             };
       }
 
-  pub begin-meets :
+  pub begin_meets :
       Foreseen (refusal n t (begin k)) →
       BeginTransaction n (state_of t history) (state_after n t history (begin k)) (tells_of (answer n t (begin k)))
   unfolding change_of after answer
-  begin-meets f = by-run (refusal n t (begin k)) (well-formed-kept n t history s (begin k)) (beginning n t k f)
+  begin_meets f = by-run (refusal n t (begin k)) (well_formed_kept n t history s (begin k)) (beginning n t k f)
 
   acquired-run :
       (v : Verdict) → Beginning n t k v →
@@ -70,8 +70,8 @@ module _ (n : ℕ) (t : Table) (history : List ℕ) (k : Stamp) (s : Shaped n t)
   acquired-run v (entered f room) = record { i_begin_e1 = refl; i_begin_e2 = refl }
   acquired-run v (full f taken) = record { i_begin_e1 = refl; i_begin_e2 = refl }
 
-  pub begin-acquired-meets :
+  pub begin_acquired_meets :
       Foreseen (refusal n t (begin k)) →
       BeginAcquired (state_of t history) (state_after n t history (begin k)) (tells_of (answer n t (begin k)))
   unfolding change_of after answer
-  begin-acquired-meets f = acquired-run (refusal n t (begin k)) (beginning n t k f)
+  begin_acquired_meets f = acquired-run (refusal n t (begin k)) (beginning n t k f)

@@ -18,7 +18,7 @@ use Rattle.upstream.specs.States.{state_of, state_after, Shaped, Foreseen}
 use Rattle.upstream.specs.Relations.{Kept}
 use Rattle.upstream.specs.Clauses.{EndTransaction}
 use Rattle.upstream.proofs.Pairs.{pairs_set, txid-at}
-use Rattle.upstream.proofs.Always.{well-formed-kept}
+use Rattle.upstream.proofs.Always.{well_formed_kept}
 use Rattle.upstream.proofs.Runs.{state_by, Owning, outside, other, owned, owning}
 
 module _ (n : ℕ) (t : Table) (history : List ℕ) (i : SlotNo) (id : Txid) (s : Shaped n t) where
@@ -63,10 +63,10 @@ module _ (n : ℕ) (t : Table) (history : List ℕ) (i : SlotNo) (id : Txid) (s 
         l_end_e8 = rw (txid-at n t s i.0, lt-leb n i.0 o.inside, eq-eqb _ _ o.registered.holds);
       }
 
-  pub end-meets :
+  pub end_meets :
       Foreseen (refusal n t (end i id)) →
       EndTransaction n (state_of t history) (state_after n t history (end i id)) i id (tells_of (answer n t (end i id)))
   unfolding refusal change_of after answer
-  end-meets f =
-      by-run (refusal n t (end i id)) (well-formed-kept n t history s (end i id))
+  end_meets f =
+      by-run (refusal n t (end i id)) (well_formed_kept n t history s (end i id))
       (owning n t i id (end i id) Pass (λ g. refl) (sym (then_last _)) f)

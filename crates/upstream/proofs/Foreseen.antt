@@ -58,32 +58,32 @@ module _ (n : ℕ) (t : Table) where
   observes-foreseen : (c m : ℕ) → Observes (clock_of t) c m → Foreseen (observation_test (clock_of t) c m)
   observes-foreseen c m f = pass_foreseen (observation_test (clock_of t) c m) (observation-passes (clock_of t) c m f)
 
-  pub asked-foreseen : (c : Call) → Asked t c → Foreseen (refusal n t c)
+  pub asked_foreseen : (c : Call) → Asked t c → Foreseen (refusal n t c)
   unfolding refusal
-  asked-foreseen (begin k) f =
+  asked_foreseen (begin k) f =
       then_foreseen (reservation_test (clock_of t) k) (full_test n t.txids k) (reserves-foreseen k f) (full-foreseen k)
-  asked-foreseen (end i id) h = owner-foreseen i id h
-  asked-foreseen (snap c m) f = observes-foreseen c m f
-  asked-foreseen (own i id c m) (h, f) =
+  asked_foreseen (end i id) h = owner-foreseen i id h
+  asked_foreseen (snap c m) f = observes-foreseen c m f
+  asked_foreseen (own i id c m) (h, f) =
       then_foreseen (owner_test n t.txids i id) (observation_test (clock_of t) c m) (owner-foreseen i id h)
       (observes-foreseen c m f)
-  asked-foreseen (oldest c m) f = observes-foreseen c m f
-  asked-foreseen (vacuum c m) f = observes-foreseen c m f
-  asked-foreseen (stamp k) f = reserves-foreseen k f
-  asked-foreseen (finish i id k) (h, f) =
+  asked_foreseen (oldest c m) f = observes-foreseen c m f
+  asked_foreseen (vacuum c m) f = observes-foreseen c m f
+  asked_foreseen (stamp k) f = reserves-foreseen k f
+  asked_foreseen (finish i id k) (h, f) =
       then_foreseen (owner_test n t.txids i id) (reservation_test (clock_of t) k) (owner-foreseen i id h)
       (reserves-foreseen k f)
-  asked-foreseen (pin c m) f = absurd f
-  asked-foreseen (unpin k) f = absurd f
+  asked_foreseen (pin c m) f = absurd f
+  asked_foreseen (unpin k) f = absurd f
 
 -- the trait's `reservation`, with the clock above 0 that it required and a number near it, and its `observation` give what is asked
 module _ (t : Table) (history : List ℕ) (new : State) where
-  pub reservation-reserves :
+  pub reservation_reserves :
       (k : Stamp) → 0 < clock_of t → Reservation (state_of t history) new k.0 → k.0 ≤ clock_of t + farthest →
       Reserves (clock_of t) k.0
-  reservation-reserves k h r near =
+  reservation_reserves k h r near =
       record { positive = omega (arith, r.from_clock); from_clock = r.from_clock; below_top = r.below_top; near = near }
 
-  pub observation-observes :
+  pub observation_observes :
       Observation (state_of t history) new → Observes (clock_of t) new.clock new.sampled_clock
-  observation-observes o = record { onward = o.clock; positive = o.sample_positive; within = o.sample_within }
+  observation_observes o = record { onward = o.clock; positive = o.sample_positive; within = o.sample_within }

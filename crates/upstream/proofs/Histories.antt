@@ -49,10 +49,10 @@ pub contains_last : (l : List ℕ) (x : ℕ) → Contains (push l x) x
 contains_last l x = record { place = length l; inside = omega (arith, length_push l x); there = get_d_last l x }
 
 module _ (ss ss' : List Slot) (c c' : ℕ) (l : List ℕ) (p : HistoryPart ss c l) where
-  pub history-push :
+  pub history_push :
       (k : ℕ) → 0 < k → c ≤ k → ((i : ℕ) → (at ss' i).txid ≢ 0 → Contains (push l k) (at ss' i).txid) →
       HistoryPart ss' (k + 1) (push l k)
-  history-push k z h r =
+  history_push k z h r =
       record {
         ordered = λ i j b e. rising i j b (placed l k i (le_trans b (le_trans (omega arith) e))) (placed l k j e);
         positive = λ i b. high i (placed l k i b);
@@ -74,10 +74,10 @@ module _ (ss ss' : List Slot) (c c' : ℕ) (l : List ℕ) (p : HistoryPart ss c 
       low i (old x q) = rw q (let g = p.below i x in omega arith)
       low i (last x q) = rw q (omega arith)
 
-  pub history-step :
+  pub history_step :
       (ids : List ℕ) → Step c ids c' → ((i : ℕ) → (at ss' i).txid ≢ 0 → Contains (pushes l ids) (at ss' i).txid) →
       HistoryPart ss' c' (pushes l ids)
-  history-step ids (nothing e h) r =
+  history_step ids (nothing e h) r =
       rw e
       (record {
         ordered = p.ordered;
@@ -85,4 +85,4 @@ module _ (ss ss' : List Slot) (c c' : ℕ) (l : List ℕ) (p : HistoryPart ss c 
         below = λ i b. le_trans (p.below i b) h;
         registered = rw e at r;
       })
-  history-step ids (one x e z h q) r = rw (e, q) (history-push x z h (rw e at r))
+  history_step ids (one x e z h q) r = rw (e, q) (history_push x z h (rw e at r))

@@ -28,12 +28,12 @@ use Rattle.upstream.specs.States.{at, push, state_of, state_after, Shaped, PinsF
 use Rattle.upstream.specs.Relations.{Contains, TableOf, HistoryOf, Kept}
 use Rattle.upstream.specs.Clauses.{BeginTransaction, SnapshotLocked, CreateTransactionSnapshot}
 use Rattle.upstream.specs.Clauses.{OldestSnapshotXmin, OldestRetention, DeregisterThenReserve}
-use Rattle.upstream.proofs.Pairs.{pairs_set, slots_of, txid-at, shaped-applied}
+use Rattle.upstream.proofs.Pairs.{pairs_set, slots_of, txid-at, shaped_applied}
 use Rattle.upstream.proofs.Yes.{from-good, beside, unpinned, to_good}
-use Rattle.upstream.proofs.Histories.{length_push, contains_pushes, contains_last, history-push}
-use Rattle.upstream.proofs.Foreseen.{asked-foreseen}
-use Rattle.upstream.proofs.Snapshots.{snapshot-locked-meets}
-use Rattle.upstream.proofs.Oldest.{oldest-meets, oldest-retains}
+use Rattle.upstream.proofs.Histories.{length_push, contains_pushes, contains_last, history_push}
+use Rattle.upstream.proofs.Foreseen.{asked_foreseen}
+use Rattle.upstream.proofs.Snapshots.{snapshot_locked_meets}
+use Rattle.upstream.proofs.Oldest.{oldest_meets, oldest_retains}
 use Rattle.upstream.proofs.Publish.{above}
 
 -- an error that says of a begin that no slot is free
@@ -68,7 +68,7 @@ module _ (n : ℕ) (t : Table) (history : List ℕ) (s : Shaped n t) where
       record {
         table = λ y. (from-good n _ (good y)).table;
         history =
-            λ p. history-push (slots_of t) (slots_of (entered t i k)) (clock_of t) (k + 1) history p k f.positive
+            λ p. history_push (slots_of t) (slots_of (entered t i k)) (clock_of t) (k + 1) history p k f.positive
             f.from_clock (λ j z. had p j z (stored 0 t.txids i k j));
       }
     where
@@ -81,7 +81,7 @@ module _ (n : ℕ) (t : Table) (history : List ℕ) (s : Shaped n t) where
           (record { positive = f.positive; new = f.from_clock; past = omega arith; over = f.positive })
 
       held : (j : ℕ) → (at (slots_of (entered t i k)) j).txid ≡ txid_at (entered t i k) j
-      held j = txid-at n (entered t i k) (shaped-applied n t s (Enters (slot i) (txid k)) (counted (k + 1) 1 (line_of t))) j
+      held j = txid-at n (entered t i k) (shaped_applied n t s (Enters (slot i) (txid k)) (counted (k + 1) 1 (line_of t))) j
 
       had :
           HistoryOf (state_of t history) → (j : ℕ) → (at (slots_of (entered t i k)) j).txid ≢ 0 → Stored 0 t.txids i k j →
@@ -92,10 +92,10 @@ module _ (n : ℕ) (t : Table) (history : List ℕ) (s : Shaped n t) where
           rw same (contains_pushes history (k ∷ []) _ (p.registered j (rw same at z)))
 
   -- begin: any empty slot i, the highest too, and the sample set to 1
-  pub any-slot-sample-one :
+  pub any_slot_sample_one :
       (i k : ℕ) → Reserves (clock_of t) k → i < n → txid_at t i ≡ 0 →
       BeginTransaction n (state_of t history) (state_of (entered t i k) (push history k)) (accepted_with i k)
-  any-slot-sample-one i k f h e =
+  any_slot_sample_one i k f h e =
       record {
         l_begin_e1 = entered-kept i k f;
         l_begin_e3 = omega (arith, f.from_clock);
@@ -115,26 +115,26 @@ module _ (n : ℕ) (t : Table) (history : List ℕ) (s : Shaped n t) where
   one : (c : ℕ) → clock_of t ≤ c → 1 ≤ c → Observes (clock_of t) c 1
   one c h p = record { onward = h; positive = le_refl 1; within = p }
 
-  pub always-sample-one :
+  pub always_sample_one :
       (c : ℕ) → clock_of t ≤ c → 1 ≤ c →
       SnapshotLocked n (state_of t history) (state_after n t history (snap c 1)) (shown n t (snap c 1))
-  always-sample-one c h p = snapshot-locked-meets n t history s c 1 (asked-foreseen n t (snap c 1) (one c h p))
+  always_sample_one c h p = snapshot_locked_meets n t history s c 1 (asked_foreseen n t (snap c 1) (one c h p))
 
-  pub always-oldest-one :
+  pub always_oldest-one :
       (c : ℕ) → clock_of t ≤ c → 1 ≤ c →
       OldestSnapshotXmin n (state_of t history) (state_after n t history (oldest c 1))
       × (PinsFree t → OldestRetention n (state_after n t history (oldest c 1)) (answer n t (oldest c 1)))
-  always-oldest-one c h p =
-      let f = asked-foreseen n t (oldest c 1) (one c h p) in
-      (oldest-meets n t history c 1 s f, oldest-retains n t history c 1 s f)
+  always_oldest-one c h p =
+      let f = asked_foreseen n t (oldest c 1) (one c h p) in
+      (oldest_meets n t history c 1 s f, oldest_retains n t history c 1 s f)
 
   -- the transaction snapshot: a refusal that moves clock and sample as a plain snapshot does, and is called NoFreeSlot
-  pub refused-moves-clock :
+  pub refused_moves_clock :
       (i : SlotNo) (id : Txid) (c m : ℕ) (x : Snapshot) → Observes (clock_of t) c m → txid_at t i.0 ≢ id.0 →
       CreateTransactionSnapshot n (state_of t history) (state_after n t history (snap c m)) i id none_free x
   unfolding told
-  refused-moves-clock i id c m x f d =
-      let r = snapshot-locked-meets n t history s c m (asked-foreseen n t (snap c m) f) in
+  refused_moves_clock i id c m x f d =
+      let r = snapshot_locked_meets n t history s c m (asked_foreseen n t (snap c m) f) in
       record {
         l_own_e1 = r.l_snapshot_locked_e1;
         l_own_e3 = r.l_snapshot_locked_e2.reservations;
@@ -145,9 +145,9 @@ module _ (n : ℕ) (t : Table) (history : List ℕ) (s : Shaped n t) where
       }
 
   -- finish: refuses always
-  pub refuses-always : (id : Txid) → DeregisterThenReserve n (state_of t history) (state_of t history) id none_free
+  pub refuses_always : (id : Txid) → DeregisterThenReserve n (state_of t history) (state_of t history) id none_free
   unfolding told
-  refuses-always id =
+  refuses_always id =
       record {
         l_finish_e1 = record { table = λ y. y; history = λ p. p };
         l_finish_e345 = λ e. absurd (suc-ne-zero _ e);
@@ -155,17 +155,17 @@ module _ (n : ℕ) (t : Table) (history : List ℕ) (s : Shaped n t) where
       }
 
   -- finish: empties every slot, and sets the sample to 1
-  pub empties-all :
+  pub empties_all :
       (id : Txid) (k : ℕ) → id.0 ≢ 0 → Reserves (clock_of t) k →
       DeregisterThenReserve n (state_of t history) (state_of (emptied n k) (push history k)) id (accepted_with 0 k)
   unfolding fresh_table
-  empties-all id k z f =
+  empties_all id k z f =
       record {
         l_finish_e1 =
             record {
               table = λ y. (from-good n (emptied n k) good).table;
               history =
-                  λ p. history-push (slots_of t) (slots_of (emptied n k)) (clock_of t) (k + 1) history p k f.positive
+                  λ p. history_push (slots_of t) (slots_of (emptied n k)) (clock_of t) (k + 1) history p k f.positive
                   f.from_clock (λ j d. absurd (d (empty j)));
             };
         l_finish_e345 =
@@ -186,5 +186,5 @@ module _ (n : ℕ) (t : Table) (history : List ℕ) (s : Shaped n t) where
       empty j = txid-at n (emptied n k) (from-good n (emptied n k) good).shape j ∙ zeros_hold n j
 
   -- any call: moves the vacuum line and the pins, which no clause of upstream's sees
-  pub line-unseen : (pins : List ℕ) (line : ℕ) → state_of (beside pins line t) history ≡ state_of t history
-  line-unseen pins line = refl
+  pub line_unseen : (pins : List ℕ) (line : ℕ) → state_of (beside pins line t) history ≡ state_of t history
+  line_unseen pins line = refl

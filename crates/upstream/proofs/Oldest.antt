@@ -16,7 +16,7 @@ use Rattle.upstream.specs.States.{state_of, state_after, Shaped, PinsFree, Fores
 use Rattle.upstream.specs.Clauses.{OldestSnapshotXmin, OldestRetention}
 use Rattle.upstream.proofs.Pairs.{even}
 use Rattle.upstream.proofs.Tallies.{retention_same}
-use Rattle.upstream.proofs.Always.{well-formed-kept}
+use Rattle.upstream.proofs.Always.{well_formed_kept}
 use Rattle.upstream.proofs.Runs.{observation_strict}
 
 module _ (n : ℕ) (t : Table) (history : List ℕ) (c m : ℕ) (s : Shaped n t) (f : Foreseen (refusal n t (oldest c m))) where
@@ -24,11 +24,11 @@ module _ (n : ℕ) (t : Table) (history : List ℕ) (c m : ℕ) (s : Shaped n t)
   unfolding refusal
   accepts = observation_strict (clock_of t) c m f
 
-  pub oldest-meets : OldestSnapshotXmin n (state_of t history) (state_after n t history (oldest c m))
+  pub oldest_meets : OldestSnapshotXmin n (state_of t history) (state_after n t history (oldest c m))
   unfolding refusal change_accepted change_of after
-  oldest-meets =
+  oldest_meets =
       let seen : Observes (clock_of t) c m = observes (clock_of t) c m accepts in
-      let kept = well-formed-kept n t history s (oldest c m) in
+      let kept = well_formed_kept n t history s (oldest c m) in
       rw accepts
       (record {
         l_oldest_e1 = rw accepts at kept;
@@ -38,9 +38,9 @@ module _ (n : ℕ) (t : Table) (history : List ℕ) (c m : ℕ) (s : Shaped n t)
       })
 
   -- upstream knows no pins: its clause on the result holds where all are free
-  pub oldest-retains : PinsFree t → OldestRetention n (state_after n t history (oldest c m)) (answer n t (oldest c m))
+  pub oldest_retains : PinsFree t → OldestRetention n (state_after n t history (oldest c m)) (answer n t (oldest c m))
   unfolding refusal change_accepted change_of after answer_accepted answer minimum
-  oldest-retains free =
+  oldest_retains free =
       let same = retention_same t.txids t.snapshot_xmins m (even n t s) in
       rw (accepts, none_active t.pins free)
       (record { l_oldest_e6 = (holder, ap (λ (x : ℕ). Oldest x holder) (sym (rw s.txids_size at same))) })

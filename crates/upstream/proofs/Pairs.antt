@@ -59,18 +59,18 @@ module _ (n : ℕ) (t : Table) (s : Shaped n t) where
   pub txid-at : (i : ℕ) → (at (slots_of t) i).txid ≡ txid_at t i
   txid-at i = ap (λ (x : Slot). x.txid) (slot_at i)
 
-  pub shaped-applied : (d : SlotChange) (k : Counters) → Shaped n (applied t (change d k))
-  shaped-applied Stays k = record { txids_size = s.txids_size; xmins_size = s.xmins_size }
-  shaped-applied (Enters slot txid) k =
+  pub shaped_applied : (d : SlotChange) (k : Counters) → Shaped n (applied t (change d k))
+  shaped_applied Stays k = record { txids_size = s.txids_size; xmins_size = s.xmins_size }
+  shaped_applied (Enters slot txid) k =
       record {
         txids_size = length-set t.txids slot.0 txid.0 ∙ s.txids_size;
         xmins_size = length-set t.snapshot_xmins slot.0 txid.0 ∙ s.xmins_size;
       }
-  shaped-applied (Leaves slot) k =
+  shaped_applied (Leaves slot) k =
       record {
         txids_size = length-set t.txids slot.0 0 ∙ s.txids_size;
         xmins_size = length-set t.snapshot_xmins slot.0 0 ∙ s.xmins_size;
       }
-  shaped-applied (Retains slot xmin) k =
+  shaped_applied (Retains slot xmin) k =
       record { txids_size = s.txids_size; xmins_size = length-set t.snapshot_xmins slot.0 xmin ∙ s.xmins_size }
-  shaped-applied (Pins pin xmin) k = record { txids_size = s.txids_size; xmins_size = s.xmins_size }
+  shaped_applied (Pins pin xmin) k = record { txids_size = s.txids_size; xmins_size = s.xmins_size }

@@ -26,9 +26,9 @@ use Rattle.model.proofs.Gone.{emptied_gone}
 use Rattle.upstream.specs.States.{at, pairs, state_of, state_after, Shaped, Foreseen}
 use Rattle.upstream.specs.Relations.{Contains, TableOf, HistoryOf, Kept}
 use Rattle.upstream.specs.Clauses.{ReservePublicationClock, DeregisterThenReserve}
-use Rattle.upstream.proofs.Pairs.{txid-at, shaped-applied}
+use Rattle.upstream.proofs.Pairs.{txid-at, shaped_applied}
 use Rattle.upstream.proofs.Yes.{unpinned, to_good}
-use Rattle.upstream.proofs.Always.{well-formed-kept}
+use Rattle.upstream.proofs.Always.{well_formed_kept}
 use Rattle.upstream.proofs.Runs.{state_by, reservation_strict, Owning, outside, other, owned, owning}
 
 -- the stamp is above every number of the history
@@ -40,14 +40,14 @@ above t history k reader f p c =
     omega (arith, f.from_clock)
 
 module _ (n : ℕ) (t : Table) (history : List ℕ) (s : Shaped n t) where
-  pub stamp-meets :
+  pub stamp_meets :
       (k : Stamp) → Foreseen (refusal n t (stamp k)) →
       ReservePublicationClock n (state_of t history) (state_after n t history (stamp k)) (tells_of (answer n t (stamp k)))
   unfolding refusal change_accepted change_of after answer_accepted answer tells_of
-  stamp-meets k f =
+  stamp_meets k f =
       let passes : refusal n t (stamp k) ≡ Pass = reservation_strict (clock_of t) k f in
       let fits : Reserves (clock_of t) k.0 = reserves (clock_of t) k passes in
-      let kept = well-formed-kept n t history s (stamp k) in
+      let kept = well_formed_kept n t history s (stamp k) in
       rw passes
       (record {
         l_stamp_e1 = rw passes at kept;
@@ -68,7 +68,7 @@ module _ (n : ℕ) (t : Table) (history : List ℕ) (s : Shaped n t) where
         Owns n t i id → TableOf n (state_of t history) → (j : ℕ) →
         (at (pairs (set t.txids i.0 0) (set t.snapshot_xmins i.0 0)) j).txid ≢ id.0
     gone o y j =
-        rw (txid-at n _ (shaped-applied n t s (Leaves i) t.counters) j)
+        rw (txid-at n _ (shaped_applied n t s (Leaves i) t.counters) j)
         (emptied_gone n (unpinned t) i id (to_good n t (record { shape = s; table = y }))
         (record { inside = o.inside; registered = record { not_zero = o.registered.not_zero; holds = o.registered.holds } }) j)
 
@@ -94,11 +94,11 @@ module _ (n : ℕ) (t : Table) (history : List ℕ) (s : Shaped n t) where
           l_finish_e6 = λ e. absurd (e refl);
         }
 
-    pub finish-meets :
+    pub finish_meets :
         Foreseen (refusal n t (finish i id k)) →
         DeregisterThenReserve n (state_of t history) (state_after n t history (finish i id k)) id
         (tells_of (answer n t (finish i id k)))
     unfolding refusal change_of after answer
-    finish-meets f =
-        finish-run (refusal n t (finish i id k)) (well-formed-kept n t history s (finish i id k))
+    finish_meets f =
+        finish-run (refusal n t (finish i id k)) (well_formed_kept n t history s (finish i id k))
         (owning n t i id (finish i id k) (reservation_test (clock_of t) k) (reservation_strict (clock_of t) k) refl f)

@@ -33,9 +33,9 @@ use Rattle.model.proofs.Tests.{observes}
 use Rattle.upstream.specs.States.{State, slot, at, state_of, state_after, Shaped, Foreseen}
 use Rattle.upstream.specs.Relations.{TableOf, Kept, TxidsBelowTop, Coherent}
 use Rattle.upstream.specs.Clauses.{SnapshotLocked, CreateSnapshot, CreateTransactionSnapshot}
-use Rattle.upstream.proofs.Pairs.{pairs-length, pairs-set_xmin, slots_of, even, txid-at, shaped-applied}
+use Rattle.upstream.proofs.Pairs.{pairs-length, pairs-set_xmin, slots_of, even, txid-at, shaped_applied}
 use Rattle.upstream.proofs.Tallies.{active_same, minimum_same, maximum_same}
-use Rattle.upstream.proofs.Always.{well-formed-kept}
+use Rattle.upstream.proofs.Always.{well_formed_kept}
 use Rattle.upstream.proofs.Runs.{state_by, observation_strict, Owning, outside, other, owned, owning}
 
 larger : (a m : ℕ) → a ≤ top → max m (min a top) ≡ cond (ltb a m) m a
@@ -111,13 +111,13 @@ create_from_locked n old new snapshot r =
 
 module _ (n : ℕ) (t : Table) (history : List ℕ) (s : Shaped n t) where
   module _ (c m : ℕ) (f : Foreseen (refusal n t (snap c m))) where
-    pub snapshot-locked-meets :
+    pub snapshot_locked_meets :
         SnapshotLocked n (state_of t history) (state_after n t history (snap c m)) (shown n t (snap c m))
     unfolding refusal change_accepted change_of after shown_accepted shown
-    snapshot-locked-meets =
+    snapshot_locked_meets =
         let passes : refusal n t (snap c m) ≡ Pass = observation_strict (clock_of t) c m f in
         let seen : Observes (clock_of t) c m = observes (clock_of t) c m passes in
-        let kept = well-formed-kept n t history s (snap c m) in
+        let kept = well_formed_kept n t history s (snap c m) in
         rw passes
         (record {
           l_snapshot_locked_e1 = rw passes at kept;
@@ -130,12 +130,12 @@ module _ (n : ℕ) (t : Table) (history : List ℕ) (s : Shaped n t) where
                 sample_within = seen.within;
               };
           l_snapshot_locked_e3 =
-              coherent n _ history (shaped-applied n t s Stays (observed c m t.counters)) seen.positive;
+              coherent n _ history (shaped_applied n t s Stays (observed c m t.counters)) seen.positive;
         })
 
-    pub create-snapshot-meets :
+    pub create_snapshot_meets :
         CreateSnapshot n (state_of t history) (state_after n t history (snap c m)) (shown n t (snap c m))
-    create-snapshot-meets = create_from_locked n _ _ _ snapshot-locked-meets
+    create_snapshot_meets = create_from_locked n _ _ _ snapshot_locked_meets
 
   module _ (i : SlotNo) (id : Txid) (c m : ℕ) where
     own-run :
@@ -172,7 +172,7 @@ module _ (n : ℕ) (t : Table) (history : List ℕ) (s : Shaped n t) where
               λ e. record {
                 l_own_e5a = o.inside;
                 l_own_e5b = txid-at n t s i.0 ∙ o.registered.holds;
-                l_own_e5c = coherent n _ history (shaped-applied n t s (Retains i xmin) (observed c m t.counters)) f.positive;
+                l_own_e5c = coherent n _ history (shaped_applied n t s (Retains i xmin) (observed c m t.counters)) f.positive;
                 l-own-e5d =
                     pairs-set_xmin t.txids t.snapshot_xmins i.0 xmin
                     ∙ ap (λ (x : ℕ). set (slots_of t) i.0 (slot x xmin)) (sym (txid-at n t s i.0));
@@ -181,11 +181,11 @@ module _ (n : ℕ) (t : Table) (history : List ℕ) (s : Shaped n t) where
           l_own_e7 = λ g e. refl;
         }
 
-    pub create-transaction-snapshot-meets :
+    pub create_transaction_snapshot_meets :
         Foreseen (refusal n t (own i id c m)) →
         CreateTransactionSnapshot n (state_of t history) (state_after n t history (own i id c m)) i id
         (tells_of (answer n t (own i id c m))) (shown n t (own i id c m))
     unfolding refusal change_of after answer shown
-    create-transaction-snapshot-meets f =
-        own-run (refusal n t (own i id c m)) (well-formed-kept n t history s (own i id c m))
+    create_transaction_snapshot_meets f =
+        own-run (refusal n t (own i id c m)) (well_formed_kept n t history s (own i id c m))
         (owning n t i id (own i id c m) (observation_test (clock_of t) c m) (observation_strict (clock_of t) c m) refl f)

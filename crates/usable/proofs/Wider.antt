@@ -61,10 +61,10 @@ module _ (n xmax : ℕ) (ids : List ℕ) (count : ℕ) (own id : Txid) where
   is-own = eqb own.0 id.0
 
   -- for the reader's own id it makes no difference below which xmax the list is asked
-  pub usable-within :
+  pub usable_within :
       {below : ℕ} → below ≡ cond is-own 0 xmax → usable_test n below ids count own id ≡ usable_test n xmax ids count own id
   unfolding usable_test
-  usable-within {below} e = go is-own refl
+  usable_within {below} e = go is-own refl
     where
       go : (o : Bool) → is-own ≡ o → usable_test n below ids count own id ≡ usable_test n xmax ids count own id
       go true q =
@@ -75,30 +75,30 @@ module _ (n xmax : ℕ) (ids : List ℕ) (count : ℕ) (own id : Txid) where
           let same : below ≡ xmax = e ∙ rw q in
           rw same
 
-  pub usable-settled : paper_settled Is ≡ settled_test n xmax ids count id → paper_usable Yes ≡ usable_test n xmax ids count own id
+  pub usable_settled : paper_settled Is ≡ settled_test n xmax ids count id → paper_usable Yes ≡ usable_test n xmax ids count own id
   unfolding settled_test usable_test
-  usable-settled e = by_yes tests in-it is-own e
+  usable_settled e = by_yes tests in-it is-own e
 
-  pub usable-own :
+  pub usable_own :
       paper_settled Not ≡ settled_test n xmax ids count id → own.0 ≡ id.0 → paper_usable Yes ≡ usable_test n xmax ids count own id
   unfolding settled_test usable_test
-  usable-own e p = by_no tests in-it is-own Yes e (rw (eq-eqb own.0 id.0 p))
+  usable_own e p = by_no tests in-it is-own Yes e (rw (eq-eqb own.0 id.0 p))
 
-  pub usable-neither :
+  pub usable_neither :
       paper_settled Not ≡ settled_test n xmax ids count id → own.0 ≢ id.0 → paper_usable No ≡ usable_test n xmax ids count own id
   unfolding settled_test usable_test
-  usable-neither e p = by_no tests in-it is-own No e (rw (ne_eqb own.0 id.0 p))
+  usable_neither e p = by_no tests in-it is-own No e (rw (ne_eqb own.0 id.0 p))
 
-  pub usable-refused :
+  pub usable_refused :
       (r : Refusal) → paper_settled (Unanswered r) ≡ settled_test n xmax ids count id →
       paper_usable (Refused r) ≡ usable_test n xmax ids count own id
   unfolding settled_test usable_test
-  usable-refused r e = by_refused r tests in-it is-own e
+  usable_refused r e = by_refused r tests in-it is-own e
 
   -- it is wider: what is settled is usable by every reader
-  pub settled-is-usable : (settled_test n xmax ids count id).settled ≡ true → (usable_test n xmax ids count own id).usable ≡ true
+  pub settled_is_usable : (settled_test n xmax ids count id).settled ≡ true → (usable_test n xmax ids count own id).usable ≡ true
   unfolding settled_test usable_test
-  settled-is-usable e = go tests in-it is-own e
+  settled_is_usable e = go tests in-it is-own e
     where
       go : (v : Verdict) (b o : Bool) → (settled_by v b).settled ≡ true → (usable_by v (b || o)).usable ≡ true
       go Pass true o e = refl
@@ -106,9 +106,9 @@ module _ (n xmax : ℕ) (ids : List ℕ) (count : ℕ) (own id : Txid) where
       go (Refuse r) b o e = absurd (false≢true e)
 
   -- a reader's own id is usable on every snapshot that is answered at all: listed, or at or above xmax
-  pub own-is-usable : count ≤ n → id.0 ≢ 0 → own.0 ≡ id.0 → usable_test n xmax ids count own id ≡ paper_usable Yes
+  pub own_is_usable : count ≤ n → id.0 ≢ 0 → own.0 ≡ id.0 → usable_test n xmax ids count own id ≡ paper_usable Yes
   unfolding usable_test
-  own-is-usable h z p =
+  own_is_usable h z p =
       rw (le-ltb n count h, ne_eqb id.0 0 z, eq-eqb own.0 id.0 p, or-true (settled_in xmax ids count id.0))
 
 -- no own id, no difference: it answers as the settled test does, refusals included

@@ -28,7 +28,7 @@ use Rattle.wait_rules.specs.declared.Owner.{Owner}
 use Rattle.wait_rules.specs.declared.Owner.TheVariants.{Holds}
 use Rattle.wait_rules.specs.Steps.{event_test, event_after}
 use Rattle.wait.specs.Waits.{entry_test, holder_test, steps_from, ended, verdict_on, answered, on_text, wait_of}
-use Rattle.wait_rules.proofs.Steps.{good-event, SlotStays, slot-stays, line_stays, pins_stay}
+use Rattle.wait_rules.proofs.Steps.{good_event, SlotStays, slot-stays, line_stays, pins_stay}
 
 went_on : (b : Bool) (v : Verdict) (r : Refusal) → cond b v (Refuse r) ≡ Pass → (b ≡ true) × (v ≡ Pass)
 went_on true v r e = (refl, e)
@@ -41,7 +41,7 @@ unfolding steps_from ended
 good-ended n owner t step [] g h = g
 good-ended n owner t step (e ∷ es) g h =
     let (a, b) = went_on (event_test n t owner e) _ _ h in
-    good-ended n owner (event_after t e) (step + 1) es (good-event n t g owner e a) b
+    good-ended n owner (event_after t e) (step + 1) es (good_event n t g owner e a) b
 
 -- .. the owner's slot as it was ..
 pub stays-ended : (n : ℕ) (slot : SlotNo) (id : Txid) (t : Table) (step : ℕ) (es : List Event)
@@ -108,9 +108,9 @@ module _ (n : ℕ) (t : Table) (owner : Owner) (s : List ℕ) where
           record { events = es; text = q; entry = passed_by (table_passes n t) _ a; holder = c; steps = d }
 
   -- beside a refusal stands the entry table
-  pub refused-entry : (r : Refusal) → (wait_of n t owner s).verdict ≡ Refuse r → (wait_of n t owner s).table ≡ t
+  pub refused_entry : (r : Refusal) → (wait_of n t owner s).verdict ≡ Refuse r → (wait_of n t owner s).table ≡ t
   unfolding wait_of
-  refused-entry r h = go (events_of s) h
+  refused_entry r h = go (events_of s) h
     where
       on : (v : Verdict) (es : List Event) → (answered v t es).verdict ≡ Refuse r → (answered v t es).table ≡ t
       on Pass es e = absurd (refuse_not_pass r (sym e))

@@ -64,8 +64,8 @@ module _ (t : Told) (xs : List ℕ) (h : 0 + length (verdict_lines t) ≤ length
       two : Placed xs 0 (answer ++ slot) zs q
       two = both_placed answer slot two-fit a b
 
-      pub id-fits : q + length id ≤ length zs
-      id-fits = fits_next (answer ++ slot) id three-fit two
+      pub id_fits : q + length id ≤ length zs
+      id_fits = fits_next (answer ++ slot) id three-fit two
 
       module _ {us : List ℕ} {r : ℕ} (c : Placed zs q id us r) where
         three : Placed xs 0 (answer ++ slot ++ id) us r
@@ -82,6 +82,6 @@ module _ (t : Told) (xs : List ℕ) (h : 0 + length (verdict_lines t) ≤ length
           unfolding verdict_lines
           at-fits = fits_next (answer ++ slot ++ id ++ seen) at h four
 
-          pub verdict-placed : {ws : List ℕ} {m : ℕ} → Placed vs k at ws m → Placed xs 0 (verdict_lines t) ws m
+          pub verdict_placed : {ws : List ℕ} {m : ℕ} → Placed vs k at ws m → Placed xs 0 (verdict_lines t) ws m
           unfolding verdict_lines
-          verdict-placed e = both_placed (answer ++ slot ++ id ++ seen) at h four e
+          verdict_placed e = both_placed (answer ++ slot ++ id ++ seen) at h four e

@@ -58,10 +58,10 @@ answer-put a e h f q w = put-after (verdict_lines (tells a.verdict)) (table_text
 
 -- a table's text that breaks a rule, and one that doesn't
 module _ (n : ℕ) (table : List ℕ) (owner : Owner) (wait : List ℕ) (r : TableRead) (e : r ≡ table_of n table) where
-  pub report-broken : (xs : List ℕ) {t : Told} {ys : List ℕ} {put : Put} → (r.broken ≡ 0 → ⊥) → t ≡ told (BadTrace r.broken)
+  pub report_broken : (xs : List ℕ) {t : Told} {ys : List ℕ} {put : Put} → (r.broken ≡ 0 → ⊥) → t ≡ told (BadTrace r.broken)
       → Puts xs (verdict_lines t) ys put → Puts xs (report_of n table owner wait) ys put
   unfolding report_of on_table
-  report-broken xs h q p = puts_same xs (rw (← e, q, ne_eqb r.broken 0 h)) p
+  report_broken xs h q p = puts_same xs (rw (← e, q, ne_eqb r.broken 0 h)) p
 
   pub report-whole : (xs : List ℕ) {a : WaitAnswer} {ys : List ℕ} {put : Put} → r.broken ≡ 0 → a ≡ wait_of n r.table owner wait
       → Puts xs (answer_text a) ys put → Puts xs (report_of n table owner wait) ys put

@@ -106,9 +106,9 @@ module _ (n : ℕ) (t : Table) (g : Good n t) where
       let o = observes (clock_of t) e.clock e.sample (passed_pass _ h) in
       good-applied n t (observed e.clock e.sample t.counters) g (counters-observed e.clock e.sample o) Stays tt
 
-  pub good-event : (owner : Owner) (e : Event) → event_test n t owner e ≡ true → Good n (event_after t e)
+  pub good_event : (owner : Owner) (e : Event) → event_test n t owner e ≡ true → Good n (event_after t e)
   unfolding event_test event_change
-  good-event owner e h = good-by owner e e.kind h
+  good_event owner e h = good-by owner e e.kind h
 
 -- slot i holds in u what it held in t
 pub record SlotStays (t u : Table) (i : ℕ) : Type 0 where
@@ -117,25 +117,25 @@ pub record SlotStays (t u : Table) (i : ℕ) : Type 0 where
 
 module _ (n : ℕ) (t : Table) (mine : SlotNo) (id : Txid) (e : Event) where
   -- an event that names a slot names another than the owner's
-  other-slot : may_name n (Holds mine id) e.slot ≡ true → mine.0 ≢ e.slot
-  other-slot h q = eqb-false e.slot mine.0 (not-true _ ((and-eq-true_iff (ltb e.slot n) _).0 h).1) (sym q)
+  other_slot : may_name n (Holds mine id) e.slot ≡ true → mine.0 ≢ e.slot
+  other_slot h q = eqb-false e.slot mine.0 (not-true _ ((and-eq-true_iff (ltb e.slot n) _).0 h).1) (sym q)
 
   stays_by : (k : Kind) → rule_of k n t (Holds mine id) e ≡ true → SlotStays t (applied t (change_by k t e)) mine.0
   unfolding rule_of register_rule end_rule horizon_rule change_by
   stays_by Register h =
-      let d = other-slot ((and-eq-true_iff (may_name n (Holds mine id) e.slot) _).0 h).0 in
+      let d = other_slot ((and-eq-true_iff (may_name n (Holds mine id) e.slot) _).0 h).0 in
       record {
         txid_stays = get_or-set_other t.txids e.slot mine.0 e.id 0 d;
         xmin_stays = get_or-set_other t.snapshot_xmins e.slot mine.0 e.id 0 d;
       }
   stays_by End h =
-      let d = other-slot ((and-eq-true_iff (may_name n (Holds mine id) e.slot) _).0 h).0 in
+      let d = other_slot ((and-eq-true_iff (may_name n (Holds mine id) e.slot) _).0 h).0 in
       record {
         txid_stays = get_or-set_other t.txids e.slot mine.0 0 0 d;
         xmin_stays = get_or-set_other t.snapshot_xmins e.slot mine.0 0 0 d;
       }
   stays_by Horizon h =
-      let d = other-slot ((and-eq-true_iff (may_name n (Holds mine id) e.slot) _).0 h).0 in
+      let d = other_slot ((and-eq-true_iff (may_name n (Holds mine id) e.slot) _).0 h).0 in
       record { txid_stays = refl; xmin_stays = get_or-set_other t.snapshot_xmins e.slot mine.0 e.xmin 0 d }
   stays_by Reserve h = record { txid_stays = refl; xmin_stays = refl }
   stays_by Observe h = record { txid_stays = refl; xmin_stays = refl }

@@ -4,7 +4,7 @@ use native.Mathlib.Omega.{arith}
 use lib.ListN.{length, drop}
 use borrow.Author.Rules.{rules}
 use Rattle.batch.specs.Batch.{judged_from}
-use Rattle.batch.proofs.Walk.{judged-next, judged-bad, judged-over}
+use Rattle.batch.proofs.Walk.{judged-next, judged_bad, judged_over}
 use Rattle.batch.proofs.judge.Goals as goal
 
 pub loop-i-init : goal.loop-i-init
@@ -18,7 +18,7 @@ loop-i-preserved c =
 pub returns-in-Refuse : goal.returns-in-Refuse
 returns-in-Refuse c =
     let bad = sym c.in-Refuse.is ∙ c.version_test-verdict.ensures in
-    sym (c.loop-i.invariant.1 ∙ judged-bad c.args.versions.now c.loop-i.i _ (omega arith) bad)
+    sym (c.loop-i.invariant.1 ∙ judged_bad c.args.versions.now c.loop-i.i _ (omega arith) bad)
 
 pub returns : goal.returns
-returns c = sym (c.loop-i.invariant.1 ∙ judged-over _ c.loop-i.i (omega arith))
+returns c = sym (c.loop-i.invariant.1 ∙ judged_over _ c.loop-i.i (omega arith))

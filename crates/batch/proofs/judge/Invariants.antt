@@ -5,7 +5,7 @@ use native.Mathlib.Omega.{arith}
 use lib.ListN.{length, drop}
 use borrow.Author.Rules.{rules}
 use Rattle.batch.specs.Batch.{judged_from}
-use Rattle.batch.proofs.Walk.{judged-next, judged-bad, judged-over}
+use Rattle.batch.proofs.Walk.{judged-next, judged_bad, judged_over}
 use Rattle.batch.proofs.judge.Given as goal
 
 abbrev pub invariant-loop-i : goal.invariant-loop-i

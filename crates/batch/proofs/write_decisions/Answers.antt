@@ -5,7 +5,7 @@ use lib.ListN.{length, drop, set, length-set}
 use lib.Seq.{sets}
 use borrow.Author.Rules.{rules}
 use Rattle.batch.specs.Batch.{decisions}
-use Rattle.batch.proofs.Walk.{front_sets, sets-next, sets_over}
+use Rattle.batch.proofs.Walk.{front_sets, sets_next, sets_over}
 use Rattle.batch.proofs.write_decisions.Goals as goal
 
 pub loop-i-init : goal.loop-i-init
@@ -19,7 +19,7 @@ loop-i-preserved c =
     let written = ap (λ (x : ℕ). sets (set l.run l.i x) (l.i + 1) rest) (sym c.decision-go.ensures) in (
       omega arith,
       length-set l.run l.i _ ∙ l.invariant.1,
-      l.invariant.2 ∙ sets-next a.versions.now l.i a.line l.run (omega arith) ∙ written,
+      l.invariant.2 ∙ sets_next a.versions.now l.i a.line l.run (omega arith) ∙ written,
     )
 
 pub shape_of-run : goal.shape_of-run

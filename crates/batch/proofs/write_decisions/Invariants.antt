@@ -6,7 +6,7 @@ use lib.ListN.{length, drop, set, length-set}
 use lib.Seq.{sets}
 use borrow.Author.Rules.{rules}
 use Rattle.batch.specs.Batch.{decisions}
-use Rattle.batch.proofs.Walk.{front_sets, sets-next, sets_over}
+use Rattle.batch.proofs.Walk.{front_sets, sets_next, sets_over}
 use Rattle.batch.proofs.write_decisions.Given as goal
 
 abbrev pub invariant-loop-i : goal.invariant-loop-i

@@ -4,7 +4,7 @@ use native.Mathlib.Omega.{arith}
 use borrow.Author.Rules.{rules}
 use lib.ListN.{length, drop}
 use Rattle.listed.specs.Listed.{listed}
-use Rattle.listed.proofs.Listed.{listed_here, listed-later, listed-over}
+use Rattle.listed.proofs.Listed.{listed_here, listed_later, listed_over}
 use Rattle.differ.proofs.stands_from.Goals as goal
 
 pub loop-i-init : goal.loop-i-init
@@ -20,10 +20,10 @@ pub loop-i-preserved : goal.loop-i-preserved
 loop-i-preserved c =
     let l = c.loop-i in
     let a = c.args in
-    l.invariant ∙ listed-later a.x a.txids.now l.i (omega arith) c.if-txids-i.false
+    l.invariant ∙ listed_later a.x a.txids.now l.i (omega arith) c.if-txids-i.false
 
 pub returns : goal.returns
 returns c =
     let l = c.loop-i in
     let a = c.args in
-    sym (l.invariant ∙ listed-over a.x a.txids.now l.i (omega arith))
+    sym (l.invariant ∙ listed_over a.x a.txids.now l.i (omega arith))

@@ -5,7 +5,7 @@ use native.Mathlib.Omega.{arith}
 use borrow.Author.Rules.{rules}
 use lib.ListN.{length, drop}
 use Rattle.listed.specs.Listed.{listed}
-use Rattle.listed.proofs.Listed.{listed_here, listed-later, listed-over}
+use Rattle.listed.proofs.Listed.{listed_here, listed_later, listed_over}
 use Rattle.differ.proofs.stands_from.Given as goal
 
 abbrev pub invariant-loop-i : goal.invariant-loop-i

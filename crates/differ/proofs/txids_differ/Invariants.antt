@@ -6,9 +6,9 @@ use native.Mathlib.Omega.{arith}
 use borrow.Author.Rules.{rules}
 use lib.ListN.{length, length-set, drop}
 use Rattle.model.specs.Check.{differ}
-use Rattle.differ.proofs.Rest.{differ-none}
-use Rattle.differ.proofs.Marks.{Marked, marked_none, unmarked-back, marked-back-empty, marked-back}
-use Rattle.differ.proofs.Marks.{differ-back-empty, differ-back-once, differ-back-twice}
+use Rattle.differ.proofs.Rest.{differ_none}
+use Rattle.differ.proofs.Marks.{Marked, marked_none, unmarked_back, marked_back_empty, marked_back}
+use Rattle.differ.proofs.Marks.{differ_back_empty, differ_back_once, differ_back_twice}
 use Rattle.differ.proofs.txids_differ.Given as goal
 
 abbrev pub invariant-loop-i : goal.invariant-loop-i

@@ -1,7 +1,7 @@
 -- The number is read off how the replay ended (crate's proofs/Answers.antt).
 use borrow.Author.Rules.{rules}
 use Rattle.exports.specs.Status.{done, refused, unwritten}
-use Rattle.exports.proofs.Answers.{all-is-trace, refused-is-none}
+use Rattle.exports.proofs.Answers.{all_is_trace, refused_is_none}
 use Rattle.exports.proofs.sockhurdle_replay_to.Statement.{statement}
 use Rattle.exports.proofs.sockhurdle_replay_to.Tie as tie
 
@@ -18,10 +18,10 @@ enum-told-3 : tie.Need-enum-told-3
 enum-told-3 c = search rules
 
 returns : tie.Need-returns
-returns c = done (all-is-trace c.before.before.replay-to.ensures c.enum_told.given.1)
+returns c = done (all_is_trace c.before.before.replay-to.ensures c.enum_told.given.1)
 
 returns-2 : tie.Need-returns-2
-returns-2 c = refused (refused-is-none c.before.before.replay-to.ensures c.enum-told2.given.1)
+returns-2 c = refused (refused_is_none c.before.before.replay-to.ensures c.enum-told2.given.1)
 
 returns-3 : tie.Need-returns-3
 returns-3 c = unwritten

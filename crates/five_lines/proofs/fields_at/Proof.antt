@@ -2,7 +2,7 @@
 -- What the five lines are together, once each is known, stands in FiveLines.antt.
 use native.Mathlib.Omega.{arith}
 use mathlib.Core.Path.{sym, ◌∙◌}
-use Rattle.text.proofs.FiveLines.{slot-fits, broken-slot, broken-id, broken-fourth, broken-clock, broken-sample, all-five}
+use Rattle.text.proofs.FiveLines.{slot-fits, broken_slot, broken_id, broken_fourth, broken_clock, broken_sample, all_five}
 use borrow.Author.Rules.{rules}
 use Rattle.five_lines.proofs.fields_at.Statement.{statement}
 use Rattle.five_lines.proofs.fields_at.Tie as tie
@@ -20,7 +20,7 @@ enum_told : tie.Need-enum-told
 enum_told c = c.match.keys2
 
 returns : tie.Need-returns
-returns c = sym (broken-slot _ _ _ _ (sym c.before.before.field-if.ensures ∙ c.enum_told.given.1))
+returns c = sym (broken_slot _ _ _ _ (sym c.before.before.field-if.ensures ∙ c.enum_told.given.1))
 
 slice-aggregate-field-if-2 : tie.Need-slice-aggregate-field-if-2
 slice-aggregate-field-if-2 c = search rules
@@ -37,7 +37,7 @@ enum-told-2 c = c.match2.keys2
 returns-2 : tie.Need-returns-2
 returns-2 c =
     let slot_read = c.before.before.before.before.before in
-    sym (broken-id _ _ _ _
+    sym (broken_id _ _ _ _
     (sym slot_read.before.before.field-if.ensures ∙ slot_read.slot.given.1)
     (sym c.before.before.field-if2.ensures ∙ c.enum-told2.given.1))
 
@@ -54,7 +54,7 @@ returns-3 : tie.Need-returns-3
 returns-3 c =
     let id-read = c.before.before.before.before in
     let slot_read = id-read.before.before.before.before.before in
-    sym (broken-fourth _ _ _ _
+    sym (broken_fourth _ _ _ _
     (sym slot_read.before.before.field-if.ensures ∙ slot_read.slot.given.1)
     (sym id-read.before.before.field-if2.ensures ∙ id-read.id.given.1)
     (sym c.before.before.field-if3.ensures ∙ c.enum-told3.given.1))
@@ -76,7 +76,7 @@ returns-4 c =
     let fourth-read = c.before.before.before.before.before in
     let id-read = fourth-read.before.before.before.before in
     let slot_read = id-read.before.before.before.before.before in
-    sym (broken-clock _ _ _ _
+    sym (broken_clock _ _ _ _
     (sym slot_read.before.before.field-if.ensures ∙ slot_read.slot.given.1)
     (sym id-read.before.before.field-if2.ensures ∙ id-read.id.given.1)
     (sym fourth-read.before.before.field-if3.ensures ∙ fourth-read.number.given.1)
@@ -100,7 +100,7 @@ returns-5 c =
     let fourth-read = clock-read.before.before.before.before.before in
     let id-read = fourth-read.before.before.before.before in
     let slot_read = id-read.before.before.before.before.before in
-    sym (broken-sample _ _ _ _
+    sym (broken_sample _ _ _ _
     (sym slot_read.before.before.field-if.ensures ∙ slot_read.slot.given.1)
     (sym id-read.before.before.field-if2.ensures ∙ id-read.id.given.1)
     (sym fourth-read.before.before.field-if3.ensures ∙ fourth-read.number.given.1)
@@ -123,7 +123,7 @@ returns-6 c =
     let fourth-read = clock-read.before.before.before.before.before in
     let id-read = fourth-read.before.before.before.before in
     let slot_read = id-read.before.before.before.before.before in
-    sym (all-five _ _ _ _
+    sym (all_five _ _ _ _
     (sym slot_read.before.before.field-if.ensures ∙ slot_read.slot.given.1)
     (sym id-read.before.before.field-if2.ensures ∙ id-read.id.given.1)
     (sym fourth-read.before.before.field-if3.ensures ∙ fourth-read.number.given.1)

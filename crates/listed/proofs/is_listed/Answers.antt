@@ -5,7 +5,7 @@ use native.Mathlib.Omega.{arith}
 use lib.ListN.{length, take}
 use borrow.Author.Rules.{rules}
 use Rattle.listed.specs.Listed.{listed}
-use Rattle.listed.proofs.Listed.{listed-miss, listed-hit, listed_more, listed_misses, listed_hits, listed_none_left}
+use Rattle.listed.proofs.Listed.{listed_miss, listed_hit, listed_more, listed_misses, listed_hits, listed_none_left}
 use Rattle.listed.proofs.is_listed.Goals as goal
 
 pub loop-i-init : goal.loop-i-init
@@ -36,14 +36,14 @@ pub returns-then-ids-i : goal.returns-then-ids-i
 returns-then-ids-i c =
     let i = c.loop-i-2.i in
     let a = c.args in
-    let here = listed-hit a.x a.ids.now i (omega arith) c.if-ids-i.true in
+    let here = listed_hit a.x a.ids.now i (omega arith) c.if-ids-i.true in
     sym (listed_more a.x a.ids.now (i + 1) a.count (omega arith) here)
 
 pub loop-i-2-preserved : goal.loop-i-2-preserved
 loop-i-2-preserved c =
     let l = c.loop-i-2 in
     let a = c.args in
-    (l.invariant.0, omega arith, listed-miss a.x a.ids.now l.i (omega arith) c.if-ids-i.false ∙ l.invariant.2)
+    (l.invariant.0, omega arith, listed_miss a.x a.ids.now l.i (omega arith) c.if-ids-i.false ∙ l.invariant.2)
 
 pub returns : goal.returns
 returns c =

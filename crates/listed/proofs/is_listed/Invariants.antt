@@ -7,7 +7,7 @@ use native.Mathlib.Omega.{arith}
 use lib.ListN.{length, take}
 use borrow.Author.Rules.{rules}
 use Rattle.listed.specs.Listed.{listed}
-use Rattle.listed.proofs.Listed.{listed-miss, listed-hit, listed_more, listed_misses, listed_hits, listed_none_left}
+use Rattle.listed.proofs.Listed.{listed_miss, listed_hit, listed_more, listed_misses, listed_hits, listed_none_left}
 use Rattle.listed.proofs.is_listed.Given as goal
 
 abbrev pub invariant-loop-i : goal.invariant-loop-i

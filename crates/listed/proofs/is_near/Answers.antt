@@ -1,5 +1,5 @@
 -- The tree of eight comparisons is `listed` of the eight places: `listed-near` in Listed.antt.
-use Rattle.listed.proofs.Listed.{listed-near}
+use Rattle.listed.proofs.Listed.{listed_near}
 use native.Mathlib.Omega.{arith}
 use borrow.Author.Rules.{rules}
 use Rattle.listed.proofs.is_near.Goals as goal
@@ -7,4 +7,4 @@ use Rattle.listed.proofs.is_near.Goals as goal
 pub returns : goal.returns
 returns c =
     let a = c.args in
-    listed-near a.x a.ids.now a.i (omega arith)
+    listed_near a.x a.ids.now a.i (omega arith)

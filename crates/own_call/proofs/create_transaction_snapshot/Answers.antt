@@ -2,11 +2,11 @@
 use mathlib.Core.Path.{refl, ◌∙◌}
 use native.Mathlib.Nat.{le_of_eq}
 use lib.ListN.{length-map}
-use Rattle.model.proofs.Lent.{slots-show, snapshot-outcome-of}
+use Rattle.model.proofs.Lent.{slots_show, snapshot_outcome_of}
 use borrow.Author.Rules.{rules}
 use Rattle.own_call.proofs.create_transaction_snapshot.Goals as goal
 
 pub returns : goal.returns
 returns c =
     let few = le_of_eq (c.well_formed.0.1.1.0.1.0.1) in
-    rw c.apply-next.ensures (snapshot-outcome-of _ _ _ (c.decide_own-decided.ensures ∙ slots-show _ _ _ few refl))
+    rw c.apply-next.ensures (snapshot_outcome_of _ _ _ (c.decide_own-decided.ensures ∙ slots_show _ _ _ few refl))

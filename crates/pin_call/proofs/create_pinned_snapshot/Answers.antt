@@ -2,11 +2,11 @@
 use mathlib.Core.Path.{refl, ◌∙◌}
 use native.Mathlib.Nat.{le_of_eq}
 use lib.ListN.{length-map}
-use Rattle.model.proofs.Lent.{lent-pins, snapshot-outcome-of}
+use Rattle.model.proofs.Lent.{lent-pins, snapshot_outcome_of}
 use borrow.Author.Rules.{rules}
 use Rattle.pin_call.proofs.create_pinned_snapshot.Goals as goal
 
 pub returns : goal.returns
 returns c =
     let few = le_of_eq (c.well_formed.0.1.1.0.1.0.1) in
-    rw c.apply-next.ensures (snapshot-outcome-of _ _ _ (c.decide_pin-decided.ensures ∙ lent-pins _ _ _ _ few))
+    rw c.apply-next.ensures (snapshot_outcome_of _ _ _ (c.decide_pin-decided.ensures ∙ lent-pins _ _ _ _ few))

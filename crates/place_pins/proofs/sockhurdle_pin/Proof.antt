@@ -2,9 +2,9 @@
 use mathlib.Core.Path.{refl, sym, ◌∙◌}
 use native.Mathlib.Omega.{arith}
 use lib.Seq.{length-take-le}
-use Rattle.place.proofs.Called.{listing_shaped, unfit, unfit-ids}
+use Rattle.place.proofs.Called.{listing_shaped, unfit, unfit_ids}
 use Rattle.place_answers.proofs.Listed.{refused, accepted}
-use Rattle.place_pins.proofs.Pinned.{pin-refused, none_free, pin-decided, pin-shown}
+use Rattle.place_pins.proofs.Pinned.{pin-refused, none_free, pin_decided, pin-shown}
 use borrow.Author.Rules.{rules}
 use Rattle.place_pins.proofs.sockhurdle_pin.Statement.{statement}
 use Rattle.place_pins.proofs.sockhurdle_pin.Tie as tie
@@ -17,7 +17,7 @@ returns c =
     let a = c.before.before.before.before.before.args in
     let e = c.before.list-shape.ensures in
     let same = unfit _ _ a.table.now _ e c.if1.true a.out.now in
-    (same.0, (same.1.0, (same.1.1, unfit-ids _ _ a.table.now _ e c.if1.true a.ids.now)))
+    (same.0, (same.1.0, (same.1.1, unfit_ids _ _ a.table.now _ e c.if1.true a.ids.now)))
 
 counters-in-requires : tie.Need-counters-in-requires
 counters-in-requires c κs = search rules
@@ -105,7 +105,7 @@ returns-3 c =
     let free = c.before.before.before.before.before.before.before.before.before.before.before.before.before.before.if2.true in
     let used = c.before.before.before.before.before.before.before.before.before.before.before.before.before.greater.ensures in
     let taken = c.before.before.before.before.before.before.before.before.before.before.take-into.ensures in
-    let decided = pin-decided _ a.table.now _ _ was passed low a.ids.now runs.places free c.before.before.before.before.before.before.before.observed.ensures used taken.0 in
+    let decided = pin_decided _ a.table.now _ _ was passed low a.ids.now runs.places free c.before.before.before.before.before.before.before.observed.ensures used taken.0 in
     let shows = pin-shown _ a.table.now _ _ was passed low free used in
     let told = c.before.before.before.before.give.ensures in
     accepted _ _ a.table.now _ a.out.now a.ids.now fit runs decided _ shows taken.0 told.0 told.1.0 told.1.1 taken.1

@@ -2,9 +2,9 @@
 use mathlib.Core.Path.{refl, sym, ◌∙◌}
 use native.Mathlib.Omega.{arith}
 use lib.Seq.{length-take-le}
-use Rattle.place.proofs.Called.{listing_shaped, unfit, unfit-ids}
+use Rattle.place.proofs.Called.{listing_shaped, unfit, unfit_ids}
 use Rattle.place_answers.proofs.Listed.{refused, accepted}
-use Rattle.place_snapshots.proofs.Decided.{own-test, own-decided, own-shown}
+use Rattle.place_snapshots.proofs.Decided.{own_test, own_decided, own-shown}
 use borrow.Author.Rules.{rules}
 use Rattle.place_snapshots.proofs.sockhurdle_own.Statement.{statement}
 use Rattle.place_snapshots.proofs.sockhurdle_own.Tie as tie
@@ -17,7 +17,7 @@ returns c =
     let a = c.before.before.before.before.before.args in
     let e = c.before.list-shape.ensures in
     let same = unfit _ _ a.table.now _ e c.if1.true a.out.now in
-    (same.0, (same.1.0, (same.1.1, unfit-ids _ _ a.table.now _ e c.if1.true a.ids.now)))
+    (same.0, (same.1.0, (same.1.1, unfit_ids _ _ a.table.now _ e c.if1.true a.ids.now)))
 
 counters-in-requires : tie.Need-counters-in-requires
 counters-in-requires c κs = search rules
@@ -49,7 +49,7 @@ returns-2 c =
     let fit = sym c.before.before.before.before.before.before.before.before.before.before.before.before.before.before.before.list-shape.ensures ∙ c.before.before.before.before.before.before.before.before.before.before.before.before.before.before.if1.false in
     let was = c.before.before.before.before.before.before.before.before.before.before.before.before.counters-in.ensures in
     let told = c.before.before.before.before.refuse.ensures in
-    let tested = own-test _ a.table.now _ _ was _ _ c.before.before.before.before.before.before.before.before.before.before.own-test.ensures ∙ c.before.before.before.before.before.before.before.before.verdict.given.1 in
+    let tested = own_test _ a.table.now _ _ was _ _ c.before.before.before.before.before.before.before.before.before.before.own-test.ensures ∙ c.before.before.before.before.before.before.before.before.verdict.given.1 in
     refused _ _ a.table.now _ a.out.now a.ids.now fit (listing_shaped _ _ _ _ fit) refl tested was told.0 told.1.0 told.1.1
 
 enum_told : tie.Need-enum-told
@@ -85,9 +85,9 @@ returns-3 c =
     let fit = sym c.before.before.before.before.before.before.before.before.before.before.before.before.before.before.before.before.before.before.before.before.list-shape.ensures ∙ c.before.before.before.before.before.before.before.before.before.before.before.before.before.before.before.before.before.before.before.if1.false in
     let runs = listing_shaped _ _ _ _ fit in
     let was = c.before.before.before.before.before.before.before.before.before.before.before.before.before.before.before.before.before.counters-in.ensures in
-    let passed = own-test _ a.table.now _ _ was _ _ c.before.before.before.before.before.before.before.before.before.before.before.before.before.before.before.own-test.ensures ∙ c.before.before.before.before.before.before.before.before.before.before.before.before.before.enum_told.given.1 in
+    let passed = own_test _ a.table.now _ _ was _ _ c.before.before.before.before.before.before.before.before.before.before.before.before.before.before.before.own-test.ensures ∙ c.before.before.before.before.before.before.before.before.before.before.before.before.before.enum_told.given.1 in
     let taken = c.before.before.before.before.before.before.before.before.before.before.take-into.ensures in
-    let decided = own-decided _ a.table.now _ _ was _ _ a.ids.now runs.places passed c.before.before.before.before.before.before.before.observed.ensures taken.0 in
+    let decided = own_decided _ a.table.now _ _ was _ _ a.ids.now runs.places passed c.before.before.before.before.before.before.before.observed.ensures taken.0 in
     let shows = own-shown _ a.table.now _ _ _ _ passed in
     let told = c.before.before.before.before.give.ensures in
     accepted _ _ a.table.now _ a.out.now a.ids.now fit runs decided _ shows taken.0 told.0 told.1.0 told.1.1 taken.1

@@ -2,9 +2,9 @@
 use mathlib.Core.Path.{refl, sym, ◌∙◌}
 use native.Mathlib.Omega.{arith}
 use lib.Seq.{length-take-le}
-use Rattle.place.proofs.Called.{listing_shaped, unfit, unfit-ids}
+use Rattle.place.proofs.Called.{listing_shaped, unfit, unfit_ids}
 use Rattle.place_answers.proofs.Listed.{refused, accepted}
-use Rattle.place_snapshots.proofs.Decided.{snap-test, snap-decided, snap-shown}
+use Rattle.place_snapshots.proofs.Decided.{snap_test, snap_decided, snap-shown}
 use borrow.Author.Rules.{rules}
 use Rattle.place_snapshots.proofs.sockhurdle_snap.Statement.{statement}
 use Rattle.place_snapshots.proofs.sockhurdle_snap.Tie as tie
@@ -17,7 +17,7 @@ returns c =
     let a = c.before.before.before.before.before.args in
     let e = c.before.list-shape.ensures in
     let same = unfit _ _ a.table.now _ e c.if1.true a.out.now in
-    (same.0, (same.1.0, (same.1.1, unfit-ids _ _ a.table.now _ e c.if1.true a.ids.now)))
+    (same.0, (same.1.0, (same.1.1, unfit_ids _ _ a.table.now _ e c.if1.true a.ids.now)))
 
 counters-in-requires : tie.Need-counters-in-requires
 counters-in-requires c κs = search rules
@@ -43,7 +43,7 @@ returns-2 c =
     let fit = sym c.before.before.before.before.before.before.before.before.before.before.before.before.before.before.list-shape.ensures ∙ c.before.before.before.before.before.before.before.before.before.before.before.before.before.if1.false in
     let was = c.before.before.before.before.before.before.before.before.before.before.before.counters-in.ensures in
     let told = c.before.before.before.before.refuse.ensures in
-    let tested = snap-test _ a.table.now _ _ was c.before.before.before.before.before.before.before.before.before.before.observation-test.ensures ∙ c.before.before.before.before.before.before.before.before.verdict.given.1 in
+    let tested = snap_test _ a.table.now _ _ was c.before.before.before.before.before.before.before.before.before.before.observation-test.ensures ∙ c.before.before.before.before.before.before.before.before.verdict.given.1 in
     refused _ _ a.table.now _ a.out.now a.ids.now fit (listing_shaped _ _ _ _ fit) refl tested was told.0 told.1.0 told.1.1
 
 enum_told : tie.Need-enum-told
@@ -78,8 +78,8 @@ returns-3 c =
     let a = c.before.before.before.before.before.before.before.before.before.before.before.before.before.before.before.before.before.before.before.before.before.before.before.args in
     let fit = sym c.before.before.before.before.before.before.before.before.before.before.before.before.before.before.before.before.before.before.before.list-shape.ensures ∙ c.before.before.before.before.before.before.before.before.before.before.before.before.before.before.before.before.before.before.if1.false in
     let was = c.before.before.before.before.before.before.before.before.before.before.before.before.before.before.before.before.counters-in.ensures in
-    let passed = snap-test _ a.table.now _ _ was c.before.before.before.before.before.before.before.before.before.before.before.before.before.before.before.observation-test.ensures ∙ c.before.before.before.before.before.before.before.before.before.before.before.before.before.enum_told.given.1 in
-    let decided = snap-decided _ a.table.now _ _ was passed c.before.before.before.before.before.before.before.observed.ensures in
+    let passed = snap_test _ a.table.now _ _ was c.before.before.before.before.before.before.before.before.before.before.before.before.before.before.before.observation-test.ensures ∙ c.before.before.before.before.before.before.before.before.before.before.before.before.before.enum_told.given.1 in
+    let decided = snap_decided _ a.table.now _ _ was passed c.before.before.before.before.before.before.before.observed.ensures in
     let shows = snap-shown _ a.table.now _ _ passed in
     let taken = c.before.before.before.before.before.before.before.before.before.before.take-into.ensures in
     let told = c.before.before.before.before.give.ensures in

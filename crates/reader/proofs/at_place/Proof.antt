@@ -2,7 +2,7 @@
 use denote.Ref.{Bor}
 use Rattle.hand_proofs.proofs.Words.{refl, ℕ, List, [], ◌∷◌, Ura, Heap, Lfts, Shares, RefT, u8, named, w64, vint, Typed, emp, fact_i}
 use Rattle.hand_proofs.proofs.Words.{World, Promise, promise, Proved, Call, Walk, world, proves, walks, ends, leaves, number, lent}
-use Rattle.hand_proofs.proofs.Words.{◌$◌, !, by, move, sets, local, agg, and_then, no_more, shuts-struct}
+use Rattle.hand_proofs.proofs.Words.{◌$◌, !, by, move, sets, local, agg, and_then, no_more, shuts_struct}
 use Rattle.reader.specs.Reader.{standing}
 use Rattle.reader.proofs.Reader.TheLaws as T'
 use Rattle.reader.proofs.Held.{Reading, spelled}
@@ -20,7 +20,7 @@ module _ {M : Type 1} {𝓤 : Ura M} {H : Heap 𝓤} (w : World {𝓤 = 𝓤} _)
     walk typed = λ l₀ l₁ l₂.
         -- [the tokens; what the arguments own; _0; _1; _2; ..]
         sets ! 2 (agg ! (and_then ! (local ! 2 refl) (and_then ! (local ! 2 refl) (no_more !)))) refl typed $
-        leaves ! 2 refl refl $ move ! (1 ∷ []) $ shuts-struct w ! (Reading κs.0) (standing s n) (spelled s ∷ [], (vint w64 n ∷ [], tt)) $
+        leaves ! 2 refl refl $ move ! (1 ∷ []) $ shuts_struct w ! (Reading κs.0) (standing s n) (spelled s ∷ [], (vint w64 n ∷ [], tt)) $
         by ! (ends w P y (T'.lowered (standing s n)) (standing s n) (tt, (tt, tt)) (fact_i 𝓤 _ (emp 𝓤) refl))
 
   meets : Proved w P f.Code.function

@@ -4,8 +4,8 @@
 use package.mir.Syntax.{erased}
 use Rattle.hand_proofs.proofs.Words.{◌≡◌, refl, ℕ, [], ◌∷◌, Ura, Heap, Lfts, Shares, named, w64, vint, Typed, usize, emp, id⊢, fact_i}
 use Rattle.hand_proofs.proofs.Words.{World, Promise, promise, Callee, Proved, Call, Walk, world, known, proves, walks, ends, leaves}
-use Rattle.hand_proofs.proofs.Words.{◌$◌, !, by, move, drop, first-only, sets, member, local, locals, of_opd, agg, and_then, no_more}
-use Rattle.hand_proofs.proofs.Words.{word, made, nil, hands_on, hands_none, calls_is, lands, opens-struct, twice}
+use Rattle.hand_proofs.proofs.Words.{◌$◌, !, by, move, drop, first_only, sets, member, local, locals, of_opd, agg, and_then, no_more}
+use Rattle.hand_proofs.proofs.Words.{word, made, nil, hands_on, hands_none, calls_is, lands, opens_struct, twice}
 use Rattle.trace.specs.contracts.RecordAt as F
 use Rattle.trace.proofs.RecordAt.TheLaws as F'
 use Rattle.trace_lines.proofs.record_at as g
@@ -14,8 +14,8 @@ use Rattle.reader.specs.declared.Reader.{Reader}
 use Rattle.reader.specs.declared.Step.{Step}
 use Rattle.reader.proofs.Reader.TheLaws as T'
 use Rattle.reader.proofs.Step.TheLaws as S'
-use Rattle.reader.proofs.Held.{Reading, IsReader, lft, spelled, a-reader, found, moved, made-step}
-use Rattle.reader.proofs.Held.{found-typed, reader-typed, step_typed, steps}
+use Rattle.reader.proofs.Held.{Reading, IsReader, lft, spelled, a_reader, found, moved, made_step}
+use Rattle.reader.proofs.Held.{found_typed, reader_typed, step_typed, steps}
 use Rattle.reader.proofs.place_past as h
 use Rattle.reader.proofs.next as f
 
@@ -56,13 +56,13 @@ module _ {M : Type 1} {𝓤 : Ura M} {H : Heap 𝓤} (w : World {𝓤 = 𝓤} _)
           -- [the tokens; what the reader owns; _0; ..; _8; ..]
           sets ! 2 (of_opd ! (member ! 2 refl refl)) refl (tt, typed.1.0) $
           sets ! 2 (of_opd ! (member ! 2 refl refl)) refl (tt, typed.1.1.0) $
-          first-only ! $ move ! (1 ∷ []) $ twice w ! (Reading κs.0) (T'.the_copy (lft κs.0)) r (T'.lowered r) $
-          opens-struct w ! (Reading κs.0) (T'.the_laws (lft κs.0)) (r.text, (r.at, tt)) (T'.lowered r) $
+          first_only ! $ move ! (1 ∷ []) $ twice w ! (Reading κs.0) (T'.the_copy (lft κs.0)) r (T'.lowered r) $
+          opens_struct w ! (Reading κs.0) (T'.the_laws (lft κs.0)) (r.text, (r.at, tt)) (T'.lowered r) $
           -- [what its text and place own; what the reader owns; the tokens; _0; ..]
           move ! (2 ∷ 0 ∷ []) $ hands_on w ! Parser to-parser $
           calls_is w ! Parser parser to-parser (nil 𝓤) (found_by r) (λ x ws. id⊢ 𝓤 _) (F'.lowers).val_is
           (locals ! 2 (refl, (refl, tt))) (λ x-is.
-          drop ! $ lands ! 2 refl (found-typed w (found_by r) x-is) $
+          drop ! $ lands ! 2 refl (found_typed w (found_by r) x-is) $
           -- [the tokens; what the reader owns; _0; ..]
           sets ! 2 (of_opd ! (member ! 2 refl refl)) refl (tt, typed.1.1.0) $
           hands_none w ! Past to-past (nil 𝓤)
@@ -73,9 +73,9 @@ module _ {M : Type 1} {𝓤 : Ura M} {H : Heap 𝓤} (w : World {𝓤 = 𝓤} _)
           drop ! $ drop ! $ lands ! 2 refl (tt, record { fits = n-is.1 }) $
           sets ! 2 (of_opd ! (member ! 2 refl refl)) refl (tt, typed.1.0) $
           sets ! 2 (agg ! (and_then ! (local ! 2 refl) (and_then ! (local ! 2 refl) (no_more !)))) refl
-          (reader-typed w κs.0 erased q q-is) $
+          (reader_typed w κs.0 erased q q-is) $
           sets ! 2 (agg ! (and_then ! (local ! 2 refl) (and_then ! (local ! 2 refl) (no_more !)))) refl
-          (step_typed w κs.0 (named 0) s (made-step κs.0 s x-is q-is)) $
+          (step_typed w κs.0 (named 0) s (made_step κs.0 s x-is q-is)) $
           leaves ! 2 refl refl $ move ! (1 ∷ 0 ∷ []) $ steps w ! κs.0 r (found_by r) n x-is n-is.1 $
           by ! (ends w P y (S'.lowered s) s (tt, tt) (fact_i 𝓤 _ (emp 𝓤) is-step))))
         where
@@ -84,7 +84,7 @@ module _ {M : Type 1} {𝓤 : Ura M} {H : Heap 𝓤} (w : World {𝓤 = 𝓤} _)
 
     meets : Proved w P f.Code.function
     meets =
-        walks w P f.Code.function (a-reader w, tt) (λ κs a t. t)
+        walks w P f.Code.function (a_reader w, tt) (λ κs a t. t)
         (λ κs qs bounds a g are typed h. walk κs qs a.0 are.0 typed.0)
 
 pub next_spec : {M : Type 1} → f.Statement.statement M

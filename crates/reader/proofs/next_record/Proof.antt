@@ -11,7 +11,7 @@ use Rattle.reader.specs.Reader.{standing, found_by, step_of}
 use Rattle.reader.specs.declared.Reader.{Reader}
 use Rattle.reader.proofs.Reader.TheLaws as T'
 use Rattle.reader.proofs.Step.TheLaws as S'
-use Rattle.reader.proofs.Held.{spelled, lft, found, found_of, found-typed, reader-typed, step_typed}
+use Rattle.reader.proofs.Held.{spelled, lft, found, found_of, found_typed, reader_typed, step_typed}
 use Rattle.reader.proofs.at_place as g
 use Rattle.reader.proofs.next as h
 use Rattle.reader.proofs.next_record as f
@@ -45,14 +45,14 @@ module _ {M : Type 1} {𝓤 : Ura M} {H : Heap 𝓤} (w : World {𝓤 = 𝓤} _)
           calls_is w ! Make make y (nil 𝓤) r (λ x ws. id⊢ 𝓤 _)
           (T'.lowers (lft κs.0)).val_is (locals ! 1 (refl, (refl, tt))) (λ r-is.
           -- [what the reader owns; the tokens; _0; ..]
-          lands ! 2 refl (reader-typed w κs.0 erased r r-is) $ move ! (1 ∷ 0 ∷ []) $
+          lands ! 2 refl (reader_typed w κs.0 erased r r-is) $ move ! (1 ∷ 0 ∷ []) $
           hands w ! Next to-next refl (nil 𝓤) $
           calls_is w ! Next next to-next (nil 𝓤) (step_of r) (λ x ws. id⊢ 𝓤 _)
           (S'.lowers (lft κs.0)).val_is (locals ! 1 (refl, tt)) (λ s-is.
           let x-is = found_of κs.0 (step_of r) s-is in
           -- [what the step owns; the tokens; _0; ..]
           drop ! $ lands ! 1 refl (step_typed w κs.0 erased (step_of r) s-is) $
-          sets ! 1 (of_opd ! (member ! 1 refl refl)) refl (found-typed w (found_by r) x-is) $
+          sets ! 1 (of_opd ! (member ! 1 refl refl)) refl (found_typed w (found_by r) x-is) $
           leaves ! 1 refl refl $ owned w ! (found w) (found_by r) (F'.lowered (found_by r)) x-is $
           by ! (ends w P y (F'.lowered (found_by r)) (found_by r) (tt, (tt, tt)) (fact_i 𝓤 _ (emp 𝓤) refl))))
 

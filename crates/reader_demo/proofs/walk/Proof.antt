@@ -9,7 +9,7 @@ use Rattle.hand_proofs.proofs.Words.{nil, hands_on, hands, calls_is, lands}
 use Rattle.reader.specs.Reader.{standing, step_of}
 use Rattle.reader.specs.declared.Reader.{Reader}
 use Rattle.reader.proofs.Reader.TheLaws as T'
-use Rattle.reader.proofs.Held.{lft, spelled, reader-typed}
+use Rattle.reader.proofs.Held.{lft, spelled, reader_typed}
 use Rattle.reader.proofs.at_place as g
 use Rattle.reader_demo.proofs.show_next as h
 use Rattle.reader_demo.proofs.walk as f
@@ -43,7 +43,7 @@ module _ {M : Type 1} {𝓤 : Ura M} {H : Heap 𝓤} (w : World {𝓤 = 𝓤} _)
       walk : Walk w P f.Code.function y
       walk = λ l₀ l₁ l₂ l₃ l₄ l₅ l₆ l₇ l₈ l₉.
           let spells = (T'.lowers (lft κs.0)).val_is in
-          let typed = reader-typed w κs.0 erased in
+          let typed = reader_typed w κs.0 erased in
           -- [the tokens; what the arguments own; _0; ..]: what is had is what `at_place` is handed
           hands_on w ! Make y $ calls_is w ! Make make y (nil 𝓤) r (λ x ws. id⊢ 𝓤 _) spells (locals ! 1 (refl, (refl, tt))) (λ is.
           -- [what the reader owns; the tokens; _0; ..], and so after each call

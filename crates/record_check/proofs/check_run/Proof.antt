@@ -11,7 +11,7 @@ use Rattle.hand_proofs.proofs.Words.{now}
 use Rattle.hand_proofs.proofs.Words.{vbool, Val, Room, slice_val, Is, emp, via, ent, fact, fact_i, id⊢}
 use Rattle.hand_proofs.proofs.Words.{World, Promise, promise, Callee, Proved, Call, Tokens, Reached, Walk, world, known, proves, walks}
 use Rattle.hand_proofs.proofs.Words.{ends, leaves, frame}
-use Rattle.hand_proofs.proofs.Words.{by_value, lent, truth, owned, made, ◌$◌, ◌∵◌, !, raw, qed, by, drop, move, first-only, at_ret, exec}
+use Rattle.hand_proofs.proofs.Words.{by_value, lent, truth, owned, made, ◌$◌, ◌∵◌, !, raw, qed, by, drop, move, first_only, at_ret, exec}
 use Rattle.hand_proofs.proofs.Words.{sets, sets_last, local, member, locals, of_opd, bin, constant, false_lit, no_more, first, branches}
 use Rattle.hand_proofs.proofs.Words.{hands, hands_none, calls, calls_last, lands, lands_last}
 use Rattle.record_check.specs.Run.{columns_of, gathered_passes, run_passes}
@@ -96,7 +96,7 @@ module _ {M : Type 1} {𝓤 : Ura M} {H : Heap 𝓤} (w : World {𝓤 = 𝓤} _)
           -- [the tokens; what the arguments own; _0; ..; _7; ..]
           sets ! 2 (of_opd ! (member ! 2 refl refl)) refl (tt, record { fits = room.0 }) $
           sets ! 2 (bin ! (local ! 2 refl) (constant ! count (lit< tt) (refl, refl)) tt) refl (tt, tt) $
-          first-only ! $ first ! $ branches ! (local ! 2 refl)
+          first_only ! $ first ! $ branches ! (local ! 2 refl)
           (λ h.
           let n = eqb→eq (length ys) count h in
           hands_none w ! None to_none (id⊢ 𝓤 (emp 𝓤)) (id⊢ 𝓤 (emp 𝓤)) $

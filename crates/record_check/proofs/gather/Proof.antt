@@ -16,9 +16,9 @@ use Rattle.hand_proofs.proofs.Words.{Ura, Heap, Env, Lfts, Shares, RefT, now, u6
 use Rattle.hand_proofs.proofs.Words.{Room, slice_val}
 use Rattle.hand_proofs.proofs.Words.{Is, Fml, fat, froom, full_share, emp, fact_i, id⊢, World, Promise, promise, Callee, Proved, Call}
 use Rattle.hand_proofs.proofs.Words.{Tokens, Reached, Walk}
-use Rattle.hand_proofs.proofs.Words.{world, known, proves, walks-if, ends, leaves, frame, deaths, cells, by_value, lent, word, owned, made}
-use Rattle.hand_proofs.proofs.Words.{Item, ◌$◌, !, ‵, raw, ◌⊛◌, by, move, drop, use1, split, rewrite, back, first-only, empties}
-use Rattle.hand_proofs.proofs.Words.{local, member, through, locals, sets, resets, resets-last, assigns, store_raw, of_opd, bin, lit}
+use Rattle.hand_proofs.proofs.Words.{world, known, proves, walks_if, ends, leaves, frame, deaths, cells, by_value, lent, word, owned, made}
+use Rattle.hand_proofs.proofs.Words.{Item, ◌$◌, !, ‵, raw, ◌⊛◌, by, move, drop, use1, split, rewrite, back, first_only, empties}
+use Rattle.hand_proofs.proofs.Words.{local, member, through, locals, sets, resets, resets_last, assigns, store_raw, of_opd, bin, lit}
 use Rattle.hand_proofs.proofs.Words.{addr, agg, and_then}
 use Rattle.hand_proofs.proofs.Words.{no_more, from, stop, hands, calls, lands, spreads, gathers, takes, puts}
 use Rattle.hand_proofs.proofs.Words.{Turn, goes_on, rounds, stays, leaves_loop, exec, at_ret}
@@ -178,7 +178,7 @@ module _ {M : Type 1} {𝓤 : Ura M} {H : Heap 𝓤} (w : World {𝓤 = 𝓤} _)
           takes w (word w) ! 6 st.zs l₄ st.i 0 lz refl $
           assigns ! (of_opd ! (member ! 3 refl refl)) (through ! 3 refl) (store_raw ! 0 refl (tt, record { fits = (fit r m ris).1 })) $
           puts w (word w) ! 6 st.zs l₄ st.i r.snapshot_xmin (vint w64 r.snapshot_xmin) lz (refl, (fit r m ris).1) refl $
-          resets-last ! 2 (bin ! (local ! 2 refl) (lit ! tt) (record { fits = i-next })) refl (tt, record { fits = i-next }) $
+          resets_last ! 2 (bin ! (local ! 2 refl) (lit ! tt) (record { fits = i-next })) refl (tt, record { fits = i-next }) $
           empties ! 8 7 refl $
           goes_on w I left ! st (after st l lx lz r read) (omega (arith, l)))
         where
@@ -232,7 +232,7 @@ module _ {M : Type 1} {𝓤 : Ura M} {H : Heap 𝓤} (w : World {𝓤 = 𝓤} _)
         -- [the tokens; what the arguments own; _0; ..; _14; ..]
         sets ! 2 (of_opd ! (member ! 2 refl refl)) refl ((column w).lawful.typed xs₀ _ owed.0).0 $
         sets ! 2 (of_opd ! (member ! 2 refl refl)) refl ((column w).lawful.typed zs₀ _ owed.1.0).0 $
-        sets ! 2 (of_opd ! (lit ! tt)) refl (tt, record { fits = lit< tt }) $ first-only ! $ empties ! 4 1 refl $
+        sets ! 2 (of_opd ! (lit ! tt)) refl (tt, record { fits = lit< tt }) $ first_only ! $ empties ! 4 1 refl $
         move ! (5 ∷ []) $ spreads w (word w) ! tt count xs₀ l₃ _ owed.0 $ back ! 5 $
         move ! (6 ∷ []) $ spreads w (word w) ! tt count zs₀ l₄ _ owed.1.0 $ back ! 6 $
         rounds w (I l₀ l₁ l₂ l₃ l₄ l₅ l₆ l₇ l₈ l₉ l₁₀ l₁₁ l₁₂ l₁₃ l₁₄) left (E l₀ l₁ l₂ l₃ l₄ l₅ l₆ l₇ l₈ l₉ l₁₀ l₁₁ l₁₂ l₁₃ l₁₄)
@@ -250,7 +250,7 @@ module _ {M : Type 1} {𝓤 : Ura M} {H : Heap 𝓤} (w : World {𝓤 = 𝓤} _)
 
   meets : Callee w At g.Symbol.name → Proved w P f.Code.function
   meets slot_at =
-      walks-if w P f.Code.function (lent w 0 tt T.the_row, (by_value w (columns w) (λ κs x f. refl), tt)) (λ κs a t. t)
+      walks_if w P f.Code.function (lent w 0 tt T.the_row, (by_value w (columns w) (λ κs x f. refl), tt)) (λ κs a t. t)
       (λ κs a g. length (now a.0) ≡ length a.1.0.txids) (λ κs a g. id⊢ 𝓤 _)
       (λ κs qs bounds a g are typed e. walk slot_at κs qs a.0 a.1.0 are.1.0 are.0.0.1 (e ∙ long a.1.0 _ are.1.0))
 

@@ -5,8 +5,8 @@ use lib.ListN.{length, get_or}
 use native.Mathlib.Omega.{arith}
 use Rattle.hand_proofs.proofs.Words.{refl, ℕ, ◌*◌, ◌<◌, ◌^◌, List, [], ◌∷◌, Ura, Heap, Lfts, Shares, RefT, now, w64, vint, Val, Room}
 use Rattle.hand_proofs.proofs.Words.{slice_val}
-use Rattle.hand_proofs.proofs.Words.{emp, id⊢, fact_i, World, Promise, promise, Proved, Call, Walk, world, proves, walks-if, ends, leaves}
-use Rattle.hand_proofs.proofs.Words.{number, lent, owned, ◌$◌, !, by, first-only, sets, local, member, through, of_opd, bin, lit, load}
+use Rattle.hand_proofs.proofs.Words.{emp, id⊢, fact_i, World, Promise, promise, Proved, Call, Walk, world, proves, walks_if, ends, leaves}
+use Rattle.hand_proofs.proofs.Words.{number, lent, owned, ◌$◌, !, by, first_only, sets, local, member, through, of_opd, bin, lit, load}
 use Rattle.hand_proofs.proofs.Words.{look_raw, looks, shuts}
 use Rattle.record_check.specs.Run.{empty_slot}
 use Rattle.record_check.specs.declared.Slot.{Slot}
@@ -39,7 +39,7 @@ module _ {M : Type 1} {𝓤 : Ura M} {H : Heap 𝓤} (w : World {𝓤 = 𝓤} _)
         -- [the tokens; what the arguments own; _0; ..; _5; ..]
         sets ! 2 (bin ! (local ! 2 refl) (lit ! tt) (record { fits = small })) refl (tt, record { fits = small }) $
         sets ! 2 (bin ! (member ! 2 refl refl) (local ! 2 refl) tt) refl (tt, tt) $
-        first-only ! $ looks w (slot w) κs.0 qs.0 ! tt x i empty_slot l (λ s is.
+        first_only ! $ looks w (slot w) κs.0 qs.0 ! tt x i empty_slot l (λ s is.
         -- [the record; what shuts the run; _0; ..; _5; ..]
         let typed = ((slot w).lawful.typed r (v ∷ []) is).0 in
         sets ! 2 (of_opd ! (load ! (through ! 2 refl) (look_raw ! 0 refl))) refl typed $ sets ! 2 (of_opd ! (local ! 2 refl)) refl typed $
@@ -50,7 +50,7 @@ module _ {M : Type 1} {𝓤 : Ura M} {H : Heap 𝓤} (w : World {𝓤 = 𝓤} _)
         small = bytes_fit i (length (now x)) l room.1
 
   meets : Proved w P f.Code.function
-  meets = walks-if w P f.Code.function (lent w 0 tt T.the_row, (number w, tt)) (λ κs a t. t)
+  meets = walks_if w P f.Code.function (lent w 0 tt T.the_row, (number w, tt)) (λ κs a t. t)
       (λ κs a g. a.1.0 < length (now a.0)) (λ κs a g. id⊢ 𝓤 _)
       (λ κs qs bounds a g are typed l. walk κs qs a.0 a.1.0 are.0.0.1 l)
 

@@ -4,10 +4,10 @@ use Prim.Native.Nat.{◌-◌}
 use mathlib.Core.Path.{◌≡◌, refl, sym, ap, ◌∙◌}
 use native.Mathlib.Omega.{arith}
 use lib.ListN.{length, length-map}
-use Rattle.model.proofs.Stores.{stored-txid-long, stored-xmin-long, stored-pin-long, stored_applied}
+use Rattle.model.proofs.Stores.{stored_txid_long, stored_xmin_long, stored_pin_long, stored_applied}
 use Rattle.trace.proofs.Shape.{any_facts}
 use Rattle.trace.proofs.Answers.{record_is}
-use Rattle.replay_part.proofs.Running.{Running, ran_there, running-start, running_more, running-broken, running-full, running-over}
+use Rattle.replay_part.proofs.Running.{Running, ran_there, running_start, running_more, running_broken, running_full, running_over}
 use borrow.Author.Rules.{rules}
 use Rattle.replay_part.proofs.run_part.Statement.{statement}
 use Rattle.replay_part.proofs.run_part.Tie as tie
@@ -24,7 +24,7 @@ abbrev decreases-loop : tie.decreases-loop
 decreases-loop version s from buf₀ t₀ at₀ filled₀ buf t at filled = length s - at
 
 loop-holds : tie.Need-loop-init invariant-loop decreases-loop
-loop-holds c = (refl, refl, refl, refl, running-start _ _ _ _ _ _ refl)
+loop-holds c = (refl, refl, refl, refl, running_start _ _ _ _ _ _ refl)
 
 next-record-requires : tie.Need-next-record-requires invariant-loop decreases-loop
 next-record-requires c κs = search rules
@@ -45,7 +45,7 @@ returns c =
     let l = looped.loop in
     let size = simp length-map at looped.before.before.before.well-formed.1.1.1.0.1.1.0.1.0.1 in
     let broken = sym asked.next-record.ensures ∙ c.enum_told.given.1 in
-    running-broken _ _ _ _ _ _ (rw size at l.invariant.4) asked.before.loop-test.true broken
+    running_broken _ _ _ _ _ _ (rw size at l.invariant.4) asked.before.loop-test.true broken
 
 run-record-requires : tie.Need-run-record-requires invariant-loop decreases-loop
 run-record-requires c κs = search rules
@@ -74,7 +74,7 @@ returns-2 c =
     let q = sym found.before.before.next-record.ensures ∙ found.found.given.1 in
     let o = ran.run-record.ensures in
     let there = ran_there {t = l.t} (l.invariant.1 ∙ size) o.0 o.1 in
-    running-full _ _ _ _ _ _ (rw size at l.invariant.4) _ _ q there c.enum-told2.given.1
+    running_full _ _ _ _ _ _ (rw size at l.invariant.4) _ _ q there c.enum-told2.given.1
 
 store-txid-requires : tie.Need-store-txid-requires invariant-loop decreases-loop
 store-txid-requires c κs = search rules
@@ -120,9 +120,9 @@ loop-again c =
     let txids = l.invariant.1 ∙ size in
     let xmins = l.invariant.2 ∙ size' in
     let pins = l.invariant.3 ∙ size'' in
-    let long = ap length one ∙ stored-txid-long _ _ txids _ in
-    let long' = ap length two ∙ stored-xmin-long _ _ xmins _ in
-    let long'' = ap length three ∙ stored-pin-long _ pins _ in (
+    let long = ap length one ∙ stored_txid_long _ _ txids _ in
+    let long' = ap length two ∙ stored_xmin_long _ _ xmins _ in
+    let long'' = ap length three ∙ stored_pin_long _ pins _ in (
       kept ∙ l.invariant.0,
       long ∙ l.invariant.1,
       long' ∙ l.invariant.2,
@@ -143,7 +143,7 @@ returns-3 c =
     let l = c.before.loop in
     let s = c.before.before.before.before in
     let size = simp length-map at s.well-formed.1.1.1.0.1.1.0.1.0.1 in
-    running-over _ _ _ _ _ _ (rw size at l.invariant.4) c.loop-test.false
+    running_over _ _ _ _ _ _ (rw size at l.invariant.4) c.loop-test.false
 
 pub run_part_spec : {M : Type 1} → statement M
 run_part_spec =

@@ -4,7 +4,7 @@ use mathlib.Core.Path.{◌≡◌, sym, ◌∙◌}
 use native.Mathlib.Omega.{arith}
 use lib.ListN.{length, drop}
 use Rattle.rows_measure.specs.Measuring.{records_of, too_long, sized, measured}
-use Rattle.rows_measure.proofs.Walking.{measure-good, measure-bad, measure-over}
+use Rattle.rows_measure.proofs.Walking.{measure-good, measure_bad, measure_over}
 use borrow.Author.Rules.{rules}
 use Rattle.rows_measure.proofs.measure.Statement.{statement}
 use Rattle.rows_measure.proofs.measure.Tie as tie
@@ -68,13 +68,13 @@ returns c =
     let l = asked.before.before.before.loop in
     let a = asked.before.before.before.before.before.args in
     let e = sym c.enum_told.given.1 ∙ asked.row_Under.ensures in
-    sym (l.invariant.2 ∙ measure-bad a.version a.rows.now l.i l.total (omega arith) e)
+    sym (l.invariant.2 ∙ measure_bad a.version a.rows.now l.i l.total (omega arith) e)
 
 returns-2 : tie.Need-returns-2 invariant-loop decreases-loop
 returns-2 c =
     let l = c.before.loop in
     let a = c.before.before.before.args in
-    sym (l.invariant.2 ∙ measure-over a.version a.rows.now l.i l.total l.invariant.1 (omega arith))
+    sym (l.invariant.2 ∙ measure_over a.version a.rows.now l.i l.total l.invariant.1 (omega arith))
 
 pub measure_spec : {M : Type 1} → statement M
 measure_spec =

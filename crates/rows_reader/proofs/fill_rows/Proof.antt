@@ -4,12 +4,12 @@ use mathlib.Core.Path.{◌≡◌, refl, sym, ◌∙◌}
 use native.Mathlib.Omega.{arith}
 use lib.ListN.{length, length-set}
 use Rattle.trace.specs.Trace.{first_record, records_from}
-use Rattle.grammar.proofs.Walk.{next-item, none-broken}
+use Rattle.grammar.proofs.Walk.{next_item, none_broken}
 use Rattle.trace.specs.Record.{any_form}
 use Rattle.trace.proofs.Shape.{any_facts}
 use Rattle.trace.proofs.Answers.{record_is}
 use Rattle.rows_reader.specs.Reading.{rows_of, in_front}
-use Rattle.rows_reader.proofs.Filling.{Filled, filled-start, row_room, filled_next, filled-over}
+use Rattle.rows_reader.proofs.Filling.{Filled, filled_start, row_room, filled_next, filled_over}
 use borrow.Author.Rules.{rules}
 use Rattle.rows_reader.proofs.fill_rows.Statement.{statement}
 use Rattle.rows_reader.proofs.fill_rows.Tie as tie
@@ -28,7 +28,7 @@ loop-holds : tie.Need-loop-init invariant-loop decreases-loop
 loop-holds c =
     let s = c.before.before in
     let a = s.args in
-    (refl, rw c.first-record.ensures (filled-start a.s.now a.rows.now first_record s.requires.0 s.requires.1))
+    (refl, rw c.first-record.ensures (filled_start a.s.now a.rows.now first_record s.requires.0 s.requires.1))
 
 record-at-requires : tie.Need-record-at-requires invariant-loop decreases-loop
 record-at-requires c κs = search rules
@@ -61,7 +61,7 @@ loop-less c =
     let l = asked.before.before.loop in
     let s = asked.before.before.before.before.before.args.s.now in
     let q = sym asked.record-at.ensures ∙ found.found.given.1 in
-    let n = next-item any_form any_facts s l.at _ _ l.invariant.1.boundary (record_is s l.at q) in
+    let n = next_item any_form any_facts s l.at _ _ l.invariant.1.boundary (record_is s l.at q) in
     omega (arith, n.further, n.inside)
 
 loop-again : tie.Need-loop-preserved invariant-loop decreases-loop
@@ -85,7 +85,7 @@ returns c =
     let l = asked.before.before.loop in
     let s = asked.before.before.before.before.before.args.s.now in
     let q = sym asked.record-at.ensures ∙ c.enum_told.given.1 in
-    absurd (none-broken any_form any_facts s l.at _ l.invariant.1.boundary asked.before.loop-test.true (record_is s l.at q))
+    absurd (none_broken any_form any_facts s l.at _ l.invariant.1.boundary asked.before.loop-test.true (record_is s l.at q))
 
 same-length-2 : tie.Need-same-length-2 invariant-loop decreases-loop
 same-length-2 c = c.before.loop.invariant.0
@@ -93,7 +93,7 @@ same-length-2 c = c.before.loop.invariant.0
 returns-2 : tie.Need-returns-2 invariant-loop decreases-loop
 returns-2 c =
     let l = c.before.loop in
-    filled-over c.before.before.before.before.args.s.now _ l.rows l.at l.i c.loop-test.false l.invariant.1
+    filled_over c.before.before.before.before.args.s.now _ l.rows l.at l.i c.loop-test.false l.invariant.1
 
 pub fill_rows_spec : {M : Type 1} → statement M
 fill_rows_spec =

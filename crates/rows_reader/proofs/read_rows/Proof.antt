@@ -3,8 +3,8 @@ use mathlib.Core.Path.{sym, ◌∙◌}
 use Rattle.grammar.proofs.Laws.{opened}
 use Rattle.trace.specs.Trace.{trace_grammar}
 use Rattle.trace.proofs.Shape.{trace_grammar_lem}
-use Rattle.trace.proofs.Answers.{reading-is}
-use Rattle.rows_reader.proofs.Answering.{read-broken, read_short, room-read, read_whole}
+use Rattle.trace.proofs.Answers.{reading_is}
+use Rattle.rows_reader.proofs.Answering.{read_broken, read_short, room_read, read_whole}
 use borrow.Author.Rules.{rules}
 use Rattle.rows_reader.proofs.read_rows.Statement.{statement}
 use Rattle.rows_reader.proofs.read_rows.Tie as tie
@@ -32,8 +32,8 @@ fill-rows-requires c κs =
     let asked = known.before.before in
     let a = asked.before.before.args in
     let e = sym asked.read-trace.ensures ∙ known.reading2.given.1 in
-    let o = opened trace_grammar trace_grammar_lem a.s.now _ _ (reading-is _ e) in
-    (o.boundary, room-read a.s.now a.rows.now _ _ e c.before.if1.false)
+    let o = opened trace_grammar trace_grammar_lem a.s.now _ _ (reading_is _ e) in
+    (o.boundary, room_read a.s.now a.rows.now _ _ e c.before.if1.false)
 
 returns-2 : tie.Need-returns-2
 returns-2 c =
@@ -41,7 +41,7 @@ returns-2 c =
     let asked = known.before.before in
     let a = asked.before.before.args in
     let e = sym asked.read-trace.ensures ∙ known.reading.given.1 in
-    read-broken a.s.now a.rows.now _ e
+    read_broken a.s.now a.rows.now _ e
 
 same_length : tie.Need-same-length
 same_length c = search rules

@@ -3,7 +3,7 @@ use mathlib.Core.Path.{◌≡◌, refl, sym, ◌∙◌}
 use native.Mathlib.Omega.{arith}
 use lib.ListN.{length, drop}
 use Rattle.same_bytes.specs.Same.{equal_bytes}
-use Rattle.same_bytes.proofs.Equal.{other_length, same_here, differs-here, both_over}
+use Rattle.same_bytes.proofs.Equal.{other_length, same_here, differs_here, both_over}
 use borrow.Author.Rules.{rules}
 use Rattle.same_bytes.proofs.same_bytes.Goals as goal
 
@@ -17,7 +17,7 @@ pub returns-then-a-i : goal.returns-then-a-i
 returns-then-a-i c =
     let loop = c.loop-i in
     let a = c.args in
-    sym (loop.invariant.2 ∙ differs-here a.a.now a.b.now loop.i (omega arith) (omega (arith, loop.invariant.1)) c.if-a-i.true)
+    sym (loop.invariant.2 ∙ differs_here a.a.now a.b.now loop.i (omega arith) (omega (arith, loop.invariant.1)) c.if-a-i.true)
 
 pub loop-i-preserved : goal.loop-i-preserved
 loop-i-preserved c =

@@ -3,7 +3,7 @@ use Prim.Native.Nat.{ℕ}
 use mathlib.Core.Path.{ap, ◌∙◌}
 use lib.ListN.{length-replicate}
 use Rattle.same_bytes.specs.Same.{equal_bytes}
-use Rattle.second_text.proofs.Printed.{never-full, end_is, front-is, front-count, front-inside}
+use Rattle.second_text.proofs.Printed.{never_full, end_is, front_is, front_count, front_inside}
 use borrow.Author.Rules.{rules}
 use Rattle.second_text.proofs.record_agrees.Statement.{statement}
 use Rattle.second_text.proofs.record_agrees.Tie as tie
@@ -30,7 +30,7 @@ array-share-prefix-buf c =
     let said = wrote.before.before.before.before.before.answer-to.ensures in
     let o = wrote.put-answer.ensures in
     let end = end_is _ _ _ _ said _ (length-replicate {A = ℕ} _ 0) o.0 known.put.given.1 in
-    front-inside _ _ _ _ said _ (length-replicate {A = ℕ} _ 0) o.1 end
+    front_inside _ _ _ _ said _ (length-replicate {A = ℕ} _ 0) o.1 end
 
 slice-aggregate-same-bytes : tie.Need-slice-aggregate-same-bytes
 slice-aggregate-same-bytes c =
@@ -39,7 +39,7 @@ slice-aggregate-same-bytes c =
     let said = wrote.before.before.before.before.before.answer-to.ensures in
     let o = wrote.put-answer.ensures in
     let end = end_is _ _ _ _ said _ (length-replicate {A = ℕ} _ 0) o.0 known.put.given.1 in
-    front-count _ _ _ _ said _ (length-replicate {A = ℕ} _ 0) o.1 end
+    front_count _ _ _ _ said _ (length-replicate {A = ℕ} _ 0) o.1 end
 
 same-bytes-requires : tie.Need-same-bytes-requires
 same-bytes-requires c κs = search rules
@@ -54,13 +54,13 @@ returns c =
     let said = wrote.before.before.before.before.before.answer-to.ensures in
     let o = wrote.put-answer.ensures in
     let end = end_is _ _ _ _ said _ (length-replicate {A = ℕ} _ 0) o.0 known.put.given.1 in
-    c.same_bytes.ensures ∙ ap (equal_bytes _) (front-is _ _ _ _ said _ (length-replicate {A = ℕ} _ 0) o.1 end)
+    c.same_bytes.ensures ∙ ap (equal_bytes _) (front_is _ _ _ _ said _ (length-replicate {A = ℕ} _ 0) o.1 end)
 
 returns-2 : tie.Need-returns-2
 returns-2 c =
     let wrote = c.before.before.before in
     let said = wrote.before.before.before.before.before.answer-to.ensures in
-    absurd (never-full _ _ _ _ said _ (length-replicate {A = ℕ} _ 0) wrote.put-answer.ensures.0 c.enum_told.given.1)
+    absurd (never_full _ _ _ _ said _ (length-replicate {A = ℕ} _ 0) wrote.put-answer.ensures.0 c.enum_told.given.1)
 
 pub record_agrees_spec : {M : Type 1} → statement M
 record_agrees_spec =

@@ -2,7 +2,7 @@
 -- proofs/Accepted.antt).
 use mathlib.Core.Path.{refl, sym, ◌∙◌}
 use Rattle.model.specs.Calls.{refusal}
-use Rattle.model.proofs.Decides.{refused-decides}
+use Rattle.model.proofs.Decides.{refused_decides}
 use Rattle.stamp_call.proofs.Accepted.{stamp-accepted}
 use borrow.Author.Rules.{rules}
 use Rattle.stamp_call.proofs.decide_stamp.Goals as goal
@@ -10,7 +10,7 @@ use Rattle.stamp_call.proofs.decide_stamp.Goals as goal
 pub returns-in-Refuse : goal.returns-in-Refuse
 unfolding refusal
 returns-in-Refuse c =
-    refused-decides _ _ _ refl (sym c.reservation_test-verdict.ensures ∙ c.in-Refuse.is)
+    refused_decides _ _ _ refl (sym c.reservation_test-verdict.ensures ∙ c.in-Refuse.is)
 
 pub returns-in-Pass : goal.returns-in-Pass
 returns-in-Pass c =

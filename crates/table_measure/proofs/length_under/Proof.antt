@@ -3,7 +3,7 @@ use Prim.Native.Nat.{◌+◌, ◌-◌, ◌*◌, ◌≤◌}
 use mathlib.Core.Path.{◌≡◌, ap}
 use lib.ListN.{length}
 use Rattle.table_text.specs.TableText.{lines_under}
-use Rattle.table_measure.proofs.Walk.{under, none-counted, here-length, under-over}
+use Rattle.table_measure.proofs.Walk.{under, none_counted, here_length, under_over}
 use native.Mathlib.Omega.{arith}
 use borrow.Author.Rules.{rules}
 use Rattle.table_measure.proofs.length_under.Statement.{statement}
@@ -19,7 +19,7 @@ decreases-loop txids xmins pins counters total₀ i₀ total i = length txids - 
 loop-holds : tie.Need-loop-init invariant-loop decreases-loop
 loop-holds c =
     let a = c.before.before.before.args in
-    (omega arith, omega arith, none-counted a.txids.now a.xmins.now a.pins.now a.counters)
+    (omega arith, omega arith, none_counted a.txids.now a.xmins.now a.pins.now a.counters)
 
 mul-txid : tie.Need-overflow-mul-txid invariant-loop decreases-loop
 mul-txid c = search rules
@@ -53,7 +53,7 @@ loop-again c =
     let l = looped.loop in
     let a = looped.before.before.before.before.args in
     let more = c.slot-length.ensures in
-    let here = here-length a.txids.now a.xmins.now a.pins.now a.counters l.i (omega arith) (omega arith) in
+    let here = here_length a.txids.now a.xmins.now a.pins.now a.counters l.i (omega arith) (omega arith) in
     (omega arith, omega (arith, l.invariant.1, more.1), omega (arith, l.invariant.2, more.0, here))
 
 pins-length-requires : tie.Need-pins-length-requires invariant-loop decreases-loop
@@ -68,7 +68,7 @@ returns c =
     let l = c.before.before.loop in
     let a = c.before.before.before.before.before.before.args in
     let more = c.pins-length.ensures in
-    let over = ap length (under-over a.txids.now a.xmins.now a.pins.now a.counters l.i (omega arith) (omega arith)) in
+    let over = ap length (under_over a.txids.now a.xmins.now a.pins.now a.counters l.i (omega arith) (omega arith)) in
     (omega (arith, l.invariant.2, more.0, over), omega (arith, l.invariant.1, more.1))
 
 pub length_under_spec : {M : Type 1} → statement M

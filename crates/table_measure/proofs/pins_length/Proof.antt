@@ -3,7 +3,7 @@ use Prim.Native.Nat.{◌+◌, ◌-◌, ◌*◌, ◌≤◌}
 use mathlib.Core.Path.{◌≡◌, ap}
 use lib.ListN.{length, get_or}
 use Rattle.table_measure.specs.Lines.{pin_lines}
-use Rattle.table_measure.proofs.Walk.{from-pin, no-pin-counted, pin-length, pin-here-length, pins-over}
+use Rattle.table_measure.proofs.Walk.{from-pin, no_pin-counted, pin-length, pin_here_length, pins_over}
 use native.Mathlib.Omega.{arith}
 use borrow.Author.Rules.{rules}
 use Rattle.table_measure.proofs.pins_length.Statement.{statement}
@@ -19,7 +19,7 @@ decreases-loop pins counters total₀ k₀ total k = length pins - k
 loop-holds : tie.Need-loop-init invariant-loop decreases-loop
 loop-holds c =
     let a = c.before.args in
-    (omega arith, omega arith, no-pin-counted a.pins.now a.counters)
+    (omega arith, omega arith, no_pin-counted a.pins.now a.counters)
 
 mul-xmin : tie.Need-overflow-mul-xmin invariant-loop decreases-loop
 mul-xmin c = search rules
@@ -50,7 +50,7 @@ loop-again c =
     let l = looped.loop in
     let a = looped.before.before.args in
     let more = c.digits.ensures in
-    let here = pin-here-length a.pins.now a.counters l.k (omega arith) in
+    let here = pin_here_length a.pins.now a.counters l.k (omega arith) in
     let size = pin-length (get_or a.pins.now l.k 0) in
     (omega arith, omega (arith, l.invariant.1, more.1), omega (arith, l.invariant.2, more.0, here, size))
 
@@ -65,7 +65,7 @@ returns c =
     let l = c.before.before.loop in
     let a = c.before.before.before.before.args in
     let more = c.counter-length.ensures in
-    let over = ap length (pins-over a.pins.now a.counters l.k (omega arith)) in
+    let over = ap length (pins_over a.pins.now a.counters l.k (omega arith)) in
     (omega (arith, l.invariant.2, more.0, over), omega (arith, l.invariant.1, more.1))
 
 pub pins_length_spec : {M : Type 1} → statement M

@@ -1,5 +1,5 @@
 -- Each arm of the choice: the part as bytes and as memory (crate's proofs/Choices.antt).
-use Rattle.tiles.proofs.Choices.{newer-within, older-within}
+use Rattle.tiles.proofs.Choices.{newer_within, older_within}
 use lib.ListN.{length, take, length-take}
 use native.Mathlib.Omega.{arith}
 use borrow.Author.Rules.{rules}
@@ -7,7 +7,7 @@ use Rattle.tiles.proofs.used_part.Goals as goal
 
 pub slice_bounds-result-end : goal.slice_bounds-result-end
 slice_bounds-result-end c =
-    let fits = newer-within _ _ _ _ _ _ _ _ _ c.choose-choice.ensures c.in-Newer.is in
+    let fits = newer_within _ _ _ _ _ _ _ _ _ c.choose-choice.ensures c.in-Newer.is in
     rw length-take (omega (arith, fits))
 
 pub returns-in-Newer : goal.returns-in-Newer
@@ -15,7 +15,7 @@ returns-in-Newer c = rw (← c.choose-choice.ensures, c.in-Newer.is)
 
 pub slice_bounds-result-end-in-Older : goal.slice_bounds-result-end-in-Older
 slice_bounds-result-end-in-Older c =
-    let fits = older-within _ _ _ _ _ _ _ _ _ c.choose-choice.ensures c.in-Older.is in
+    let fits = older_within _ _ _ _ _ _ _ _ _ c.choose-choice.ensures c.in-Older.is in
     rw length-take (omega (arith, fits))
 
 pub returns-in-Older : goal.returns-in-Older

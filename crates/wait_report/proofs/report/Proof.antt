@@ -1,5 +1,5 @@
 -- By what the table's text was read as (crate's proofs/Whole.antt).
-use Rattle.wait_report.proofs.Whole.{report-broken, report-whole}
+use Rattle.wait_report.proofs.Whole.{report_broken, report-whole}
 use borrow.Author.Rules.{rules}
 use Rattle.wait_report.proofs.report.Statement.{statement}
 use Rattle.wait_report.proofs.report.Tie as tie
@@ -22,7 +22,7 @@ returns c =
     let told = put.before.before in
     let read = told.before.before in
     let a = read.before.before.before.before.args in
-    report-broken _ a.table.now a.owner a.wait.now _ read.read_table.ensures a.out.now told.before.if1.true
+    report_broken _ a.table.now a.owner a.wait.now _ read.read_table.ensures a.out.now told.before.if1.true
     told.tell.ensures put.put-verdict.ensures
 
 check-wait-requires : tie.Need-check-wait-requires

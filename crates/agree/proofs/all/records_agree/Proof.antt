@@ -8,7 +8,7 @@ use lib.Seq.{length-take-le}
 use Rattle.model.proofs.Stores.{stored_applied}
 use Rattle.trace.proofs.Shape.{any_facts}
 use Rattle.trace.proofs.Answers.{record_is}
-use Rattle.agree.proofs.Side.{Side, kept-last, kept_full, side-start, side-more, side-good, side-broken, side-few, side_from, side_to}
+use Rattle.agree.proofs.Side.{Side, kept_last, kept_full, side_start, side_more, side_good, side_broken, side_few, side_from, side_to}
 use borrow.Author.Rules.{rules}
 use borrow.Author.Tests.{not-true}
 use Rattle.agree.proofs.all.records_agree.Statement.{statement}
@@ -30,7 +30,7 @@ first-record-requires c κs = search rules
 loop-holds : tie.Need-loop-init invariant-loop decreases-loop
 loop-holds c =
     let fresh = c.before.fresh.ensures in
-    (refl, omega arith, side_to fresh (rw (c.first-record.ensures, fresh) (side-start _ _ _ _)))
+    (refl, omega arith, side_to fresh (rw (c.first-record.ensures, fresh) (side_start _ _ _ _)))
 
 next-record-requires : tie.Need-next-record-requires invariant-loop decreases-loop
 next-record-requires c κs = search rules
@@ -47,7 +47,7 @@ returns c =
     let read = c.before.before in
     let loop = read.before.before in
     let w = side_from loop.before.before.fresh.ensures loop.loop.invariant.2 in
-    absurd (side-broken _ _ _ w count h read.before.loop-test.true (sym read.next-record.ensures ∙ c.enum_told.given.1))
+    absurd (side_broken _ _ _ w count h read.before.loop-test.true (sym read.next-record.ensures ∙ c.enum_told.given.1))
 
 array-share-prefix-calls : tie.Need-array-share-prefix-calls invariant-loop decreases-loop
 array-share-prefix-calls c =
@@ -89,7 +89,7 @@ returns-3 c =
     let loop = read.before.before in
     let w = side_from loop.before.before.fresh.ensures loop.loop.invariant.2 in
     let full = kept_full _ _ kept.keep.ensures.0 c.enum-told2.given.1 in
-    absurd (omega (arith, full, side-few _ _ _ w count h))
+    absurd (omega (arith, full, side_few _ _ _ w count h))
 
 store-txid-requires : tie.Need-store-txid-requires invariant-loop decreases-loop
 store-txid-requires c κs = search rules
@@ -125,16 +125,16 @@ loop-again c =
     let fresh = loop.before.before.fresh.ensures in
     let w = side_from fresh l.invariant.2 in
     let q = sym read.next-record.ensures ∙ found.found.given.1 in
-    let last = kept-last _ l.calls l.used row.result keep.ensures.0 keep.ensures.1 kept.kept.given.1 in
+    let last = kept_last _ l.calls l.used row.result keep.ensures.0 keep.ensures.1 kept.kept.given.1 in
     let long = ap length last.list ∙ length-set l.calls l.used row.result ∙ l.invariant.0 in
-    let good = side-good _ _ _ w in
+    let good = side_good _ _ _ w in
     let one = stored.before.before.before.before.store-txid.ensures in
     let two = stored.before.before.store-xmin.ensures in
     let three = stored.store-pin.ensures in
     let made =
     stored_applied _ l.t ran.run-both.result.change good.txid_column good.xmin_column good.pin_column one two three in
     let more =
-    side-more _ _ _ w _ _ (omega (arith, last.room, l.invariant.0)) q (rw row.ensures at last.list) (made ∙ ran.run-both.ensures.table) in
+    side_more _ _ _ w _ _ (omega (arith, last.room, l.invariant.0)) q (rw row.ensures at last.list) (made ∙ ran.run-both.ensures.table) in
     (long, omega (arith, last.room, last.next, long), side_to fresh (rw last.next more))
 
 returns-4 : tie.Need-returns-4 invariant-loop decreases-loop

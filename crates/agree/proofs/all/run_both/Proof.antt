@@ -2,7 +2,7 @@
 -- (crate's proofs/Runs.antt).
 use Prim.Native.Nat.{ℕ}
 use lib.ListN.{length-replicate}
-use Rattle.agree.proofs.Runs.{both-room, both-inside, both-count, both-fits}
+use Rattle.agree.proofs.Runs.{both_room, both_inside, both_count, both-fits}
 use borrow.Author.Rules.{rules}
 use Rattle.agree.proofs.all.run_both.Statement.{statement}
 use Rattle.agree.proofs.all.run_both.Tie as tie
@@ -24,7 +24,7 @@ returns c =
     let ran = c.before.before.before.before in
     let s = ran.before.before.before.before.before in
     let o = ran.run-record.ensures in
-    absurd (both-room s.args.version _ s.args.calls.now s.args.r _ s.requires _ (length-replicate {A = ℕ} _ 0) o.0 o.1 c.enum_told.given.1)
+    absurd (both_room s.args.version _ s.args.calls.now s.args.r _ s.requires _ (length-replicate {A = ℕ} _ 0) o.0 o.1 c.enum_told.given.1)
 
 row-of-requires : tie.Need-row-of-requires
 row-of-requires c κs = search rules
@@ -35,7 +35,7 @@ array-share-prefix-buf c =
     let ran = put.before.before.before.before in
     let s = ran.before.before.before.before.before in
     let o = ran.run-record.ensures in
-    both-inside s.args.version _ s.args.calls.now s.args.r _ s.requires _ (length-replicate {A = ℕ} _ 0) o.0 o.1 put.put.given.1
+    both_inside s.args.version _ s.args.calls.now s.args.r _ s.requires _ (length-replicate {A = ℕ} _ 0) o.0 o.1 put.put.given.1
 
 slice-aggregate-record-agrees : tie.Need-slice-aggregate-record-agrees
 slice-aggregate-record-agrees c =
@@ -43,7 +43,7 @@ slice-aggregate-record-agrees c =
     let ran = put.before.before.before.before in
     let s = ran.before.before.before.before.before in
     let o = ran.run-record.ensures in
-    both-count s.args.version _ s.args.calls.now s.args.r _ s.requires _ (length-replicate {A = ℕ} _ 0) o.0 o.1 put.put.given.1
+    both_count s.args.version _ s.args.calls.now s.args.r _ s.requires _ (length-replicate {A = ℕ} _ 0) o.0 o.1 put.put.given.1
 
 record-agrees-requires : tie.Need-record-agrees-requires
 record-agrees-requires c κs = search rules

@@ -1,7 +1,7 @@
 -- `event_at` meets its contract: a kind that is unknown, and one whose five numbers follow.
 use mathlib.Core.Path.{refl, sym, ◌∙◌}
 use Rattle.grammar.specs.Grammar.{every_kind}
-use Rattle.grammar.proofs.Named.{item-named, item-unknown}
+use Rattle.grammar.proofs.Named.{item_named, item_unknown}
 use Rattle.events.specs.Event.{event_shape, event_at}
 use Rattle.events.proofs.Answers.{kind_is}
 use borrow.Author.Rules.{rules}
@@ -21,7 +21,7 @@ returns : tie.Need-returns
 unfolding event_at
 returns c =
     let named = kind_is _ _ (sym c.before.before.kind_at.ensures ∙ c.enum_told.given.1) in
-    rw (item-unknown event_shape every_kind _ _ named)
+    rw (item_unknown event_shape every_kind _ _ named)
 
 event-after-requires : tie.Need-event-after-requires
 event-after-requires c κs = search rules
@@ -30,7 +30,7 @@ returns-2 : tie.Need-returns-2
 unfolding event_at
 returns-2 c =
     let named = kind_is _ _ (sym c.before.before.before.before.kind_at.ensures ∙ c.before.before.kind.given.1) in
-    rw (item-named event_shape every_kind _ _ named refl) c.event-after.ensures
+    rw (item_named event_shape every_kind _ _ named refl) c.event-after.ensures
 
 pub event_at_spec : {M : Type 1} → statement M
 event_at_spec =

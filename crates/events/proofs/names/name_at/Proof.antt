@@ -1,6 +1,6 @@
 -- `name_at` meets its contract: the calls, last first, are the definition's list of names.
 use borrow.Author.Rules.{rules}
-use Rattle.grammar.proofs.Said.{first-tried}
+use Rattle.grammar.proofs.Said.{first_tried}
 use Rattle.events.specs.Kind.{kind_name, kinds}
 use Rattle.events.specs.declared.names.KindAt.TheVariants.{Is, Unknown}
 use Rattle.events.proofs.names.name_at.Statement.{statement}
@@ -48,7 +48,7 @@ returns c =
       horizon.try-name3.ensures,
       reserve.try-name2.ensures,
       observe.try-name.ensures,
-    ) (first-tried Is Unknown kind_name kinds _ _)
+    ) (first_tried Is Unknown kind_name kinds _ _)
 
 pub name_at_spec : {M : Type 1} → statement M
 name_at_spec =

@@ -10,11 +10,11 @@ use lib.ListN.{length, drop}
 use Rattle.text.specs.Bytes.{starts}
 use Rattle.grammar.specs.Names.{name_line}
 use Rattle.grammar.specs.Texts.{count_text, read_text}
-use Rattle.grammar.proofs.Laws.{head-is, no-head, under-facts}
-use Rattle.grammar.proofs.Count.{Stands, stands-start, stands-next, stands-small, stands-broken, stands-end}
+use Rattle.grammar.proofs.Laws.{head_is, no_head, under_facts}
+use Rattle.grammar.proofs.Count.{Stands, stands_start, stands_next, stands_small, stands_broken, stands_end}
 use Rattle.events.specs.Wait.{Header, Wait1, headers, header, wait_grammar, reading}
 use Rattle.events.proofs.Shape.{wait_grammar_lem}
-use Rattle.events.proofs.Answers.{event-is}
+use Rattle.events.proofs.Answers.{event_is}
 use borrow.Author.Rules.{rules}
 use Rattle.events.proofs.whole.read_wait.Statement.{statement}
 use Rattle.events.proofs.whole.read_wait.Tie as tie
@@ -43,7 +43,7 @@ unfolding reading count_text read_text name_line
 returns-2 c =
     let asked = c.before in
     let other = sym asked.bytes-at.ensures ∙ not-true _ c.if2.true in
-    rw (le-ltb _ _ asked.before.before.if1.false, no-head wait_grammar wait_grammar_lem _ (no_other _ other))
+    rw (le-ltb _ _ asked.before.before.if1.false, no_head wait_grammar wait_grammar_lem _ (no_other _ other))
 
 first-event-requires : tie.Need-first-event-requires invariant-loop decreases-loop
 first-event-requires c κs = tt
@@ -53,8 +53,8 @@ unfolding name_line
 loop-holds c =
     let tested = c.before in
     let asked = tested.before in
-    let head = head-is wait_grammar wait_grammar_lem _ Wait1 (sym asked.bytes-at.ensures ∙ not-false _ tested.if2.false) in
-    rw c.first-event.ensures (stands-start wait_grammar wait_grammar_lem _ _ _ asked.before.before.if1.false head)
+    let head = head_is wait_grammar wait_grammar_lem _ Wait1 (sym asked.bytes-at.ensures ∙ not-false _ tested.if2.false) in
+    rw c.first-event.ensures (stands_start wait_grammar wait_grammar_lem _ _ _ asked.before.before.if1.false head)
 
 event-at-requires : tie.Need-event-at-requires invariant-loop decreases-loop
 event-at-requires c κs = tt
@@ -67,14 +67,14 @@ add-n c = omega arith
 
 loop-less : tie.Need-loop-smaller invariant-loop decreases-loop
 loop-less c =
-    let read = event-is _ _ (sym c.before.before.before.event-at.ensures ∙ c.before.r.given.1) in
-    let m = (under-facts wait_grammar wait_grammar_lem Wait1).moves _ _ _ _ read in
+    let read = event_is _ _ (sym c.before.before.before.event-at.ensures ∙ c.before.r.given.1) in
+    let m = (under_facts wait_grammar wait_grammar_lem Wait1).moves _ _ _ _ read in
     omega (arith, m.0, m.1)
 
 loop-again : tie.Need-loop-preserved invariant-loop decreases-loop
 loop-again c =
-    let read = event-is _ _ (sym c.before.before.before.event-at.ensures ∙ c.before.r.given.1) in
-    stands-next wait_grammar wait_grammar_lem _ _ _ _ _ _ c.before.before.before.before.before.loop.invariant read
+    let read = event_is _ _ (sym c.before.before.before.event-at.ensures ∙ c.before.r.given.1) in
+    stands_next wait_grammar wait_grammar_lem _ _ _ _ _ _ c.before.before.before.before.before.loop.invariant read
 
 enum-known-r-2 : tie.Need-enum-known-r-2 invariant-loop decreases-loop
 enum-known-r-2 c = c.match.keys2
@@ -87,20 +87,20 @@ add-t16 c = omega arith
 
 add-t17 : tie.Need-overflow-add-t17 invariant-loop decreases-loop
 add-t17 c =
-    let read = event-is _ _ (sym c.before.before.before.event-at.ensures ∙ c.before.r2.given.1) in
-    let small = stands-small wait_grammar wait_grammar_lem _ _ _ _ _ c.before.before.before.before.before.loop.invariant read in
+    let read = event_is _ _ (sym c.before.before.before.event-at.ensures ∙ c.before.r2.given.1) in
+    let small = stands_small wait_grammar wait_grammar_lem _ _ _ _ _ c.before.before.before.before.before.loop.invariant read in
     omega (arith, small)
 
 returns-3 : tie.Need-returns-3 invariant-loop decreases-loop
 unfolding reading
 returns-3 c =
-    let read = event-is _ _ (sym c.before.before.before.event-at.ensures ∙ c.before.r2.given.1) in
+    let read = event_is _ _ (sym c.before.before.before.event-at.ensures ∙ c.before.r2.given.1) in
     let tested = c.before.before.before.before in
-    rw (stands-broken wait_grammar wait_grammar_lem _ _ _ _ _ tested.before.loop.invariant tested.loop-test.true read)
+    rw (stands_broken wait_grammar wait_grammar_lem _ _ _ _ _ tested.before.loop.invariant tested.loop-test.true read)
 
 returns-4 : tie.Need-returns-4 invariant-loop decreases-loop
 unfolding reading
-returns-4 c = rw (stands-end wait_grammar wait_grammar_lem _ _ _ _ c.before.loop.invariant c.loop-test.false)
+returns-4 c = rw (stands_end wait_grammar wait_grammar_lem _ _ _ _ c.before.loop.invariant c.loop-test.false)
 
 pub read_wait_spec : {M : Type 1} → statement M
 read_wait_spec =

@@ -7,7 +7,7 @@ use lib.ListN.{length}
 use borrow.Author.Rules.{rules}
 use Rattle.listed.specs.Listed.{listed}
 use Rattle.image.specs.Lists.{ids_of}
-use Rattle.image.proofs.Searching.{rest, rest_whole, rest_none, rest-hit, rest-miss, one_hit, one_miss}
+use Rattle.image.proofs.Searching.{rest, rest_whole, rest_none, rest_hit, rest_miss, one_hit, one_miss}
 use Rattle.image.proofs.search.lists.Given as goal
 
 abbrev pub invariant-loop-i : goal.invariant-loop-i

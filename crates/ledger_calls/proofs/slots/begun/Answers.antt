@@ -1,5 +1,5 @@
 -- Each exit is one case of the reservation and the lowest free slot (crate's proofs/Reserving.antt).
-use Rattle.ledger_calls.proofs.Reserving.{begin-refused, begin-free, begin-full}
+use Rattle.ledger_calls.proofs.Reserving.{begin-refused, begin_free, begin-full}
 use borrow.Author.Rules.{rules}
 use Rattle.ledger_calls.proofs.slots.begun.Goals as goal
 
@@ -12,7 +12,7 @@ pub returns-then-free-lt-SLOTS : goal.returns-then-free-lt-SLOTS
 returns-then-free-lt-SLOTS c =
     λ xmins pins.
     rw (c.in_slot.ensures, c.plain-numbers.ensures, c.accepted-entered.ensures)
-    (begin-free _ _ _ c.reservation-told.ensures c.if-told-ne0.false c.past-spent.ensures
+    (begin_free _ _ _ c.reservation-told.ensures c.if-told-ne0.false c.past-spent.ensures
     c.lowest_free-free.ensures c.if-free-lt-SLOTS.true)
 
 pub returns : goal.returns

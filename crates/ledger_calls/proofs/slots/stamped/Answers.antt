@@ -2,7 +2,7 @@
 use mathlib.Core.Path.{refl}
 use Rattle.model.specs.Calls.{refusal}
 use Rattle.ledger_calls.proofs.Tells.{refused_did}
-use Rattle.ledger_calls.proofs.Reserving.{stamp-spends}
+use Rattle.ledger_calls.proofs.Reserving.{stamp_spends}
 use borrow.Author.Rules.{rules}
 use Rattle.ledger_calls.proofs.slots.stamped.Goals as goal
 
@@ -16,4 +16,4 @@ pub returns : goal.returns
 returns c =
     λ txids xmins pins.
     rw (c.stays.ensures, c.plain-numbers.ensures, c.accepted.ensures)
-    (stamp-spends _ _ _ c.reservation-told.ensures c.if-told-ne0.false c.past-counters.ensures)
+    (stamp_spends _ _ _ c.reservation-told.ensures c.if-told-ne0.false c.past-counters.ensures)

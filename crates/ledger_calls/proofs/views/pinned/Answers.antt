@@ -1,6 +1,6 @@
 -- The observation, then the lowest free pin (crate's proofs/Viewing.antt).
 use Rattle.ledger_calls.proofs.Tells.{passes}
-use Rattle.ledger_calls.proofs.Viewing.{pin-refused, pin-takes, pin-full}
+use Rattle.ledger_calls.proofs.Viewing.{pin-refused, pin_takes, pin-full}
 use borrow.Author.Rules.{rules}
 use Rattle.ledger_calls.proofs.views.pinned.Goals as goal
 
@@ -13,7 +13,7 @@ pub returns-then-free-lt-PINS : goal.returns-then-free-lt-PINS
 returns-then-free-lt-PINS c =
     λ xmins.
     rw (c.in_pin.ensures, c.shown-numbers.ensures, c.accepted.ensures)
-    (pin-takes _ _ _ _ (passes _ c.observation-told.ensures c.if-told-ne0.false) c.seen-counters.ensures
+    (pin_takes _ _ _ _ (passes _ c.observation-told.ensures c.if-told-ne0.false) c.seen-counters.ensures
     c.lowest_free-free.ensures c.if-free-lt-PINS.true c.greater-used.ensures c.in_flight-flight.ensures)
 
 pub returns : goal.returns

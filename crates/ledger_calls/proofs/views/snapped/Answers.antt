@@ -2,7 +2,7 @@
 use mathlib.Core.Path.{refl}
 use Rattle.model.specs.Calls.{refusal}
 use Rattle.ledger_calls.proofs.Tells.{passes, refused_did}
-use Rattle.ledger_calls.proofs.Viewing.{snap-shows}
+use Rattle.ledger_calls.proofs.Viewing.{snap_shows}
 use borrow.Author.Rules.{rules}
 use Rattle.ledger_calls.proofs.views.snapped.Goals as goal
 
@@ -16,5 +16,5 @@ pub returns : goal.returns
 returns c =
     λ xmins pins.
     rw (c.stays.ensures, c.shown-numbers.ensures, c.accepted.ensures)
-    (snap-shows _ _ _ _ (passes _ c.observation-told.ensures c.if-told-ne0.false) c.seen-counters.ensures
+    (snap_shows _ _ _ _ (passes _ c.observation-told.ensures c.if-told-ne0.false) c.seen-counters.ensures
     c.in_flight-flight.ensures)

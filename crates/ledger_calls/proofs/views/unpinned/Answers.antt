@@ -2,7 +2,7 @@
 use mathlib.Core.Path.{refl}
 use Rattle.model.specs.Calls.{refusal}
 use Rattle.ledger_calls.proofs.Tells.{passes, refused_did}
-use Rattle.ledger_calls.proofs.Viewing.{unpin-frees}
+use Rattle.ledger_calls.proofs.Viewing.{unpin_frees}
 use borrow.Author.Rules.{rules}
 use Rattle.ledger_calls.proofs.views.unpinned.Goals as goal
 
@@ -16,4 +16,4 @@ pub returns : goal.returns
 returns c =
     λ txids xmins.
     rw (c.in_pin.ensures, c.plain-numbers.ensures, c.accepted.ensures)
-    (unpin-frees _ _ _ (passes _ c.release-told.ensures c.if-told-ne0.false))
+    (unpin_frees _ _ _ (passes _ c.release-told.ensures c.if-told-ne0.false))

@@ -2,7 +2,7 @@
 use mathlib.Core.Path.{refl}
 use Rattle.model.specs.Calls.{refusal}
 use Rattle.ledger_calls.proofs.Tells.{passes, refused_did}
-use Rattle.ledger_calls.proofs.Viewing.{vacuum-raises}
+use Rattle.ledger_calls.proofs.Viewing.{vacuum_raises}
 use borrow.Author.Rules.{rules}
 use Rattle.ledger_calls.proofs.views.vacuumed.Goals as goal
 
@@ -14,5 +14,5 @@ returns-then-told-ne0 c =
 pub returns : goal.returns
 returns c =
     rw (c.stays.ensures, c.held-numbers.ensures)
-    (vacuum-raises _ _ _ _ (passes _ c.observation-told.ensures c.if-told-ne0.false) c.held_back-found.ensures
+    (vacuum_raises _ _ _ _ (passes _ c.observation-told.ensures c.if-told-ne0.false) c.held_back-found.ensures
     c.greater-line.ensures)

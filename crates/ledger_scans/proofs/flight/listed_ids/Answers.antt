@@ -1,7 +1,7 @@
 use Prim.Native.Nat.{◌-◌}
 use native.Mathlib.Omega.{arith}
 use lib.ListN.{length}
-use Rattle.ledger_scans.proofs.Ids.{Filled, filled_none, filled-empty, filled-taken, filled_all}
+use Rattle.ledger_scans.proofs.Ids.{Filled, filled_none, filled_empty, filled_taken, filled_all}
 use borrow.Author.Rules.{rules}
 use Rattle.ledger_scans.proofs.flight.listed_ids.Goals as goal
 
@@ -11,12 +11,12 @@ loop-i-init c = filled_none
 pub loop-i-preserved-then-id-eq0 : goal.loop-i-preserved-then-id-eq0
 loop-i-preserved-then-id-eq0 c =
     let loop = c.loop-i in
-    filled-empty loop.invariant (omega arith) c.if-id-eq0.true
+    filled_empty loop.invariant (omega arith) c.if-id-eq0.true
 
 pub loop-i-preserved : goal.loop-i-preserved
 loop-i-preserved c =
     let loop = c.loop-i in
-    filled-taken loop.invariant (omega arith) c.if-id-eq0.false
+    filled_taken loop.invariant (omega arith) c.if-id-eq0.false
 
 pub returns : goal.returns
 returns c = filled_all c.loop-i.invariant _ (omega arith) (omega arith) c.zeros-ids.ensures

@@ -3,7 +3,7 @@ use mathlib.Core.Path.{◌≡◌}
 use native.Mathlib.Omega.{arith}
 use lib.ListN.{length, drop}
 use Rattle.model.specs.Tally.{lowest_empty}
-use Rattle.ledger_scans.proofs.Columns.{free-here, taken_here, none_left}
+use Rattle.ledger_scans.proofs.Columns.{free_here, taken_here, none_left}
 use borrow.Author.Rules.{rules}
 use Rattle.ledger_scans.proofs.free.lowest_free.Goals as goal
 
@@ -11,7 +11,7 @@ pub returns-then-column-place-eq0 : goal.returns-then-column-place-eq0
 returns-then-column-place-eq0 c =
     let loop = c.loop-place in
     let t = c.args.column.now in
-    omega (arith, free-here t loop.place (omega arith) c.if-column-place-eq0.true)
+    omega (arith, free_here t loop.place (omega arith) c.if-column-place-eq0.true)
 
 pub loop-place-preserved : goal.loop-place-preserved
 loop-place-preserved c =

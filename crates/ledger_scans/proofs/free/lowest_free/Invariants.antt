@@ -4,7 +4,7 @@ use mathlib.Core.Path.{◌≡◌}
 use native.Mathlib.Omega.{arith}
 use lib.ListN.{length, drop}
 use Rattle.model.specs.Tally.{lowest_empty}
-use Rattle.ledger_scans.proofs.Columns.{free-here, taken_here, none_left}
+use Rattle.ledger_scans.proofs.Columns.{free_here, taken_here, none_left}
 use borrow.Author.Rules.{rules}
 use Rattle.ledger_scans.proofs.free.lowest_free.Given as goal
 

@@ -4,7 +4,7 @@ use native.Mathlib.Omega.{arith}
 use lib.ListN.{length, drop}
 use Rattle.ledger_scans.specs.declared.held.Held.{Held}
 use Rattle.ledger_scans.specs.Held.{held_from}
-use Rattle.ledger_scans.proofs.Walk.{held_start, all-places, empty-place, lower-place, higher-place}
+use Rattle.ledger_scans.proofs.Walk.{held_start, all_places, empty_place, lower_place, higher_place}
 use borrow.Author.Rules.{rules}
 use Rattle.ledger_scans.proofs.held.held_among.Goals as goal
 
@@ -17,25 +17,25 @@ pub loop-i-preserved-then-taken-i-eq0 : goal.loop-i-preserved-then-taken-i-eq0
 loop-i-preserved-then-taken-i-eq0 c =
     let loop = c.loop-i in
     let a = c.args in
-    let here = empty-place a.first a.taken.now a.xmins.now _ (loop.i - 1) (omega arith) loop.invariant.0 loop.invariant.1 in
+    let here = empty_place a.first a.taken.now a.xmins.now _ (loop.i - 1) (omega arith) loop.invariant.0 loop.invariant.1 in
     (omega arith, omega arith, here loop.invariant.2 c.if-taken-i-eq0.true)
 
 pub loop-i-preserved-then-xmins-i : goal.loop-i-preserved-then-xmins-i
 loop-i-preserved-then-xmins-i c =
     let loop = c.loop-i in
     let a = c.args in
-    let here = lower-place a.first a.taken.now a.xmins.now _ (loop.i - 1) (omega arith) loop.invariant.0 loop.invariant.1 in
+    let here = lower_place a.first a.taken.now a.xmins.now _ (loop.i - 1) (omega arith) loop.invariant.0 loop.invariant.1 in
     (omega arith, omega arith, here loop.invariant.2 c.if-taken-i-eq0.false c.if-xmins-i.true)
 
 pub loop-i-preserved : goal.loop-i-preserved
 loop-i-preserved c =
     let loop = c.loop-i in
     let a = c.args in
-    let here = higher-place a.first a.taken.now a.xmins.now _ (loop.i - 1) (omega arith) loop.invariant.0 loop.invariant.1 in
+    let here = higher_place a.first a.taken.now a.xmins.now _ (loop.i - 1) (omega arith) loop.invariant.0 loop.invariant.1 in
     (omega arith, omega arith, here loop.invariant.2 c.if-taken-i-eq0.false c.if-xmins-i.false)
 
 pub returns : goal.returns
 returns c =
     let loop = c.loop-i in
     let a = c.args in
-    loop.invariant.2 ∙ all-places a.first a.taken.now a.xmins.now a.before (omega arith)
+    loop.invariant.2 ∙ all_places a.first a.taken.now a.xmins.now a.before (omega arith)

@@ -2,7 +2,7 @@ use mathlib.Core.Path.{◌≡◌, ◌∙◌}
 use lib.ListN.{length-set}
 use borrow.Author.Tests.{eq-eqb, ne_eqb}
 use Rattle.place.specs.Words.{stored_words}
-use Rattle.place.proofs.Laid.{stored-change}
+use Rattle.place.proofs.Laid.{stored_change}
 use borrow.Author.Rules.{rules}
 use Rattle.place.proofs.words.store.Goals as goal
 
@@ -18,4 +18,4 @@ unfolding stored_words
 returns c =
     let a = c.args in
     let size = c.if-words-ne-WORDS.false in
-    rw (eq-eqb _ _ size) (c.store_slot.ensures ∙ stored-change _ a.words.now size a.change)
+    rw (eq-eqb _ _ size) (c.store_slot.ensures ∙ stored_change _ a.words.now size a.change)

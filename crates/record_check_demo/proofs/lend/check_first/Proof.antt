@@ -13,11 +13,11 @@ use Rattle.hand_proofs.proofs.Words.{◌≡◌, refl, sym, subst, ℕ, ◌+◌, 
 use Rattle.hand_proofs.proofs.Words.{id⊢}
 use Rattle.hand_proofs.proofs.Words.{Ty, erased, u64, w64, vint, fat, full_share, Room, slice_val, slice_ty, Is, Plain, word, truth, row_of}
 use Rattle.hand_proofs.proofs.Words.{owned, made}
-use Rattle.hand_proofs.proofs.Words.{World, Promise, promise, Callee, Proved, Call, Walk, world, known, proves, walks-if, ends_as, leaves}
+use Rattle.hand_proofs.proofs.Words.{World, Promise, promise, Callee, Proved, Call, Walk, world, known, proves, walks_if, ends_as, leaves}
 use Rattle.hand_proofs.proofs.Words.{by_value, number}
 use Rattle.hand_proofs.proofs.Words.{◌$◌, !, ‵, by, move, keep, drop, rewrite, back, sets, local, locals, of_opd, agg, addr, and_then}
 use Rattle.hand_proofs.proofs.Words.{no_more, from, stop}
-use Rattle.hand_proofs.proofs.Words.{hands, calls-as, lands, spreads, gathers, cuts, joins, run, lends, returns}
+use Rattle.hand_proofs.proofs.Words.{hands, calls_as, lands, spreads, gathers, cuts, joins, run, lends, returns}
 use Rattle.record_check.specs.Run.{run_passes}
 use Rattle.record_check.specs.declared.Slot.{Slot}
 use Rattle.record_check.specs.declared.Rest.{Rest}
@@ -97,7 +97,7 @@ module _ {M : Type 1} {𝓤 : Ura M} {H : Heap 𝓤} (w : World {𝓤 = 𝓤} _)
         -- [the token; what the lent records own; what gives them back; the tokens; what the arguments own; _0; ..]
         hands w ! Check (to l₄ α γ) refl
         (made w (R.the_row ∷ []) (the_rest w, tt) (to l₄ α γ).0.3.1 (to l₄ α γ).0.4.1 (rest-is, tt)) $
-        calls-as w ! Check check (to l₄ α γ) (id⊢ 𝓤 (emp 𝓤)) Says (λ r ws. id⊢ 𝓤 _)
+        calls_as w ! Check check (to l₄ α γ) (id⊢ 𝓤 (emp 𝓤)) Says (λ r ws. id⊢ 𝓤 _)
         (locals ! 4 (refl, (refl, tt))) (λ v r ris.
         drop ! $ lands ! 5 refl ((truth w).lawful.typed r (v ∷ []) ris).0 $
         -- [the token; the clause; what gives them back; the tokens; what the arguments own; _0; ..]
@@ -113,7 +113,7 @@ module _ {M : Type 1} {𝓤 : Ura M} {H : Heap 𝓤} (w : World {𝓤 = 𝓤} _)
 
   meets : Callee w Check g.Symbol.name → Proved w P f.Code.function
   meets check =
-      walks-if w P f.Code.function
+      walks_if w P f.Code.function
       (by_value w records (λ κs x f. refl), (number w, (by_value w (the_rest w) (λ κs x f. refl), tt))) (λ κs a t. t)
       (λ κs a g. a.1.0 ≤ length a.0) (λ κs a g. id⊢ 𝓤 _)
       (λ κs qs bounds a g are typed there. walk check a.0 a.1.0 a.1.1.0 are.0 are.1.0.1 are.1.1.0 there)

@@ -1,12 +1,12 @@
 -- Where 33 bytes are there, both lines of refusal 9 have room, so neither can be left out (crate's proofs/Ends.antt).
 use Rattle.kinds.specs.Refusals.{told}
-use Rattle.replay.proofs.Ends.{broken-short, first-there, second-there, broken-written}
+use Rattle.replay.proofs.Ends.{broken_short, first_there, second_there, broken_written}
 use borrow.Author.Rules.{rules}
 use Rattle.replay.proofs.into.put_broken.Statement.{statement}
 use Rattle.replay.proofs.into.put_broken.Tie as tie
 
 returns : tie.Need-returns
-returns c = broken-short c.before.before.args.line c.before.before.args.buf.now c.if1.true
+returns c = broken_short c.before.before.args.line c.before.before.args.buf.now c.if1.true
 
 tell-requires : tie.Need-tell-requires
 tell-requires c κs = search rules
@@ -35,7 +35,7 @@ returns-2 c =
     let a = tested.before.before.args in
     let e = asked.tell.ensures in
     let one = rw e at first.put-line.ensures in
-    absurd (first-there a.line a.buf.now tested.if1.false one.0 one.1 c.enum_told.given.1)
+    absurd (first_there a.line a.buf.now tested.if1.false one.0 one.1 c.enum_told.given.1)
 
 slice-aggregate-put-line-2 : tie.Need-slice-aggregate-put-line-2
 slice-aggregate-put-line-2 c = search rules
@@ -66,7 +66,7 @@ returns-3 c =
     let one = rw e at first.put-line.ensures in
     let two = rw e at second.put-line2.ensures in
     absurd
-    (second-there a.line a.buf.now tested.if1.false one.0 one.1 known.first.given.1 s.ranges.line.fits
+    (second_there a.line a.buf.now tested.if1.false one.0 one.1 known.first.given.1 s.ranges.line.fits
     two.0 two.1 c.enum-told2.given.1)
 
 same-length-3 : tie.Need-same-length-3
@@ -85,7 +85,7 @@ returns-4 c =
     let e = asked.tell.ensures in
     let one = rw e at first.put-line.ensures in
     let two = rw e at second.put-line2.ensures in
-    broken-written a.line a.buf.now tested.if1.false one.0 one.1 known.first.given.1 s.ranges.line.fits
+    broken_written a.line a.buf.now tested.if1.false one.0 one.1 known.first.given.1 s.ranges.line.fits
     two.0 two.1 c.before.second.given.1
 
 pub put_broken_spec : {M : Type 1} → statement M

@@ -6,9 +6,9 @@ use Rattle.model.specs.Tables.{fresh_table}
 use Rattle.grammar.proofs.Laws.{opened}
 use Rattle.trace.specs.Trace.{trace_grammar}
 use Rattle.trace.proofs.Shape.{trace_grammar_lem}
-use Rattle.trace.proofs.Answers.{reading-is}
+use Rattle.trace.proofs.Answers.{reading_is}
 use Rattle.replay_part.proofs.Fits.{part_fits}
-use Rattle.replay.proofs.Whole.{into-broken, part_none, into-whole, into-cut}
+use Rattle.replay.proofs.Whole.{into_broken, part_none, into_whole, into_cut}
 use borrow.Author.Rules.{rules}
 use Rattle.replay.proofs.into.replay_into.Statement.{statement}
 use Rattle.replay.proofs.into.replay_into.Tie as tie
@@ -45,9 +45,9 @@ returns c =
     let e = sym asked.read-trace.ensures ∙ read.reading2.given.1 in
     let first = found.first-record.ensures in
     let here = sym first ∙ tested.if1.true in
-    let b = (opened trace_grammar trace_grammar_lem _ _ _ (reading-is _ e)).boundary in
+    let b = (opened trace_grammar trace_grammar_lem _ _ _ (reading_is _ e)).boundary in
     let p = part_none _ a.s.now a.out.now _ _ (fresh_table _) here b in
-    into-whole _ a.s.now a.out.now _ _ e p here refl put.put-records.ensures
+    into_whole _ a.s.now a.out.now _ _ e p here refl put.put-records.ensures
 
 fresh-requires : tie.Need-fresh-requires
 fresh-requires c κs = search rules
@@ -75,9 +75,9 @@ returns-2 c =
     let first = found.first-record.ensures in
     let kept = ran.run-part.auto.1.1.1.1.0 in
     let part =
-    part_fits ran.run-part.ensures kept (rw first (opened trace_grammar trace_grammar_lem _ _ _ (reading-is _ e)).boundary) in
+    part_fits ran.run-part.ensures kept (rw first (opened trace_grammar trace_grammar_lem _ _ _ (reading_is _ e)).boundary) in
     let p = rw (first, made.fresh.ensures) at part in
-    into-whole _ a.s.now a.out.now _ _ e p tested.if2.true kept put.put-records2.ensures
+    into_whole _ a.s.now a.out.now _ _ e p tested.if2.true kept put.put-records2.ensures
 
 same-length-3 : tie.Need-same-length-3
 same-length-3 c = search rules
@@ -89,7 +89,7 @@ returns-3 c =
     let asked = read.before.before in
     let a = asked.before.before.before.args in
     let e = sym asked.read-trace.ensures ∙ read.reading.given.1 in
-    into-broken _ a.s.now a.out.now _ e put.put-broken.ensures
+    into_broken _ a.s.now a.out.now _ e put.put-broken.ensures
 
 same-length-4 : tie.Need-same-length-4
 same-length-4 c = search rules
@@ -106,9 +106,9 @@ returns-4 c =
     let first = found.first-record.ensures in
     let kept = ran.run-part.auto.1.1.1.1.0 in
     let part =
-    part_fits ran.run-part.ensures kept (rw first (opened trace_grammar trace_grammar_lem _ _ _ (reading-is _ e)).boundary) in
+    part_fits ran.run-part.ensures kept (rw first (opened trace_grammar trace_grammar_lem _ _ _ (reading_is _ e)).boundary) in
     let p = rw (first, made.fresh.ensures) at part in
-    into-cut _ a.s.now a.out.now _ _ e p c.if2.false
+    into_cut _ a.s.now a.out.now _ _ e p c.if2.false
 
 pub replay_into_spec : {M : Type 1} → statement M
 replay_into_spec =

@@ -1,7 +1,7 @@
 -- Under proc-1 the first line is all, under proc-2 and proc-3 the second follows it (crate's proofs/Ending.antt).
 use native.Mathlib.Omega.{arith}
 use borrow.Author.Rules.{rules}
-use Rattle.replay.proofs.Ending.{room_behind, ends-plain, ends-2, ends-3}
+use Rattle.replay.proofs.Ending.{room_behind, ends_plain, ends_2, ends_3}
 use Rattle.replay.proofs.last.last_lines.Statement.{statement}
 use Rattle.replay.proofs.last.last_lines.Tie as tie
 
@@ -38,7 +38,7 @@ returns : tie.Need-returns
 returns c =
     let put = c.before.before.before.before in
     let o = put.last_Line.ensures in
-    let e = ends-plain _ _ o.0 o.1 in
+    let e = ends_plain _ _ o.0 o.1 in
     rw c.enum_told.given.1 (e.size, e.text)
 
 same-length-2 : tie.Need-same-length-2
@@ -49,7 +49,7 @@ returns-2 c =
     let lined = c.before.before in
     let told = lined.before.before in
     let o = told.before.before.before.before.last_Line.ensures in
-    let e = ends-2 _ _ o.0 o.1 lined.agree-line.ensures in
+    let e = ends_2 _ _ o.0 o.1 lined.agree-line.ensures in
     rw told.enum-told2.given.1 (e.size, e.text)
 
 same-length-3 : tie.Need-same-length-3
@@ -60,7 +60,7 @@ returns-3 c =
     let lined = c.before.before in
     let told = lined.before.before in
     let o = told.before.before.before.before.last_Line.ensures in
-    let e = ends-3 _ _ o.0 o.1 lined.agree-line2.ensures in
+    let e = ends_3 _ _ o.0 o.1 lined.agree-line2.ensures in
     rw told.enum-told3.given.1 (e.size, e.text)
 
 pub last_lines_spec : {M : Type 1} → statement M

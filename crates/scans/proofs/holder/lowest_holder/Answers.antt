@@ -4,7 +4,7 @@ use native.Mathlib.Omega.{arith}
 use borrow.Author.Rules.{rules}
 use lib.ListN.{length, drop}
 use Rattle.model.specs.Tally.{holder_from}
-use Rattle.scans.proofs.Slots.{holder-other, holder-empty, holder-here, eight-held, holder-over}
+use Rattle.scans.proofs.Slots.{holder_other, holder-empty, holder_here, eight-held, holder_over}
 use Rattle.scans.proofs.holder.lowest_holder.Goals as goal
 
 pub loop-i-init : goal.loop-i-init
@@ -22,7 +22,7 @@ pub loop-i-2-preserved-then-xmins-at : goal.loop-i-2-preserved-then-xmins-at
 loop-i-2-preserved-then-xmins-at c =
     let loop = c.loop-i-2 in
     let a = c.args in
-    let step = holder-other a.txids.now loop.i a.xmins.now a.xmin a.otherwise
+    let step = holder_other a.txids.now loop.i a.xmins.now a.xmin a.otherwise
     (omega arith) (omega arith) c.if-xmins-at.true in
     (loop.invariant.0, omega arith, omega arith, loop.invariant.3 ∙ step)
 
@@ -30,7 +30,7 @@ pub returns-then-txids-at-ne0 : goal.returns-then-txids-at-ne0
 returns-then-txids-at-ne0 c =
     let loop = c.loop-i-2 in
     let a = c.args in
-    let here = holder-here a.txids.now loop.i a.xmins.now a.xmin a.otherwise
+    let here = holder_here a.txids.now loop.i a.xmins.now a.xmin a.otherwise
     (omega arith) (omega arith) c.if-txids-at-ne0.true c.if-xmins-at.false in
     sym (loop.invariant.3 ∙ here)
 
@@ -46,4 +46,4 @@ pub returns : goal.returns
 returns c =
     let loop = c.loop-i in
     let a = c.args in
-    sym (loop.invariant.2 ∙ holder-over a.txids.now loop.i a.xmins.now a.xmin a.otherwise (omega arith))
+    sym (loop.invariant.2 ∙ holder_over a.txids.now loop.i a.xmins.now a.xmin a.otherwise (omega arith))

@@ -6,7 +6,7 @@ use native.Mathlib.Omega.{arith}
 use borrow.Author.Rules.{rules}
 use lib.ListN.{length, drop}
 use Rattle.model.specs.Tally.{holder_from}
-use Rattle.scans.proofs.Slots.{holder-other, holder-empty, holder-here, eight-held, holder-over}
+use Rattle.scans.proofs.Slots.{holder_other, holder-empty, holder_here, eight-held, holder_over}
 use Rattle.scans.proofs.holder.lowest_holder.Given as goal
 
 abbrev pub invariant-loop-i-2 : goal.invariant-loop-i-2

@@ -4,7 +4,7 @@ use native.Mathlib.Omega.{arith}
 use borrow.Author.Rules.{rules}
 use lib.ListN.{length, drop}
 use Rattle.model.specs.Tally.{lowest_empty}
-use Rattle.scans.proofs.Slots.{empty-here, taken_here, no-more-slots, eight-taken}
+use Rattle.scans.proofs.Slots.{empty_here, taken_here, no_more_slots, eight-taken}
 use Rattle.scans.proofs.lowest.lowest_empty.Goals as goal
 
 pub loop-i-preserved : goal.loop-i-preserved
@@ -18,7 +18,7 @@ pub returns-then-txids-i-eq0 : goal.returns-then-txids-i-eq0
 returns-then-txids-i-eq0 c =
     let loop = c.loop-i-2 in
     let t = c.args.txids.now in
-    omega (arith, empty-here t loop.i (omega arith) c.if-txids-i-eq0.true)
+    omega (arith, empty_here t loop.i (omega arith) c.if-txids-i-eq0.true)
 
 pub loop-i-2-preserved : goal.loop-i-2-preserved
 loop-i-2-preserved c =
@@ -29,4 +29,4 @@ loop-i-2-preserved c =
 pub returns : goal.returns
 returns c =
     let loop = c.loop-i-2 in
-    omega (arith, no-more-slots c.args.txids.now loop.i (omega arith))
+    omega (arith, no_more_slots c.args.txids.now loop.i (omega arith))

@@ -6,7 +6,7 @@ use native.Mathlib.Omega.{arith}
 use borrow.Author.Rules.{rules}
 use lib.ListN.{length, drop}
 use Rattle.model.specs.Tally.{lowest_empty}
-use Rattle.scans.proofs.Slots.{empty-here, taken_here, no-more-slots, eight-taken}
+use Rattle.scans.proofs.Slots.{empty_here, taken_here, no_more_slots, eight-taken}
 use Rattle.scans.proofs.lowest.lowest_empty.Given as goal
 
 abbrev pub invariant-loop-i : goal.invariant-loop-i

@@ -3,7 +3,7 @@
 use mathlib.Core.Path.{refl, ◌∙◌}
 use borrow.Author.Tests.{lt-leb}
 use Rattle.model.specs.Calls.{shown_accepted}
-use Rattle.model.proofs.Lent.{slots-show, lent-decides, lent_stamps, lent-pins, lent_releases}
+use Rattle.model.proofs.Lent.{slots_show, lent_decides, lent_stamps, lent-pins, lent_releases}
 use Rattle.step.specs.Named.{call_of}
 use Rattle.step.specs.Step.{ran, ran_left}
 use Rattle.step.proofs.Prints.{plain-ran, plain-left, listing-ran, listing-left}
@@ -106,7 +106,7 @@ returns-2 c =
     let d = put.before.before in
     let op = d.before.enum_told.given.1 in
     let few = d.before.before.before.if1.false in
-    let e = d.decide-begin.ensures ∙ lent-decides _ _ _ refl in
+    let e = d.decide-begin.ensures ∙ lent_decides _ _ _ refl in
     let o = put.put-plain.ensures in
     rw op (o.0 ∙ plain-ran _ _ _ _ few _ _ e refl, o.1 ∙ plain-left _ _ _ _ few _ _ e refl)
 
@@ -120,7 +120,7 @@ returns-3 c =
     let d = put.before.before in
     let op = d.before.enum-told2.given.1 in
     let few = d.before.before.before.if1.false in
-    let e = d.decide-end.ensures ∙ lent-decides _ _ _ refl in
+    let e = d.decide-end.ensures ∙ lent_decides _ _ _ refl in
     let o = put.put-plain2.ensures in
     rw op (o.0 ∙ plain-ran _ _ _ _ few _ _ e refl, o.1 ∙ plain-left _ _ _ _ few _ _ e refl)
 
@@ -134,7 +134,7 @@ returns-4 c =
     let told = run.before.before in
     let op = told.enum-told3.given.1 in
     let few = told.before.before.if1.false in
-    let e = slots-show _ _ _ few refl in
+    let e = slots_show _ _ _ few refl in
     let o = run.run-snap.ensures in
     rw op (o.0 ∙ listing-ran _ _ _ _ few _ _ e, o.1 ∙ listing-left _ _ _ _ few _ _ e)
 
@@ -148,7 +148,7 @@ returns-5 c =
     let told = run.before.before in
     let op = told.enum-told4.given.1 in
     let few = told.before.before.if1.false in
-    let e = slots-show _ _ _ few refl in
+    let e = slots_show _ _ _ few refl in
     let o = run.run-own.ensures in
     rw op (o.0 ∙ listing-ran _ _ _ _ few _ _ e, o.1 ∙ listing-left _ _ _ _ few _ _ e)
 
@@ -204,7 +204,7 @@ returns-9 c =
     let d = put.before.before in
     let op = d.before.enum-told8.given.1 in
     let few = d.before.before.before.if1.false in
-    let e = d.decide-finish.ensures ∙ lent-decides _ _ _ refl in
+    let e = d.decide-finish.ensures ∙ lent_decides _ _ _ refl in
     let o = put.put-plain6.ensures in
     rw op (o.0 ∙ plain-ran _ _ _ _ few _ _ e refl, o.1 ∙ plain-left _ _ _ _ few _ _ e refl)
 

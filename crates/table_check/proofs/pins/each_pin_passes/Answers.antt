@@ -4,7 +4,7 @@ use native.Mathlib.Omega.{arith}
 use borrow.Author.Rules.{rules}
 use lib.ListN.{length, drop}
 use Rattle.model.specs.Check.{pins_pass}
-use Rattle.table_check.proofs.Rest.{pins-bad, pins-good, pins-over}
+use Rattle.table_check.proofs.Rest.{pins_bad, pins-good, pins_over}
 use Rattle.table_check.proofs.pins.each_pin_passes.Goals as goal
 
 pub loop-i-init : goal.loop-i-init
@@ -22,10 +22,10 @@ returns-in-loop-i c =
     let l = c.loop-i in
     let a = c.args in
     let bad = sym c.pin_passes-good.ensures ∙ c.if-good.false in
-    sym (l.invariant.1 ∙ pins-bad a.clock a.line a.pins.now l.i (omega arith) bad)
+    sym (l.invariant.1 ∙ pins_bad a.clock a.line a.pins.now l.i (omega arith) bad)
 
 pub returns : goal.returns
 returns c =
     let l = c.loop-i in
     let a = c.args in
-    sym (l.invariant.1 ∙ pins-over a.clock a.line a.pins.now l.i (omega arith))
+    sym (l.invariant.1 ∙ pins_over a.clock a.line a.pins.now l.i (omega arith))

@@ -5,7 +5,7 @@ use native.Mathlib.Omega.{arith}
 use borrow.Author.Rules.{rules}
 use lib.ListN.{length, drop}
 use Rattle.model.specs.Check.{pins_pass}
-use Rattle.table_check.proofs.Rest.{pins-bad, pins-good, pins-over}
+use Rattle.table_check.proofs.Rest.{pins_bad, pins-good, pins_over}
 use Rattle.table_check.proofs.pins.each_pin_passes.Given as goal
 
 abbrev pub invariant-loop-i : goal.invariant-loop-i

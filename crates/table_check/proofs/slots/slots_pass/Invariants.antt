@@ -5,7 +5,7 @@ use native.Mathlib.Omega.{arith}
 use borrow.Author.Rules.{rules}
 use lib.ListN.{length, drop}
 use Rattle.model.specs.Check.{slots_pass}
-use Rattle.table_check.proofs.Rest.{slots-short, slots-bad, slots-good, slots-long, slots-over}
+use Rattle.table_check.proofs.Rest.{slots_short, slots_bad, slots_good, slots_long, slots_over}
 use Rattle.table_check.proofs.slots.slots_pass.Given as goal
 
 abbrev pub invariant-loop-i : goal.invariant-loop-i

@@ -1,6 +1,6 @@
 -- The three lines after the pins one after the other, then the end. A place `x-read` is where the line x was read (crate's proofs/Reading.antt).
 use mathlib.Core.Path.{sym, ◌∙◌}
-use Rattle.table_text.proofs.Reading.{clock-broken, sample-broken, line-broken, more-stands, all_read}
+use Rattle.table_text.proofs.Reading.{clock_broken, sample_broken, line_broken, more_stands, all_read}
 use borrow.Author.Rules.{rules}
 use Rattle.table_text.proofs.read.last_lines.Statement.{statement}
 use Rattle.table_text.proofs.read.last_lines.Tie as tie
@@ -23,7 +23,7 @@ no-table-requires c κs = search rules
 returns : tie.Need-returns
 returns c =
     let asked = c.before.before.before in
-    c.no_table.ensures ∙ clock-broken _ _ _ _ _ _ _ (sym asked.field_at.ensures ∙ c.before.enum_told.given.1)
+    c.no_table.ensures ∙ clock_broken _ _ _ _ _ _ _ (sym asked.field_at.ensures ∙ c.before.enum_told.given.1)
 
 slice-aggregate-field-at-2 : tie.Need-slice-aggregate-field-at-2
 slice-aggregate-field-at-2 c = search rules
@@ -48,7 +48,7 @@ returns-2 c =
     let told = c.before in
     let clock-read = told.before.before.before.before.before in
     c.no-table2.ensures
-    ∙ sample-broken _ _ _ _ _ _ _
+    ∙ sample_broken _ _ _ _ _ _ _
     (sym clock-read.before.before.field_at.ensures ∙ clock-read.clock.given.1)
     (sym told.before.before.field-at2.ensures ∙ told.enum-told2.given.1)
 
@@ -76,7 +76,7 @@ returns-3 c =
     let sample-read = told.before.before.before.before.before in
     let clock-read = sample-read.before.before.before.before.before in
     c.no-table3.ensures
-    ∙ line-broken _ _ _ _ _ _ _
+    ∙ line_broken _ _ _ _ _ _ _
     (sym clock-read.before.before.field_at.ensures ∙ clock-read.clock.given.1)
     (sym sample-read.before.before.field-at2.ensures ∙ sample-read.sampled-clock.given.1)
     (sym told.before.before.field-at3.ensures ∙ told.enum-told3.given.1)
@@ -93,7 +93,7 @@ returns-4 c =
     let sample-read = Line-read.before.before.before.before.before in
     let clock-read = sample-read.before.before.before.before.before in
     c.no-table4.ensures
-    ∙ more-stands _ _ _ _ _ _ _
+    ∙ more_stands _ _ _ _ _ _ _
     (sym clock-read.before.before.field_at.ensures ∙ clock-read.clock.given.1)
     (sym sample-read.before.before.field-at2.ensures ∙ sample-read.sampled-clock.given.1)
     (sym Line-read.before.before.field-at3.ensures ∙ Line-read.vacuum-line.given.1)

@@ -4,7 +4,7 @@ use Prim.Native.Nat.{ℕ, ◌-◌}
 use native.Mathlib.Omega.{arith}
 use mathlib.Core.Path.{refl, sym, ◌∙◌}
 use Rattle.kinds.specs.Kinds.{pin_count}
-use Rattle.table_text.proofs.Reading.{Pinning, free_size, pinning-start, read-no-pin, pinning-next, pinning-over}
+use Rattle.table_text.proofs.Reading.{Pinning, free_size, pinning_start, read_no_pin, pinning-next, pinning_over}
 use borrow.Author.Rules.{rules}
 use Rattle.table_text.proofs.read.pin_lines.Statement.{statement}
 use Rattle.table_text.proofs.read.pin_lines.Tie as tie
@@ -20,7 +20,7 @@ free-pins-requires : tie.Need-free-pins-requires invariant-loop decreases-loop
 free-pins-requires c κs = search rules
 
 loop-holds : tie.Need-loop-init invariant-loop decreases-loop
-loop-holds c n = pinning-start n _ _ _ _ (free_size c.free-pins.ensures)
+loop-holds c n = pinning_start n _ _ _ _ (free_size c.free-pins.ensures)
 
 slice-aggregate-field-at : tie.Need-slice-aggregate-field-at invariant-loop decreases-loop
 slice-aggregate-field-at c = search rules
@@ -45,7 +45,7 @@ returns c =
     let told = c.before in
     let looped = told.before.before.before.before.before in
     c.no_table.ensures
-    ∙ read-no-pin _ _ _ _ _ _ _ _ (looped.loop.invariant _) (omega arith)
+    ∙ read_no_pin _ _ _ _ _ _ _ _ (looped.loop.invariant _) (omega arith)
     (sym told.before.before.field_at.ensures ∙ told.enum_told.given.1)
 
 mul-pins : tie.Need-overflow-mul-pins invariant-loop decreases-loop
@@ -77,7 +77,7 @@ count = asked.answer tt tt
 returns-2 : tie.Need-returns-2 invariant-loop decreases-loop
 returns-2 c =
     let looped = c.before.before in
-    c.last-lines.ensures ∙ pinning-over count _ _ _ _ _ _ _ (looped.loop.invariant count) (omega arith)
+    c.last-lines.ensures ∙ pinning_over count _ _ _ _ _ _ _ (looped.loop.invariant count) (omega arith)
 
 pub pin_lines_spec : {M : Type 1} → statement M
 pin_lines_spec =

@@ -3,8 +3,8 @@ use Prim.Native.Nat.{◌-◌}
 use native.Mathlib.Omega.{arith}
 use mathlib.Core.Path.{refl, sym, ◌∙◌}
 use lib.ListN.{length}
-use Rattle.table_text.proofs.Reading.{Reading, zeros_size, no_header, reading-start, reading-next, reading-over}
-use Rattle.table_text.proofs.Reading.{read-no-txid, read-no-xmin}
+use Rattle.table_text.proofs.Reading.{Reading, zeros_size, no_header, reading_start, reading-next, reading_over}
+use Rattle.table_text.proofs.Reading.{read_no_txid, read_no_xmin}
 use borrow.Author.Tests.{not-true, not-false}
 use borrow.Author.Rules.{rules}
 use Rattle.table_text.proofs.read.read_table.Statement.{statement}
@@ -37,7 +37,7 @@ loop-holds : tie.Need-loop-init invariant-loop decreases-loop
 loop-holds c =
     let xs = c.before.zeros.ensures in
     let ys = c.zeros2.ensures in
-    reading-start _ _ refl (rw (xs, ys))
+    reading_start _ _ refl (rw (xs, ys))
 
 slice-aggregate-field-at : tie.Need-slice-aggregate-field-at invariant-loop decreases-loop
 slice-aggregate-field-at c = search rules
@@ -68,7 +68,7 @@ returns-2 c =
     let head = looped.before.before.before in
     let found = sym head.before.headed.ensures ∙ not-false _ head.if1.false in
     c.no-table2.ensures
-    ∙ read-no-txid _ _ _ _ _ _ (rw size at looped.loop.invariant) found (omega arith)
+    ∙ read_no_txid _ _ _ _ _ _ (rw size at looped.loop.invariant) found (omega arith)
     (sym told.before.before.field_at.ensures ∙ told.enum_told.given.1)
 
 slice-aggregate-field-at-2 : tie.Need-slice-aggregate-field-at-2 invariant-loop decreases-loop
@@ -101,7 +101,7 @@ returns-3 c =
     let head = looped.before.before.before in
     let found = sym head.before.headed.ensures ∙ not-false _ head.if1.false in
     c.no-table3.ensures
-    ∙ read-no-xmin _ _ _ _ _ _ (rw size at looped.loop.invariant) found (omega arith)
+    ∙ read_no_xmin _ _ _ _ _ _ (rw size at looped.loop.invariant) found (omega arith)
     (sym txid-read.before.before.field_at.ensures ∙ txid-read.txid.given.1)
     (sym told.before.before.field-at2.ensures ∙ told.enum-told2.given.1)
 
@@ -143,7 +143,7 @@ returns-4 c =
     let size = zeros_size looped.before.before.zeros.ensures in
     let head = looped.before.before.before in
     let found = sym head.before.headed.ensures ∙ not-false _ head.if1.false in
-    c.pin-lines.ensures ∙ reading-over _ _ _ _ _ _ (rw size at looped.loop.invariant) found (omega arith)
+    c.pin-lines.ensures ∙ reading_over _ _ _ _ _ _ (rw size at looped.loop.invariant) found (omega arith)
 
 pub read_table_spec : {M : Type 1} → statement M
 read_table_spec =

@@ -1,5 +1,5 @@
 -- Three lines, each of which begins where the one before it ended (crate's proofs/Walk.antt).
-use Rattle.table_measure.proofs.Walk.{clock-fits, sample-fits, line-fits, counters-placed}
+use Rattle.table_measure.proofs.Walk.{clock_fits, sample_fits, line-fits, counters_placed}
 use borrow.Author.Rules.{rules}
 use Rattle.table_writer.proofs.lines.counter_lines.Statement.{statement}
 use Rattle.table_writer.proofs.lines.counter_lines.Tie as tie
@@ -11,7 +11,7 @@ line-requires : tie.Need-line-requires
 line-requires c κs =
     let start = c.before.before.before in
     let a = start.args in
-    clock-fits a.counters a.buf.now a.at start.requires
+    clock_fits a.counters a.buf.now a.at start.requires
 
 slice-aggregate-line-2 : tie.Need-slice-aggregate-line-2
 slice-aggregate-line-2 c = search rules
@@ -21,7 +21,7 @@ line-requires-2 c κs =
     let first = c.before.before.before.before in
     let start = first.before.before.before.before in
     let a = start.args in
-    sample-fits a.counters a.buf.now a.at start.requires first.line.ensures
+    sample_fits a.counters a.buf.now a.at start.requires first.line.ensures
 
 slice-aggregate-line-3 : tie.Need-slice-aggregate-line-3
 slice-aggregate-line-3 c = search rules
@@ -44,7 +44,7 @@ returns c =
     let first = second.before.before.before.before.before in
     let start = first.before.before.before.before in
     let a = start.args in
-    counters-placed a.counters a.buf.now a.at start.requires first.line.ensures second.line2.ensures third.line3.ensures
+    counters_placed a.counters a.buf.now a.at start.requires first.line.ensures second.line2.ensures third.line3.ensures
 
 pub counter_lines_spec : {M : Type 1} → statement M
 counter_lines_spec =

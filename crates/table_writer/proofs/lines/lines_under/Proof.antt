@@ -2,7 +2,7 @@
 use Prim.Native.Nat.{◌-◌, ◌≤◌}
 use mathlib.Core.Path.{◌∙◌}
 use lib.ListN.{length}
-use Rattle.table_measure.proofs.Walk.{Left, under, left-start, slot-room, left-next, pins-room, left_over}
+use Rattle.table_measure.proofs.Walk.{Left, under, left_start, slot_room, left-next, pins_room, left_over}
 use native.Mathlib.Omega.{arith}
 use borrow.Author.Rules.{rules}
 use Rattle.table_writer.proofs.lines.lines_under.Statement.{statement}
@@ -18,7 +18,7 @@ decreases-loop buf₀ at txids xmins pins counters past₀ i₀ buf past i = len
 loop-holds : tie.Need-loop-init invariant-loop decreases-loop
 loop-holds c =
     let a = c.before.before.before.before.args in
-    (omega arith, left-start a.txids.now a.xmins.now a.pins.now a.counters a.buf.now a.at)
+    (omega arith, left_start a.txids.now a.xmins.now a.pins.now a.counters a.buf.now a.at)
 
 mul-txid : tie.Need-overflow-mul-txid invariant-loop decreases-loop
 mul-txid c = search rules
@@ -38,7 +38,7 @@ slot-lines-requires c κs =
     let l = looped.loop in
     let s = looped.before.before.before.before.before in
     let a = s.args in
-    slot-room a.txids.now a.xmins.now a.pins.now a.counters a.buf.now a.at s.requires.1 l.buf l.past l.i (omega arith)
+    slot_room a.txids.now a.xmins.now a.pins.now a.counters a.buf.now a.at s.requires.1 l.buf l.past l.i (omega arith)
     (omega arith) l.invariant.1
 
 add-i : tie.Need-overflow-add-i invariant-loop decreases-loop
@@ -65,7 +65,7 @@ pin-lines-requires c κs =
     let l = looped.loop in
     let s = looped.before.before.before.before.before in
     let a = s.args in
-    pins-room a.txids.now a.xmins.now a.pins.now a.counters a.buf.now a.at s.requires.1 l.buf l.past l.i (omega arith)
+    pins_room a.txids.now a.xmins.now a.pins.now a.counters a.buf.now a.at s.requires.1 l.buf l.past l.i (omega arith)
     (omega arith) l.invariant.1
 
 same_length : tie.Need-same-length invariant-loop decreases-loop

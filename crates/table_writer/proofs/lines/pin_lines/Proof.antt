@@ -2,7 +2,7 @@
 use Prim.Native.Nat.{◌-◌, ◌≤◌}
 use mathlib.Core.Path.{◌∙◌}
 use lib.ListN.{length}
-use Rattle.table_measure.proofs.Walk.{Left, from-pin, pins-start, pin-room, pin-next, counter-room, pins-placed}
+use Rattle.table_measure.proofs.Walk.{Left, from-pin, pins_start, pin_room, pin-next, counter_room, pins_placed}
 use native.Mathlib.Omega.{arith}
 use borrow.Author.Rules.{rules}
 use Rattle.table_writer.proofs.lines.pin_lines.Statement.{statement}
@@ -17,7 +17,7 @@ decreases-loop buf₀ at pins counters past₀ k₀ pin-key buf past k = length 
 loop-holds : tie.Need-loop-init invariant-loop decreases-loop
 loop-holds c =
     let a = c.before.before.args in
-    (omega arith, pins-start a.pins.now a.counters a.buf.now a.at)
+    (omega arith, pins_start a.pins.now a.counters a.buf.now a.at)
 
 mul-xmin : tie.Need-overflow-mul-xmin invariant-loop decreases-loop
 mul-xmin c = search rules
@@ -34,7 +34,7 @@ line-requires c κs =
     let l = looped.loop in
     let s = looped.before.before.before in
     let a = s.args in
-    pin-room a.pins.now a.counters a.buf.now a.at s.requires l.buf l.past l.k (omega arith) l.invariant.1
+    pin_room a.pins.now a.counters a.buf.now a.at s.requires l.buf l.past l.k (omega arith) l.invariant.1
 
 add-k : tie.Need-overflow-add-k invariant-loop decreases-loop
 add-k c = search rules
@@ -59,7 +59,7 @@ counter-lines-requires c κs =
     let l = looped.loop in
     let s = looped.before.before.before in
     let a = s.args in
-    counter-room a.pins.now a.counters a.buf.now a.at s.requires l.buf l.past l.k (omega arith) l.invariant.1
+    counter_room a.pins.now a.counters a.buf.now a.at s.requires l.buf l.past l.k (omega arith) l.invariant.1
 
 same_length : tie.Need-same-length invariant-loop decreases-loop
 same_length c =
@@ -73,7 +73,7 @@ returns c =
     let l = looped.loop in
     let s = looped.before.before.before in
     let a = s.args in
-    pins-placed a.pins.now a.counters a.buf.now a.at s.requires l.buf l.past l.k (omega arith) l.invariant.1
+    pins_placed a.pins.now a.counters a.buf.now a.at s.requires l.buf l.past l.k (omega arith) l.invariant.1
     put.counter-lines.ensures
 
 pub pin_lines_spec : {M : Type 1} → statement M

@@ -1,5 +1,5 @@
 -- Two lines, the second where the first ended (crate's proofs/Walk.antt).
-use Rattle.table_measure.proofs.Walk.{txid-fits, xmin-fits, slot_placed}
+use Rattle.table_measure.proofs.Walk.{txid-fits, xmin_fits, slot_placed}
 use borrow.Author.Rules.{rules}
 use Rattle.table_writer.proofs.lines.slot_lines.Statement.{statement}
 use Rattle.table_writer.proofs.lines.slot_lines.Tie as tie
@@ -21,7 +21,7 @@ line-requires-2 c κs =
     let first = c.before.before.before.before in
     let start = first.before.before.before.before in
     let a = start.args in
-    xmin-fits a.txid a.xmin a.buf.now a.at start.requires first.line.ensures
+    xmin_fits a.txid a.xmin a.buf.now a.at start.requires first.line.ensures
 
 same_length : tie.Need-same-length
 same_length c = search rules

@@ -5,7 +5,7 @@ use lib.ListN.{length, length-map}
 use Rattle.text.proofs.Splice.{no_room}
 use Rattle.table_text.specs.TableText.{table_text}
 use Rattle.text.proofs.Placed.{placed_put}
-use Rattle.table_measure.proofs.Walk.{header-fits, under-fits, table-placed}
+use Rattle.table_measure.proofs.Walk.{header-fits, under-fits, table_placed}
 use borrow.Author.Rules.{rules}
 use Rattle.table_writer.proofs.write.put_table.Statement.{statement}
 use Rattle.table_writer.proofs.write.put_table.Tie as tie
@@ -52,7 +52,7 @@ returns-3 c =
     let a = s.args in
     let size = first.before.before.before.before.before.table-length.ensures in
     let room : a.at + length (table_text a.t3) ≤ length a.buf.now = omega (arith, size) in
-    placed_put room (table-placed a.t3 a.buf.now a.at room first.first-line.ensures put.lines-under.ensures)
+    placed_put room (table_placed a.t3 a.buf.now a.at room first.first-line.ensures put.lines-under.ensures)
 
 pub put_table_spec : {M : Type 1} → statement M
 put_table_spec =

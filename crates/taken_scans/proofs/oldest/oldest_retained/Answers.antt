@@ -4,7 +4,7 @@ use native.Mathlib.Omega.{arith}
 use borrow.Author.Rules.{rules}
 use lib.ListN.{length, drop}
 use Rattle.model.specs.Tally.{oldest_of}
-use Rattle.taken_scans.proofs.Slots.{oldest-miss, oldest-hit, eight-oldest, oldest-over}
+use Rattle.taken_scans.proofs.Slots.{oldest_miss, oldest_hit, eight-oldest, oldest_over}
 use Rattle.taken_scans.proofs.oldest.oldest_retained.Goals as goal
 
 pub loop-i-init : goal.loop-i-init
@@ -22,18 +22,18 @@ pub loop-i-2-preserved-then-txids-at-ne0 : goal.loop-i-2-preserved-then-txids-at
 loop-i-2-preserved-then-txids-at-ne0 c =
     let loop = c.loop-i-2 in
     let a = c.args in
-    let step = oldest-hit a.txids.now loop.i a.xmins.now loop.low (omega arith) (omega arith) c.if-txids-at-ne0.true in
+    let step = oldest_hit a.txids.now loop.i a.xmins.now loop.low (omega arith) (omega arith) c.if-txids-at-ne0.true in
     (loop.invariant.0, omega arith, omega arith, rw c.lesser-low.ensures (loop.invariant.3 ∙ step))
 
 pub loop-i-2-preserved : goal.loop-i-2-preserved
 loop-i-2-preserved c =
     let loop = c.loop-i-2 in
     let a = c.args in
-    let step = oldest-miss a.txids.now loop.i a.xmins.now loop.low (omega arith) (omega arith) c.if-txids-at-ne0.false in
+    let step = oldest_miss a.txids.now loop.i a.xmins.now loop.low (omega arith) (omega arith) c.if-txids-at-ne0.false in
     (loop.invariant.0, omega arith, omega arith, loop.invariant.3 ∙ step)
 
 pub returns : goal.returns
 returns c =
     let loop = c.loop-i in
     let a = c.args in
-    sym (loop.invariant.2 ∙ oldest-over a.txids.now loop.i a.xmins.now loop.low (omega arith))
+    sym (loop.invariant.2 ∙ oldest_over a.txids.now loop.i a.xmins.now loop.low (omega arith))

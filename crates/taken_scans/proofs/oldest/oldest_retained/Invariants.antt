@@ -6,7 +6,7 @@ use native.Mathlib.Omega.{arith}
 use borrow.Author.Rules.{rules}
 use lib.ListN.{length, drop}
 use Rattle.model.specs.Tally.{oldest_of}
-use Rattle.taken_scans.proofs.Slots.{oldest-miss, oldest-hit, eight-oldest, oldest-over}
+use Rattle.taken_scans.proofs.Slots.{oldest_miss, oldest_hit, eight-oldest, oldest_over}
 use Rattle.taken_scans.proofs.oldest.oldest_retained.Given as goal
 
 abbrev pub invariant-loop-i-2 : goal.invariant-loop-i-2

@@ -1,5 +1,5 @@
 use Prim.Native.Nat.{ℕ, ◌-◌, ◌≤◌, min, max}
-use Rattle.taken_scans.proofs.Scan.{Scanned, none_yet, further, scanned-miss, scanned-hit, scanned-eight, scanned-ids, scanned-nothing, scanned-some, here, read, room, over}
+use Rattle.taken_scans.proofs.Scan.{Scanned, none_yet, further, scanned_miss, scanned_hit, scanned_eight, scanned_ids, scanned_nothing, scanned_some, here, read, room, over}
 use mathlib.Core.Path.{◌≡◌, refl, sym, ap, ◌∙◌}
 use native.Mathlib.Omega.{arith}
 use borrow.Author.Rules.{rules}
@@ -14,7 +14,7 @@ loop-i-preserved-then-all_empty c =
     let loop = c.loop-i in
     let t = c.args.txids.now in
     let empty = sym c.all_empty.ensures ∙ c.if-all_empty.true in
-    (loop.invariant.0, scanned-eight _ t loop.invariant.1 c.shorter-end.ensures (omega arith) empty)
+    (loop.invariant.0, scanned_eight _ t loop.invariant.1 c.shorter-end.ensures (omega arith) empty)
 
 pub loop-i-2-init : goal.loop-i-2-init
 loop-i-2-init c =
@@ -34,7 +34,7 @@ loop-i-2-preserved-then-id-eq0 c =
     let t = c.args.txids.now in
     let e = c.shorter-end.ensures ∙ ap (λ (k : ℕ). min k (length t)) (sym c.loop-i.invariant.0) in
     let empty = read _ t loop.invariant.2 e (omega arith) ∙ c.if-id-eq0.true in
-    (loop.invariant.0, loop.invariant.1, scanned-miss loop.invariant.2 (here _ t loop.invariant.2 e (omega arith)) empty)
+    (loop.invariant.0, loop.invariant.1, scanned_miss loop.invariant.2 (here _ t loop.invariant.2 e (omega arith)) empty)
 
 pub bounds-ids-count : goal.bounds-ids-count
 bounds-ids-count c =
@@ -50,7 +50,7 @@ loop-i-2-preserved c =
     let e = c.shorter-end.ensures ∙ ap (λ (k : ℕ). min k (length t)) (sym c.loop-i.invariant.0) in
     let inside = here _ t loop.invariant.2 e (omega arith) in
     let id = sym (read _ t loop.invariant.2 e (omega arith)) in
-    let hits = scanned-hit loop.invariant.2 inside id c.if-id-eq0.false c.lesser-low.ensures c.greater-high.ensures in
+    let hits = scanned_hit loop.invariant.2 inside id c.if-id-eq0.false c.lesser-low.ensures c.greater-high.ensures in
     (loop.invariant.0, rw length-set loop.invariant.1, hits)
 
 pub shape_of-ids-then-count-eq0 : goal.shape_of-ids-then-count-eq0
@@ -60,7 +60,7 @@ pub returns-then-count-eq0 : goal.returns-then-count-eq0
 returns-then-count-eq0 c =
     let loop = c.loop-i in
     let h = over _ c.args.txids.now loop.invariant.1 c.shorter-end.ensures (omega arith) in
-    record { value = scanned-nothing loop.invariant.1 h c.if-count-eq0.true; ids_after = scanned-ids loop.invariant.1 h }
+    record { value = scanned_nothing loop.invariant.1 h c.if-count-eq0.true; ids_after = scanned_ids loop.invariant.1 h }
 
 pub shape_of-ids : goal.shape_of-ids
 shape_of-ids c = c.loop-i.invariant.0
@@ -71,4 +71,4 @@ returns c =
     let a = c.args in
     let h = over _ a.txids.now loop.invariant.1 c.shorter-end.ensures (omega arith) in
     let xmax = c.greater-xmax.ensures ∙ ap (max a.sample) c.saturating_next-above.ensures in
-    record { value = scanned-some loop.invariant.1 h c.if-count-eq0.false xmax; ids_after = scanned-ids loop.invariant.1 h }
+    record { value = scanned_some loop.invariant.1 h c.if-count-eq0.false xmax; ids_after = scanned_ids loop.invariant.1 h }

@@ -1,7 +1,7 @@
 -- The invariant is `Scanned` (`Scan`), over the first slots, as many as the run has places, begun with the run as it was lent: the
 -- tallies of all of them are those of the slots left, taken up from the present numbers; eight slots in a turn, or one at a time.
 use Prim.Native.Nat.{ℕ, ◌-◌, ◌≤◌, min, max}
-use Rattle.taken_scans.proofs.Scan.{Scanned, none_yet, further, scanned-miss, scanned-hit, scanned-eight, scanned-ids, scanned-nothing, scanned-some, here, read, room, over}
+use Rattle.taken_scans.proofs.Scan.{Scanned, none_yet, further, scanned_miss, scanned_hit, scanned_eight, scanned_ids, scanned_nothing, scanned_some, here, read, room, over}
 use mathlib.Core.Path.{◌≡◌, refl, sym, ap, ◌∙◌}
 use native.Mathlib.Omega.{arith}
 use borrow.Author.Rules.{rules}

@@ -5,7 +5,7 @@ use native.Mathlib.Nat.{add-zero, add_assoc}
 use borrow.Author.Tests.{ne_eqb}
 use lib.ListN.{length, drop}
 use Rattle.text.specs.Bytes.{starts}
-use Rattle.text.proofs.Bytes.{starts-past, starts-end, starts-same, starts_other}
+use Rattle.text.proofs.Bytes.{starts-past, starts-end, starts_same, starts_other}
 use Rattle.text.proofs.read.bytes_at.Goals as goal
 
 pub returns-then-s-key : goal.returns-then-s-key
@@ -50,7 +50,7 @@ pub loop-j-preserved : goal.loop-j-preserved
 loop-j-preserved c =
     let a = c.args in
     let l = c.loop-j in
-    let same = starts-same a.key.now a.s.now l.j (a.at + l.j) c.loop-j-test.true (omega arith) c.if-s-at.false in
+    let same = starts_same a.key.now a.s.now l.j (a.at + l.j) c.loop-j-test.true (omega arith) c.if-s-at.false in
     (omega arith, omega arith, l.invariant.2 ∙ same ∙ simp add_assoc)
 
 pub returns : goal.returns

@@ -6,7 +6,7 @@ use native.Mathlib.Nat.{add-zero, add_assoc}
 use borrow.Author.Tests.{ne_eqb}
 use lib.ListN.{length, drop}
 use Rattle.text.specs.Bytes.{starts}
-use Rattle.text.proofs.Bytes.{starts-past, starts-end, starts-same, starts_other}
+use Rattle.text.proofs.Bytes.{starts-past, starts-end, starts_same, starts_other}
 use Rattle.text.proofs.read.bytes_at.Given as goal
 
 abbrev pub invariant-loop-j : goal.invariant-loop-j

@@ -5,7 +5,7 @@ use native.Mathlib.Omega.{arith}
 use borrow.Author.Tests.{le-leb, lt-leb, not-true, not-false}
 use lib.ListN.{length, drop, get_or}
 use Rattle.text.specs.Decimal.{number_tail, number_at}
-use Rattle.text.proofs.Numbers.{start_none, start-step, tail_none, tail-ends, tail-goes, went}
+use Rattle.text.proofs.Numbers.{start_none, start_step, tail_none, tail_ends, tail_goes, went}
 use Rattle.text.proofs.read.number_at.Goals as goal
 
 pub returns-then-s-at : goal.returns-then-s-at
@@ -15,11 +15,11 @@ pub bounds-s-at : goal.bounds-s-at
 bounds-s-at c = omega arith
 
 pub returns-then-first-lt48 : goal.returns-then-first-lt48
-returns-then-first-lt48 c = rw (start-step _ _ c.if-s-at.false) (simp (lt-leb _ _ c.if-first-lt48.true))
+returns-then-first-lt48 c = rw (start_step _ _ c.if-s-at.false) (simp (lt-leb _ _ c.if-first-lt48.true))
 
 pub returns-then-first-gt57 : goal.returns-then-first-gt57
 returns-then-first-gt57 c =
-    rw (start-step _ _ c.if-s-at.false)
+    rw (start_step _ _ c.if-s-at.false)
     (simp (le-leb _ _ c.if-first-lt48.false, lt-leb _ _ c.if-first-gt57.true))
 
 pub overflow_cast-n : goal.overflow_cast-n
@@ -31,7 +31,7 @@ overflow_add-i c = omega arith
 pub loop-i-init : goal.loop-i-init
 loop-i-init c = (
   omega arith,
-  rw (start-step _ _ c.if-s-at.false)
+  rw (start_step _ _ c.if-s-at.false)
       (simp (le-leb _ _ c.if-first-lt48.false, le-leb _ _ c.if-first-gt57.false)),
 )
 
@@ -43,7 +43,7 @@ overflow_add-result c = omega arith
 
 pub returns-then-b-eq10 : goal.returns-then-b-eq10
 returns-then-b-eq10 c =
-    sym (c.loop-i.invariant.1 ∙ tail-ends _ _ _ c.loop-i-test.true c.if-b-eq10.true)
+    sym (c.loop-i.invariant.1 ∙ tail_ends _ _ _ c.loop-i-test.true c.if-b-eq10.true)
 
 pub goes_on-requires : goal.goes_on-requires
 goes_on-requires c = tt
@@ -51,7 +51,7 @@ goes_on-requires c = tt
 pub returns-then-not-goes_on : goal.returns-then-not-goes_on
 returns-then-not-goes_on c =
     let stop = sym c.goes_on.ensures ∙ c.if-not-goes_on.true in
-    sym (c.loop-i.invariant.1 ∙ tail-goes _ _ _ false c.loop-i-test.true c.if-b-eq10.false stop)
+    sym (c.loop-i.invariant.1 ∙ tail_goes _ _ _ false c.loop-i-test.true c.if-b-eq10.false stop)
 
 pub overflow_mul-n : goal.overflow_mul-n
 overflow_mul-n c =
@@ -86,7 +86,7 @@ loop-i-smaller c = omega arith
 pub loop-i-preserved : goal.loop-i-preserved
 loop-i-preserved c =
     let on = sym c.goes_on.ensures ∙ c.if-not-goes_on.false in
-    (omega arith, c.loop-i.invariant.1 ∙ tail-goes _ _ _ true c.loop-i-test.true c.if-b-eq10.false on)
+    (omega arith, c.loop-i.invariant.1 ∙ tail_goes _ _ _ true c.loop-i-test.true c.if-b-eq10.false on)
 
 pub returns : goal.returns
 returns c = sym (c.loop-i.invariant.1 ∙ tail_none _ _ _ c.loop-i-test.false)

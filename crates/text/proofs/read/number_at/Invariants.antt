@@ -6,7 +6,7 @@ use native.Mathlib.Omega.{arith}
 use borrow.Author.Tests.{le-leb, lt-leb, not-true, not-false}
 use lib.ListN.{length, drop, get_or}
 use Rattle.text.specs.Decimal.{number_tail, number_at}
-use Rattle.text.proofs.Numbers.{start_none, start-step, tail_none, tail-ends, tail-goes, went}
+use Rattle.text.proofs.Numbers.{start_none, start_step, tail_none, tail_ends, tail_goes, went}
 use Rattle.text.proofs.read.number_at.Given as goal
 
 abbrev pub invariant-loop-i : goal.invariant-loop-i

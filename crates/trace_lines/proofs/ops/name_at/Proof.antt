@@ -1,6 +1,6 @@
 -- `name_at` meets its contract: the calls, last first, are the definition's list of names.
 use borrow.Author.Rules.{rules}
-use Rattle.grammar.proofs.Said.{first-tried}
+use Rattle.grammar.proofs.Said.{first_tried}
 use Rattle.trace.specs.Op.{op_name, ops}
 use Rattle.trace.specs.declared.ops.OpAt.TheVariants.{Is, Unknown}
 use Rattle.trace_lines.proofs.ops.name_at.Statement.{statement}
@@ -88,7 +88,7 @@ returns c =
       finish.try-name3.ensures,
       pin.try-name2.ensures,
       unpin.try-name.ensures,
-    ) (first-tried Is Unknown op_name ops _ _)
+    ) (first_tried Is Unknown op_name ops _ _)
 
 pub name_at_spec : {M : Type 1} → statement M
 name_at_spec =

@@ -6,7 +6,7 @@ use Prim.Native.Nat.{ℕ}
 use lib.ListN.{drop}
 use Rattle.text.specs.Bytes.{starts}
 use Rattle.grammar.specs.Names.{name_line}
-use Rattle.grammar.proofs.Laws.{head-is, no-head}
+use Rattle.grammar.proofs.Laws.{head_is, no_head}
 use Rattle.trace.specs.Version.{header_of, header_at}
 use Rattle.trace.specs.Trace.{trace_grammar}
 use Rattle.trace.specs.declared.Version.{Version}
@@ -30,7 +30,7 @@ bytes-at-requires c κs = search rules
 
 returns : tie.Need-returns
 unfolding header_at name_line
-returns c = rw (head-is trace_grammar trace_grammar_lem _ Proc1 (sym c.before.bytes-at.ensures ∙ c.if1.true))
+returns c = rw (head_is trace_grammar trace_grammar_lem _ Proc1 (sym c.before.bytes-at.ensures ∙ c.if1.true))
 
 slice-aggregate-bytes-at-2 : tie.Need-slice-aggregate-bytes-at-2
 slice-aggregate-bytes-at-2 c = search rules
@@ -40,7 +40,7 @@ bytes-at-requires-2 c κs = search rules
 
 returns-2 : tie.Need-returns-2
 unfolding header_at name_line
-returns-2 c = rw (head-is trace_grammar trace_grammar_lem _ Proc2 (sym c.before.bytes-at2.ensures ∙ c.if2.true))
+returns-2 c = rw (head_is trace_grammar trace_grammar_lem _ Proc2 (sym c.before.bytes-at2.ensures ∙ c.if2.true))
 
 slice-aggregate-bytes-at-3 : tie.Need-slice-aggregate-bytes-at-3
 slice-aggregate-bytes-at-3 c = search rules
@@ -50,7 +50,7 @@ bytes-at-requires-3 c κs = search rules
 
 returns-3 : tie.Need-returns-3
 unfolding header_at name_line
-returns-3 c = rw (head-is trace_grammar trace_grammar_lem _ Proc3 (sym c.before.bytes-at3.ensures ∙ c.if3.true))
+returns-3 c = rw (head_is trace_grammar trace_grammar_lem _ Proc3 (sym c.before.bytes-at3.ensures ∙ c.if3.true))
 
 returns-4 : tie.Need-returns-4
 unfolding header_at name_line
@@ -59,7 +59,7 @@ returns-4 c =
     let first = second.before.before.before in
     let one = sym first.before.bytes-at.ensures ∙ first.if1.false in
     let two = sym second.before.bytes-at2.ensures ∙ second.if2.false in
-    rw (no-head trace_grammar trace_grammar_lem _ (none _ one two (sym c.before.bytes-at3.ensures ∙ c.if3.false)))
+    rw (no_head trace_grammar trace_grammar_lem _ (none _ one two (sym c.before.bytes-at3.ensures ∙ c.if3.false)))
 
 pub header_at_spec : {M : Type 1} → statement M
 header_at_spec =

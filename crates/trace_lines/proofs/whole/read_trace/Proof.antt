@@ -6,11 +6,11 @@ use native.Mathlib.Omega.{arith}
 use borrow.Author.Tests.{lt-ltb, le-ltb}
 use lib.ListN.{length}
 use Rattle.grammar.specs.Texts.{count_text, read_text}
-use Rattle.grammar.proofs.Laws.{under-facts}
-use Rattle.grammar.proofs.Count.{Stands, stands-start, stands-next, stands-small, stands-broken, stands-end}
+use Rattle.grammar.proofs.Laws.{under_facts}
+use Rattle.grammar.proofs.Count.{Stands, stands_start, stands_next, stands_small, stands_broken, stands_end}
 use Rattle.trace.specs.Trace.{trace_grammar, reading}
 use Rattle.trace.proofs.Shape.{trace_grammar_lem}
-use Rattle.trace.proofs.Answers.{header_is, under-is}
+use Rattle.trace.proofs.Answers.{header_is, under_is}
 use Rattle.trace_lines.proofs.whole.read_trace.Statement.{statement}
 use Rattle.trace_lines.proofs.whole.read_trace.Tie as tie
 
@@ -43,7 +43,7 @@ loop-holds : tie.Need-loop-init invariant-loop decreases-loop
 loop-holds c =
     let asked = c.before.before.before in
     let head = header_is _ (sym asked.header_at.ensures ∙ c.before.version.given.1) in
-    stands-start trace_grammar trace_grammar_lem _ _ _ asked.before.if1.false head
+    stands_start trace_grammar trace_grammar_lem _ _ _ asked.before.if1.false head
 
 record-under-requires : tie.Need-record-under-requires invariant-loop decreases-loop
 record-under-requires c κs = tt
@@ -56,14 +56,14 @@ add-n c = omega arith
 
 loop-less : tie.Need-loop-smaller invariant-loop decreases-loop
 loop-less c =
-    let read = under-is _ _ _ (sym c.before.before.before.record-under.ensures ∙ c.before.r.given.1) in
-    let m = (under-facts trace_grammar trace_grammar_lem _).moves _ _ _ _ read in
+    let read = under_is _ _ _ (sym c.before.before.before.record-under.ensures ∙ c.before.r.given.1) in
+    let m = (under_facts trace_grammar trace_grammar_lem _).moves _ _ _ _ read in
     omega (arith, m.0, m.1)
 
 loop-again : tie.Need-loop-preserved invariant-loop decreases-loop
 loop-again c =
-    let read = under-is _ _ _ (sym c.before.before.before.record-under.ensures ∙ c.before.r.given.1) in
-    stands-next trace_grammar trace_grammar_lem _ _ _ _ _ _ c.before.before.before.before.before.loop.invariant read
+    let read = under_is _ _ _ (sym c.before.before.before.record-under.ensures ∙ c.before.r.given.1) in
+    stands_next trace_grammar trace_grammar_lem _ _ _ _ _ _ c.before.before.before.before.before.loop.invariant read
 
 enum-known-r-2 : tie.Need-enum-known-r-2 invariant-loop decreases-loop
 enum-known-r-2 c = c.match2.keys2
@@ -76,20 +76,20 @@ add-t15 c = omega arith
 
 add-t16 : tie.Need-overflow-add-t16 invariant-loop decreases-loop
 add-t16 c =
-    let read = under-is _ _ _ (sym c.before.before.before.record-under.ensures ∙ c.before.r2.given.1) in
-    let small = stands-small trace_grammar trace_grammar_lem _ _ _ _ _ c.before.before.before.before.before.loop.invariant read in
+    let read = under_is _ _ _ (sym c.before.before.before.record-under.ensures ∙ c.before.r2.given.1) in
+    let small = stands_small trace_grammar trace_grammar_lem _ _ _ _ _ c.before.before.before.before.before.loop.invariant read in
     omega (arith, small)
 
 returns-3 : tie.Need-returns-3 invariant-loop decreases-loop
 unfolding reading
 returns-3 c =
-    let read = under-is _ _ _ (sym c.before.before.before.record-under.ensures ∙ c.before.r2.given.1) in
+    let read = under_is _ _ _ (sym c.before.before.before.record-under.ensures ∙ c.before.r2.given.1) in
     let tested = c.before.before.before.before in
-    rw (stands-broken trace_grammar trace_grammar_lem _ _ _ _ _ tested.before.loop.invariant tested.loop-test.true read)
+    rw (stands_broken trace_grammar trace_grammar_lem _ _ _ _ _ tested.before.loop.invariant tested.loop-test.true read)
 
 returns-4 : tie.Need-returns-4 invariant-loop decreases-loop
 unfolding reading
-returns-4 c = rw (stands-end trace_grammar trace_grammar_lem _ _ _ _ c.before.loop.invariant c.loop-test.false)
+returns-4 c = rw (stands_end trace_grammar trace_grammar_lem _ _ _ _ c.before.loop.invariant c.loop-test.false)
 
 pub read_trace_spec : {M : Type 1} → statement M
 read_trace_spec =

@@ -1,5 +1,5 @@
 -- Six lines, each of which begins where the one before it ended (crate's proofs/Texts.antt).
-use Rattle.trace_writer.proofs.Texts.{two_fits, id-fits, stamp-fits, clock-fits, sample-fits, record-placed}
+use Rattle.trace_writer.proofs.Texts.{two_fits, id_fits, stamp-fits, clock_fits, sample_fits, record_placed}
 use borrow.Author.Rules.{rules}
 use Rattle.trace_writer.proofs.lines.record.Statement.{statement}
 use Rattle.trace_writer.proofs.lines.record.Tie as tie
@@ -20,7 +20,7 @@ line-requires c κs =
     let op = c.before.before.before.before in
     let start = op.before.before.before.before in
     let a = start.args in
-    id-fits a.r a.buf.now a.at start.requires op.op-and-slot.ensures
+    id_fits a.r a.buf.now a.at start.requires op.op-and-slot.ensures
 
 slice-aggregate-line-2 : tie.Need-slice-aggregate-line-2
 slice-aggregate-line-2 c = search rules
@@ -43,7 +43,7 @@ line-requires-3 c κs =
     let op = id.before.before.before.before.before in
     let start = op.before.before.before.before in
     let a = start.args in
-    clock-fits a.r a.buf.now a.at start.requires op.op-and-slot.ensures id.line.ensures stamp.line2.ensures
+    clock_fits a.r a.buf.now a.at start.requires op.op-and-slot.ensures id.line.ensures stamp.line2.ensures
 
 slice-aggregate-line-4 : tie.Need-slice-aggregate-line-4
 slice-aggregate-line-4 c = search rules
@@ -56,7 +56,7 @@ line-requires-4 c κs =
     let op = id.before.before.before.before.before in
     let start = op.before.before.before.before in
     let a = start.args in
-    sample-fits a.r a.buf.now a.at start.requires op.op-and-slot.ensures id.line.ensures stamp.line2.ensures
+    sample_fits a.r a.buf.now a.at start.requires op.op-and-slot.ensures id.line.ensures stamp.line2.ensures
     clock.line3.ensures
 
 same_length : tie.Need-same-length
@@ -71,7 +71,7 @@ returns c =
     let op = id.before.before.before.before.before in
     let start = op.before.before.before.before in
     let a = start.args in
-    record-placed a.r a.buf.now a.at start.requires op.op-and-slot.ensures id.line.ensures stamp.line2.ensures
+    record_placed a.r a.buf.now a.at start.requires op.op-and-slot.ensures id.line.ensures stamp.line2.ensures
     clock.line3.ensures sample.line4.ensures
 
 pub record_spec : {M : Type 1} → statement M

@@ -6,7 +6,7 @@ use lib.ListN.{length, drop}
 use Rattle.text.specs.Write.{spliced}
 use Rattle.rows_measure.specs.Measuring.{records_of, listed, records_text}
 use Rattle.trace_writer.proofs.Texts.{header-fits}
-use Rattle.trace_writer.proofs.Judging.{Left, left-start, past-header, record-room, left-next, none-bad, left_over}
+use Rattle.trace_writer.proofs.Judging.{Left, left_start, past-header, record_room, left-next, none_bad, left_over}
 use borrow.Author.Rules.{rules}
 use Rattle.trace_writer.proofs.write.write_text.Statement.{statement}
 use Rattle.trace_writer.proofs.write.write_text.Tie as tie
@@ -30,7 +30,7 @@ loop-holds c =
     let h = c.before.before in
     let s = h.before.before.before in
     let a = s.args in
-    (search rules, refl, left-start a.version a.rows.now a.buf.now _ _ s.requires.0 s.requires.1 h.header.ensures)
+    (search rules, refl, left_start a.version a.rows.now a.buf.now _ _ s.requires.0 s.requires.1 h.header.ensures)
 
 mul-row : tie.Need-overflow-mul-row invariant-loop decreases-loop
 mul-row c = search rules
@@ -51,7 +51,7 @@ record-requires c κs =
     let l = asked.before.before.before.loop in
     let a = asked.before.before.before.before.before.before.before.before.before.args in
     let e = sym judged.judged.given.1 ∙ asked.row_Under.ensures in
-    record-room a.version a.rows.now _ l.buf l.at l.i _ (omega arith) e l.invariant.2
+    record_room a.version a.rows.now _ l.buf l.at l.i _ (omega arith) e l.invariant.2
 
 add-i : tie.Need-overflow-add-i invariant-loop decreases-loop
 add-i c = search rules
@@ -87,7 +87,7 @@ returns c =
     let l = asked.before.before.before.loop in
     let a = asked.before.before.before.before.before.before.before.before.before.args in
     let e = sym c.enum_told.given.1 ∙ asked.row_Under.ensures in
-    absurd (none-bad a.version a.rows.now _ l.buf l.at l.i (omega arith) e l.invariant.2)
+    absurd (none_bad a.version a.rows.now _ l.buf l.at l.i (omega arith) e l.invariant.2)
 
 same-length-2 : tie.Need-same-length-2 invariant-loop decreases-loop
 same-length-2 c =

@@ -1,6 +1,6 @@
 -- By what was measured: a bad row, a text too long, one longer than the buffer, or one with room (crate's proofs/Answering.antt).
 use mathlib.Core.Path.{sym, ◌∙◌}
-use Rattle.trace_writer.proofs.Answering.{refused-bad, refused-long, refused-short, room-written, written-whole}
+use Rattle.trace_writer.proofs.Answering.{refused_bad, refused_long, refused_short, room_written, written-whole}
 use borrow.Author.Rules.{rules}
 use Rattle.trace_writer.proofs.write.write_trace.Statement.{statement}
 use Rattle.trace_writer.proofs.write.write_trace.Tie as tie
@@ -20,7 +20,7 @@ returns c =
     let asked = known.before.before in
     let a = asked.before.before.args in
     let m = sym asked.measure.ensures ∙ known.decreases.given.1 in
-    refused-long a.version a.rows.now a.buf.now _ m c.if1.true
+    refused_long a.version a.rows.now a.buf.now _ m c.if1.true
 
 returns-2 : tie.Need-returns-2
 returns-2 c =
@@ -28,7 +28,7 @@ returns-2 c =
     let asked = known.before.before in
     let a = asked.before.before.args in
     let m = sym asked.measure.ensures ∙ known.decreases.given.1 in
-    refused-short a.version a.rows.now a.buf.now _ m c.before.if1.false c.if2.true
+    refused_short a.version a.rows.now a.buf.now _ m c.before.if1.false c.if2.true
 
 write-text-requires : tie.Need-write-text-requires
 write-text-requires c κs =
@@ -36,13 +36,13 @@ write-text-requires c κs =
     let asked = known.before.before in
     let a = asked.before.before.args in
     let m = sym asked.measure.ensures ∙ known.decreases.given.1 in
-    room-written a.version a.rows.now a.buf.now _ m c.before.before.if1.false c.before.if2.false
+    room_written a.version a.rows.now a.buf.now _ m c.before.before.if1.false c.before.if2.false
 
 returns-3 : tie.Need-returns-3
 returns-3 c =
     let asked = c.before.before in
     let a = asked.before.before.args in
-    refused-bad a.version a.rows.now a.buf.now (sym asked.measure.ensures ∙ c.enum_told.given.1)
+    refused_bad a.version a.rows.now a.buf.now (sym asked.measure.ensures ∙ c.enum_told.given.1)
 
 same_length : tie.Need-same-length
 same_length c = search rules

@@ -1,6 +1,6 @@
 -- `check_wait` meets its contract: a text that breaks its grammar, an entry that is refused, and the steps.
 use mathlib.Core.Path.{sym, ◌∙◌}
-use Rattle.wait.proofs.Running.{whole-opens, wait-broken, wait-refused, wait-stepped}
+use Rattle.wait.proofs.Running.{whole-opens, wait_broken, wait_refused, wait_stepped}
 use borrow.Author.Rules.{rules}
 use Rattle.wait.proofs.check.check_wait.Statement.{statement}
 use Rattle.wait.proofs.check.check_wait.Tie as tie
@@ -32,7 +32,7 @@ run-steps-requires c κs =
 returns : tie.Need-returns
 returns c =
     let broken = c.before in
-    wait-broken _ _ _ _ _ (sym broken.before.before.read-wait.ensures ∙ broken.reading.given.1)
+    wait_broken _ _ _ _ _ (sym broken.before.before.read-wait.ensures ∙ broken.reading.given.1)
 
 returns-2 : tie.Need-returns-2
 returns-2 c =
@@ -40,7 +40,7 @@ returns-2 c =
     let lent = tested.before.before.before.before.before.before.before in
     let whole = lent.before.before in
     let read = sym whole.before.before.read-wait.ensures ∙ whole.enum_told.given.1 in
-    wait-refused _ _ _ _ _ _ read (sym tested.entry-test.ensures ∙ c.before.entry.given.1)
+    wait_refused _ _ _ _ _ _ read (sym tested.entry-test.ensures ∙ c.before.entry.given.1)
 
 returns-3 : tie.Need-returns-3
 returns-3 c =
@@ -48,7 +48,7 @@ returns-3 c =
     let lent = tested.before.before.before.before.before.before.before in
     let whole = lent.before.before in
     let read = sym whole.before.before.read-wait.ensures ∙ whole.enum_told.given.1 in
-    c.run-steps.ensures ∙ wait-stepped _ _ _ _ _ read (sym tested.entry-test.ensures ∙ c.before.enum-told2.given.1)
+    c.run-steps.ensures ∙ wait_stepped _ _ _ _ _ read (sym tested.entry-test.ensures ∙ c.before.enum-told2.given.1)
 
 pub check_wait_spec : {M : Type 1} → statement M
 check_wait_spec =

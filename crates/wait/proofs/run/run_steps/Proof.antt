@@ -4,11 +4,11 @@ use Prim.Native.Nat.{◌-◌}
 use mathlib.Core.Path.{◌≡◌, sym, ◌∙◌}
 use native.Mathlib.Omega.{arith}
 use lib.ListN.{length, length-map}
-use Rattle.grammar.proofs.Walk.{none-broken}
+use Rattle.grammar.proofs.Walk.{none_broken}
 use Rattle.events.specs.Event.{event_form}
 use Rattle.events.proofs.Shape.{event_facts}
-use Rattle.events.proofs.Answers.{event-is}
-use Rattle.wait.proofs.Running.{Running, running-start, running-took, running-stopped, running-over}
+use Rattle.events.proofs.Answers.{event_is}
+use Rattle.wait.proofs.Running.{Running, running_start, running_took, running_stopped, running_over}
 use borrow.Author.Rules.{rules}
 use Rattle.wait.proofs.run.run_steps.Statement.{statement}
 use Rattle.wait.proofs.run.run_steps.Tie as tie
@@ -23,7 +23,7 @@ first-event-requires : tie.Need-first-event-requires invariant-loop decreases-lo
 first-event-requires c κs = search rules
 
 loop-holds : tie.Need-loop-init invariant-loop decreases-loop
-loop-holds c = rw c.first-event.ensures (running-start _ _ _ _ c.before.before.requires.0)
+loop-holds c = rw c.first-event.ensures (running_start _ _ _ _ c.before.before.requires.0)
 
 event-at-requires : tie.Need-event-at-requires invariant-loop decreases-loop
 event-at-requires c κs = search rules
@@ -37,8 +37,8 @@ enum_told c = search rules
 returns : tie.Need-returns invariant-loop decreases-loop
 returns c =
     let asked = c.before.before in
-    let broken = event-is _ _ (sym asked.event-at.ensures ∙ c.enum_told.given.1) in
-    absurd (none-broken event_form event_facts _ _ _ asked.before.before.loop.invariant.boundary asked.before.loop-test.true broken)
+    let broken = event_is _ _ (sym asked.event-at.ensures ∙ c.enum_told.given.1) in
+    absurd (none_broken event_form event_facts _ _ _ asked.before.before.loop.invariant.boundary asked.before.loop-test.true broken)
 
 keeps-rule-requires : tie.Need-keeps-rule-requires invariant-loop decreases-loop
 keeps-rule-requires c κs = search rules
@@ -54,7 +54,7 @@ add_step c =
     let ruled = c.before.before.before in
     let found = ruled.before.before.before.before.before.before in
     let asked = found.before.before in
-    let m = event_facts.moves _ _ _ _ (event-is _ _ (sym asked.event-at.ensures ∙ found.found.given.1)) in
+    let m = event_facts.moves _ _ _ _ (event_is _ _ (sym asked.event-at.ensures ∙ found.found.given.1)) in
     let looped = asked.before.before in
     omega (arith, m.0, m.1, looped.loop.invariant.small, looped.before.before.before.requires.1)
 
@@ -63,7 +63,7 @@ loop-less c =
     let ruled = c.before.before.before in
     let found = ruled.before.before.before.before.before.before in
     let asked = found.before.before in
-    let m = event_facts.moves _ _ _ _ (event-is _ _ (sym asked.event-at.ensures ∙ found.found.given.1)) in
+    let m = event_facts.moves _ _ _ _ (event_is _ _ (sym asked.event-at.ensures ∙ found.found.given.1)) in
     omega (arith, m.0, m.1)
 
 loop-again : tie.Need-loop-preserved invariant-loop decreases-loop
@@ -77,7 +77,7 @@ loop-again c =
     let size = simp length-map at looped.before.before.before.well-formed.0.1.1.0.1.0.1 in
     let q = sym asked.event-at.ensures ∙ found.found.given.1 in
     rw size
-    (running-took _ _ _ _ _ _ _ (rw size at l.invariant) _ _ _ _ _ q ruled.keeps-rule.ensures changed.before.if1.true
+    (running_took _ _ _ _ _ _ _ (rw size at l.invariant) _ _ _ _ _ q ruled.keeps-rule.ensures changed.before.if1.true
     changed.change-of.ensures c.apply.ensures)
 
 returns-2 : tie.Need-returns-2 invariant-loop decreases-loop
@@ -89,13 +89,13 @@ returns-2 c =
     let l = looped.loop in
     let size = simp length-map at looped.before.before.before.well-formed.0.1.1.0.1.0.1 in
     let q = sym asked.event-at.ensures ∙ found.found.given.1 in
-    running-stopped _ _ _ _ _ _ _ (rw size at l.invariant) _ _ _ q ruled.keeps-rule.ensures c.if1.false
+    running_stopped _ _ _ _ _ _ _ (rw size at l.invariant) _ _ _ q ruled.keeps-rule.ensures c.if1.false
 
 returns-3 : tie.Need-returns-3 invariant-loop decreases-loop
 returns-3 c =
     let looped = c.before in
     let size = simp length-map at looped.before.before.before.well-formed.0.1.1.0.1.0.1 in
-    running-over _ _ _ _ _ _ _ (rw size at looped.loop.invariant) c.loop-test.false
+    running_over _ _ _ _ _ _ _ (rw size at looped.loop.invariant) c.loop-test.false
 
 pub run_steps_spec : {M : Type 1} → statement M
 run_steps_spec =

@@ -1,5 +1,5 @@
 -- Five lines, each of which begins where the one before it ended (crate's proofs/Five.antt).
-use Rattle.wait_report.proofs.Five.{answer-fits, slot-fits, id-fits, seen-fits, at-fits, verdict-placed}
+use Rattle.wait_report.proofs.Five.{answer-fits, slot-fits, id_fits, seen-fits, at-fits, verdict_placed}
 use borrow.Author.Rules.{rules}
 use Rattle.wait_report.proofs.lines.verdict_lines.Statement.{statement}
 use Rattle.wait_report.proofs.lines.verdict_lines.Tie as tie
@@ -29,7 +29,7 @@ line-requires-3 c κs =
     let slot = c.before.before.before.before in
     let answer = slot.before.before.before.before.before in
     let start = answer.before.before.before.before in
-    id-fits start.args.told start.args.buf.now start.requires answer.line.ensures slot.line2.ensures
+    id_fits start.args.told start.args.buf.now start.requires answer.line.ensures slot.line2.ensures
 
 slice-aggregate-line-4 : tie.Need-slice-aggregate-line-4
 slice-aggregate-line-4 c = search rules
@@ -66,7 +66,7 @@ returns c =
     let slot = id.before.before.before.before.before in
     let answer = slot.before.before.before.before.before in
     let start = answer.before.before.before.before in
-    verdict-placed start.args.told start.args.buf.now start.requires answer.line.ensures slot.line2.ensures
+    verdict_placed start.args.told start.args.buf.now start.requires answer.line.ensures slot.line2.ensures
     id.line3.ensures seen.line4.ensures at.line5.ensures
 
 pub verdict_lines_spec : {M : Type 1} → statement M
