@@ -213,7 +213,7 @@ class Turn:
         """The last tuple of the body as a record with a field for each clause."""
         text = body.rstrip()
         if not text.endswith(")"):
-            return body
+            return self.said_once(text, names)
         depth, i = 0, len(text) - 1
         while i >= 0:
             depth += {")": 1, "]": 1, "}": 1, "(": -1, "[": -1, "{": -1}.get(text[i], 0)
@@ -238,13 +238,24 @@ class Turn:
                 break
             parts[-1:] = more + [inner[start:].strip()]
         if len(parts) == 1:
-            return self.labelled_inside(text, i, names) or body
+            inside = self.labelled_inside(text, i, names)
+            return inside if inside else self.said_once(text, names)
         if len(parts) != len(names):
             self.left(f"a tuple of {len(parts)} for {len(names)} clauses")
             return body
         if text[:i].endswith(("omega ", "grind ", "search ", "rw ", "cc ", "simp ")):
             return body
         return text[:i] + "record { " + "; ".join(f"{n} = {x}" for n, x in zip(names, parts)) + " }"
+
+    def said_once(self, text, names):
+        """A lemma's pair is named, and its parts are the clauses."""
+        at = [m.end() for m in re.finditer(r" in(?=\s)", text)]
+        at = at[-1] if at else 0
+        last = text[at:].strip()
+        if re.match(r"(omega|grind|search|rw|cc|simp|elim|record|absurd|\?)\b", last) or "∙" in last:
+            return text
+        lead = "\n    "
+        return f"{text[:at]}{lead}let said = {last} in{lead}record {{ " + "; ".join(f"{n} = said.{k}" for k, n in enumerate(names)) + " }"
 
     def labelled_inside(self, text, i, names):
         inner = self.labelled(text[i + 1 : -1], names)
@@ -389,6 +400,8 @@ def turn_file(path, entry, crate, words, clauses):
             out_a += d["comments"] + ["-- left: " + l for l in d["body"]] + [""]
             continue
         new, at = t.needs[plain(need)]
+        if new.startswith(("shape_of-", "enum_")):
+            continue
         body = t.body(m[3], at, args)
         names = t.goal_labels(new, inside.split(".")[-1])
         if names:
