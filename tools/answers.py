@@ -252,7 +252,7 @@ class Turn:
         at = [m.end() for m in re.finditer(r" in(?=\s)", text)]
         at = at[-1] if at else 0
         last = text[at:].strip()
-        if re.match(r"(omega|grind|search|rw|cc|simp|elim|record|absurd|\?)\b", last) or "∙" in last:
+        if re.match(r"(unfit|called|omega|grind|search|rw|cc|simp|elim|record|absurd|\?)\b", last) or "∙" in last:
             return text
         lead = "\n    "
         return f"{text[:at]}{lead}let said = {last} in{lead}record {{ " + "; ".join(f"{n} = said.{k}" for k, n in enumerate(names)) + " }"

@@ -106,6 +106,8 @@ TOKEN = re.compile(r"--[^\n]*|//[^\n]*|\"(?:[^\"\\\n]|\\.)*\"|" + W)
 def renamed(text, to, inner, is_prose=False):
     """The text with each own name in its new spelling. A name behind a dot is turned where it is a field, or where a module stands before."""
 
+    aliases = set(re.findall(r"use Rattle[\w.·]+\.(?:specs|proofs)\.(?!Goals|Given|Tie|Lts|Reads)[A-Z]\w* as (\w+)", text))
+
     def turn(m):
         t = m[0]
         if t.startswith(("--", "//")):
@@ -118,7 +120,8 @@ def renamed(text, to, inner, is_prose=False):
         if before.endswith("."):
             path = re.search(r"([\w'·+⟦⟧:-]+\.)+$", before)
             is_module = path and re.search(r"(^|\.)([A-Z][\w']*\.|proofs\.|specs\.)$", path[0])
-            if t not in inner and not is_module:
+            is_alias = path and path[0][:-1] in aliases
+            if t not in inner and not is_module and not is_alias:
                 return t
         return to[t]
 

@@ -98,4 +98,4 @@ pub trace_laws : Laws trace_format
 trace_laws = format_laws trace_grammar trace_grammar_lem
 
 pub any_facts : Facts any_form
-any_facts = grammar.any-facts trace_grammar trace_grammar_lem
+any_facts = grammar.any_facts trace_grammar trace_grammar_lem

@@ -11,24 +11,13 @@ use Rattle.place_vacuum.proofs.sockhurdle_vacuum.Goals as goal
 pub returns-then-shape-ne0 : goal.returns-then-shape-ne0
 returns-then-shape-ne0 c =
     let a = c.args in
-    let said = unfit _ _ a.table.now _ c.shape_test-shape.ensures c.if-shape-ne0.true a.out.now in
-    record { result_value = said.0; table_after = said.1; out_after = said.2 }
+    unfit _ _ a.table.now _ c.shape_test-shape.ensures c.if-shape-ne0.true a.out.now
 
 pub slice_bounds-decide_vacuum-end : goal.slice_bounds-decide_vacuum-end
 slice_bounds-decide_vacuum-end c =
     let fit = sym c.shape_test-shape.ensures ∙ c.if-shape-ne0.false in
     let size = (shaped _ _ _ fit).size in
     sym (length-take-le _ c.args.table.now (omega arith))
-
--- left: part-decide-vacuum-end c =
--- left:     let fit = sym c.before.before.before.before.shape-test.ensures ∙ c.before.before.before.if1.false in
--- left:     let size = (shaped _ _ _ fit).size in
--- left:     omega arith
-
--- left: part-decide-vacuum-end-2 c =
--- left:     let fit = sym c.before.before.before.before.before.shape-test.ensures ∙ c.before.before.before.before.if1.false in
--- left:     let size = (shaped _ _ _ fit).size in
--- left:     omega arith
 
 pub returns : goal.returns
 unfolding shown_accepted
@@ -38,5 +27,4 @@ returns c =
     let was = c.counters_in-was.ensures in
     let decided = c.decide_vacuum-decided.ensures ∙ columns_decide _ a.table.now _ was in
     let told = c.tell_plain.ensures in
-    let said = called _ _ a.table.now _ a.out.now fit (shaped _ _ _ fit) decided refl told.value c.store.ensures told.out_after in
-    record { result_value = said.0; table_after = said.1; out_after = said.2 }
+    called _ _ a.table.now _ a.out.now fit (shaped _ _ _ fit) decided refl told.value c.store.ensures told.out_after
