@@ -209,11 +209,11 @@ class Turn:
         found = [k[kind] for k in kinds if len(k[kind]) > 1 and all(k[kind])]
         return found[0] if found else None
 
-    def labelled(self, body, names):
+    def labelled(self, body, names, is_inside=False):
         """The last tuple of the body as a record with a field for each clause."""
         text = body.rstrip()
         if not text.endswith(")"):
-            return self.said_once(text, names)
+            return body if is_inside else self.said_once(text, names)
         depth, i = 0, len(text) - 1
         while i >= 0:
             depth += {")": 1, "]": 1, "}": 1, "(": -1, "[": -1, "{": -1}.get(text[i], 0)
@@ -239,7 +239,7 @@ class Turn:
             parts[-1:] = more + [inner[start:].strip()]
         if len(parts) == 1:
             inside = self.labelled_inside(text, i, names)
-            return inside if inside else self.said_once(text, names)
+            return inside if inside else body if is_inside else self.said_once(text, names)
         if len(parts) != len(names):
             self.left(f"a tuple of {len(parts)} for {len(names)} clauses")
             return body
@@ -258,7 +258,7 @@ class Turn:
         return f"{text[:at]}{lead}let said = {last} in{lead}record {{ " + "; ".join(f"{n} = said.{k}" for k, n in enumerate(names)) + " }"
 
     def labelled_inside(self, text, i, names):
-        inner = self.labelled(text[i + 1 : -1], names)
+        inner = self.labelled(text[i + 1 : -1], names, True)
         return text[: i + 1] + inner + ")" if inner != text[i + 1 : -1] else None
 
     def along(self, env, fields):

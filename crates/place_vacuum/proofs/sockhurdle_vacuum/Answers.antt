@@ -19,6 +19,18 @@ slice_bounds-decide_vacuum-end c =
     let size = (shaped _ _ _ fit).size in
     sym (length-take-le _ c.args.table.now (omega arith))
 
+pub slice_bounds-decide_vacuum-end-2 : goal.slice_bounds-decide_vacuum-end-2
+slice_bounds-decide_vacuum-end-2 c =
+    let fit = sym c.shape_test-shape.ensures ∙ c.if-shape-ne0.false in
+    let size = (shaped _ _ _ fit).size in
+    omega arith
+
+pub slice_bounds-decide_vacuum-end-3 : goal.slice_bounds-decide_vacuum-end-3
+slice_bounds-decide_vacuum-end-3 c =
+    let fit = sym c.shape_test-shape.ensures ∙ c.if-shape-ne0.false in
+    let size = (shaped _ _ _ fit).size in
+    omega arith
+
 pub returns : goal.returns
 unfolding shown_accepted
 returns c =
