@@ -1,0 +1,14 @@
+-- The change is stored, then the numbers of the answer are told.
+use mathlib.Core.Path.{ap, ◌∙◌}
+use Rattle.model.specs.declared.answer.Numbers.{Numbers}
+use Rattle.place.specs.Shapes.{told_in}
+use borrow.Author.Rules.{rules}
+use Rattle.place_answers.proofs.give.Goals as goal
+
+pub returns : goal.returns
+returns c =
+    let numbers = c.numbers_of-numbers.ensures in
+    let told = c.tell.ensures in
+    let out = c.args.out.now in
+    let number = told.0 ∙ ap (λ (a : Numbers). a.told.number) numbers in
+    record { value = number; table_after = c.store.ensures; out_after = told.1 ∙ ap (λ (a : Numbers). told_in out a) numbers }
