@@ -103,7 +103,7 @@ def table(root):
 TOKEN = re.compile(r"--[^\n]*|//[^\n]*|\"(?:[^\"\\\n]|\\.)*\"|" + W)
 
 
-def renamed(text, to, inner, is_prose=False):
+def renamed(text, to, inner, is_source=False):
     """The text with each own name in its new spelling. A name behind a dot is turned where it is a field, or where a module stands before."""
 
     aliases = set(re.findall(r"use Rattle[\w.·]+\.(?:specs|proofs)\.(?!Goals|Given|Tie|Lts|Reads)[A-Z]\w* as (\w+)", text))
@@ -114,7 +114,8 @@ def renamed(text, to, inner, is_prose=False):
             return re.sub(r"[A-Za-z_][\w'-]*", lambda w: to.get(w[0], w[0]) if re.search("[a-z][A-Z]", w[0]) else w[0], t)
         if t.startswith("\""):
             return t
-        if t not in to:
+        # in source a plain word is a name of the program's own
+        if t not in to or (is_source and not re.search("-|[a-z][A-Z]", t)):
             return t
         before = text[: m.start()]
         if before.endswith("."):
@@ -188,7 +189,8 @@ def main():
         text = unasked(text)
         if path.endswith(".rt"):
             text = imported(text, {"SLOTS", "CALLS"})
-        text = renamed(text, to, inner)
+        is_source = path.endswith(".rt") or (path.endswith(".edit") and re.search(r"(?m)^file: src/", text) is not None)
+        text = renamed(text, to, inner, is_source)
         if text != old:
             with open(path, "w", encoding="utf-8") as f:
                 f.write(text)

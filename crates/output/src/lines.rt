@@ -93,7 +93,7 @@ fn holder_room(version: Version) -> usize
 }
 
 // Whether a record that lists `count` ids has room from `at` on.
-fn has_room_lem(version: Version, size: usize, at: usize, count: usize) -> bool
+fn has_room(version: Version, size: usize, at: usize, count: usize) -> bool
     ensures { result ≡ fits version SLOTS size at count }
 {
     if SLOTS < count {
@@ -113,7 +113,7 @@ pub fn put_answer(version: Version, buf: &mut [u8], at: usize, n: Numbers, ids: 
           ≡ left_text version SLOTS buf.old at n.count (answer_text version n (take n.count ids.now)) }
 {
     let count = n.count;
-    if has_room_lem(version, buf.len(), at, count) {
+    if has_room(version, buf.len(), at, count) {
         let told = n.told;
         let four = told_lines(buf, at, told);
         let eight = rest_lines(buf, four, n);
