@@ -50,7 +50,7 @@ def labels(crate):
                 # up to the body: a block that follows no clause word
                 rest = text[m.end() :]
                 at = 0
-                kinds = {"ensures": [], "requires": []}
+                kinds = {"ensures": [], "requires": [], "crate": os.path.relpath(folder, os.path.join(crate, "..")).split("/")[0]}
                 while True:
                     c = re.match(r"[^{]*?\b(ensures|requires)\*?( \w+)? \{", rest[at:], re.S)
                     b = re.match(r"[^{]*\{", rest[at:], re.S)
@@ -76,6 +76,7 @@ class Turn:
         for (old, new), at in zip(entry["needs"], entry["asked_at"]):
             self.needs.setdefault(plain(old), (new, at[0]))
         self.said = []
+        self.crate = where.split(".")[0]
         self.function = where.split(".")[-1]
 
     def left(self, what):
@@ -144,7 +145,7 @@ class Turn:
 
     def labels_of(self, callee):
         found = self.clauses.get(callee.split("::")[-1], [])
-        found = [k["ensures"] for k in found]
+        found = [k["ensures"] for k in found if k["crate"] == callee.split("::")[0]] or [k["ensures"] for k in found]
         if not found:
             return None
         return found[0] if len(found[0]) > 1 else None
@@ -206,7 +207,10 @@ class Turn:
             if not m:
                 return None
             kinds, kind = self.clauses.get(m[1], []), "requires"
+        kinds = sorted(kinds, key=lambda k: k["crate"] != self.crate)
         found = [k[kind] for k in kinds if len(k[kind]) > 1 and all(k[kind])]
+        if kind == "ensures" and kinds and kinds[0]["crate"] == self.crate and len(kinds[0][kind]) < 2:
+            return None
         return found[0] if found else None
 
     def labelled(self, body, names, is_inside=False):
@@ -252,7 +256,7 @@ class Turn:
         at = [m.end() for m in re.finditer(r" in(?=\s)", text)]
         at = at[-1] if at else 0
         last = text[at:].strip()
-        if re.match(r"(unfit|called|omega|grind|search|rw|cc|simp|elim|record|absurd|\?)\b", last) or "∙" in last:
+        if re.match(r"(unfit|called|kept|refused|accepted|unfit_lists|omega|grind|search|rw|cc|simp|elim|record|absurd|\?)\b", last) or "∙" in last:
             return text
         lead = "\n    "
         return f"{text[:at]}{lead}let said = {last} in{lead}record {{ " + "; ".join(f"{n} = said.{k}" for k, n in enumerate(names)) + " }"

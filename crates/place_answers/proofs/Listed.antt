@@ -52,8 +52,12 @@ module _ (n : ℕ) (t : Table) (c : Call) {d : Decision} (e : d ≡ decision n t
 module _ (shape n : ℕ) (ws : List ℕ) (c : Call) (out ids : List ℕ) where
   abbrev pub ListKept : ℕ → List ℕ → List ℕ → List ℕ → Type 0
   ListKept k ws' out' ids' =
-      (k ≡ number_by shape n ws c)
-      × ((ws' ≡ table_by shape n ws c) × ((out' ≡ out_by shape n ws c out) × (ids' ≡ ids_by shape n ws c ids)))
+      record {
+        result_value : k ≡ number_by shape n ws c;
+        table_after : ws' ≡ table_by shape n ws c;
+        out_after : out' ≡ out_by shape n ws c out;
+        ids_after : ids' ≡ ids_by shape n ws c ids;
+      }
 
   module _ (fit : shape ≡ 0) (l : Listing n (length ws) (length out) (length ids)) where
     -- what was decided, stored and told, with these ids
@@ -63,13 +67,13 @@ module _ (shape n : ℕ) (ws : List ℕ) (c : Call) (out ids : List ℕ) where
         ids' ≡ sets ids 0 (listing (shown n (table_of n ws) c)) → ListKept k ws' out' ids'
     unfolding number_by table_by out_by ids_by
     kept e s k w o i =
-        let b = eq-eqb shape 0 fit in (
-          rw b (k ∙ ap (λ (a : Numbers). a.told.number) s),
-          (
-            rw b (w ∙ stored_after n ws c l.runs e),
-            (rw b (o ∙ told-fits out _ l.runs ∙ ap (λ (a : Numbers). sets out 0 (answer_words a)) s), rw b i),
-          ),
-        )
+        let b = eq-eqb shape 0 fit in
+        record {
+          result_value = rw b (k ∙ ap (λ (a : Numbers). a.told.number) s);
+          table_after = rw b (w ∙ stored_after n ws c l.runs e);
+          out_after = rw b (o ∙ told-fits out _ l.runs ∙ ap (λ (a : Numbers). sets out 0 (answer_words a)) s);
+          ids_after = rw b i;
+        }
 
     pub refused :
         {r : Refusal} → opens c ≡ false → refusal n (table_of n ws) c ≡ Refuse r → {was : Counters} →

@@ -10,5 +10,5 @@ returns c =
     let numbers = c.numbers_of-numbers.ensures in
     let told = c.tell.ensures in
     let out = c.args.out.now in
-    let number = told.0 ∙ ap (λ (a : Numbers). a.told.number) numbers in
-    record { value = number; table_after = c.store.ensures; out_after = told.1 ∙ ap (λ (a : Numbers). told_in out a) numbers }
+    let number = told.value ∙ ap (λ (a : Numbers). a.told.number) numbers in
+    record { value = number; table_after = c.store.ensures; out_after = told.out_after ∙ ap (λ (a : Numbers). told_in out a) numbers }
