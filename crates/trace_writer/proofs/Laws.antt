@@ -189,6 +189,7 @@ pub data SomeBad (v : Version) : List (List ℕ) → Type 0 where
 
 some_bad : (v : Version) (rows : List (List ℕ)) → SomeBad v rows → records_of v rows ≡ BadRow
 unfolding records_of
+some_bad v [] x' = elim x' [ ]
 some_bad v (x ∷ xs) (here h) = rw h
 some_bad v (x ∷ xs) (later h) = go (row_under v x) (some_bad v xs h)
   where

@@ -1,0 +1,62 @@
+-- The call tested and scanned on the words as they lie, its change stored, its answer told (place_answers' proofs/Listed.antt).
+use mathlib.Core.Path.{refl, sym, ◌∙◌}
+use native.Mathlib.Omega.{arith}
+use lib.Seq.{length-take-le}
+use Rattle.place.proofs.Called.{listing_shaped, unfit, unfit_ids}
+use Rattle.place_answers.proofs.Listed.{refused, accepted}
+use Rattle.place_pins.proofs.Pinned.{pin-refused, none_free, pin_decided, pin-shown}
+use borrow.Author.Rules.{rules}
+use Rattle.place_pins.proofs.sockhurdle_pin.Goals as goal
+
+pub returns-then-shape-ne0 : goal.returns-then-shape-ne0
+returns-then-shape-ne0 c =
+    let a = c.args in
+    let e = c.list_shape-shape.ensures in
+    let same = unfit _ _ a.table.now _ e c.if-shape-ne0.true a.out.now in
+    record { result_value = same.0; table_after = same.1.0; out_after = same.1.1; ids_after = unfit_ids _ _ a.table.now _ e c.if-shape-ne0.true a.ids.now }
+
+pub returns-in-Refuse : goal.returns-in-Refuse
+returns-in-Refuse c =
+    let a = c.args in
+    let fit = sym c.list_shape-shape.ensures ∙ c.if-shape-ne0.false in
+    let was = c.counters_in-was.ensures in
+    let told = c.refuse.ensures in
+    let tested = pin-refused _ a.table.now _ _ was (sym c.observation_test-verdict.ensures ∙ c.in-Refuse.is) in
+    refused _ _ a.table.now _ a.out.now a.ids.now fit (listing_shaped _ _ _ _ fit) refl tested was told.value told.table_after told.out_after
+
+-- left: part-lowest-empty-end c =
+-- left:     let fit = sym c.before.before.before.before.before.before.list-shape.ensures ∙ c.before.before.before.before.before.if1.false in
+-- left:     let size = (listing_shaped _ _ _ _ fit).runs.size in
+-- left:     omega arith
+
+pub slice_bounds-take_into-end : goal.slice_bounds-take_into-end
+slice_bounds-take_into-end c =
+    let fit = sym c.list_shape-shape.ensures ∙ c.if-shape-ne0.false in
+    let size = (listing_shaped _ _ _ _ fit).runs.size in
+    sym (length-take-le _ c.args.table.now (omega arith))
+
+pub returns-then-at-lt-PINS : goal.returns-then-at-lt-PINS
+returns-then-at-lt-PINS c =
+    let a = c.args in
+    let fit = sym c.list_shape-shape.ensures ∙ c.if-shape-ne0.false in
+    let runs = listing_shaped _ _ _ _ fit in
+    let was = c.counters_in-was.ensures in
+    let passed = sym c.observation_test-verdict.ensures ∙ c.in-Pass.is in
+    let low = c.lowest_empty-at.ensures in
+    let free = c.if-at-lt-PINS.true in
+    let used = c.greater-used.ensures in
+    let taken = c.take_into-taken.ensures in
+    let decided = pin_decided _ a.table.now _ _ was passed low a.ids.now runs.places free c.observed-counters.ensures used taken.value in
+    let shows = pin-shown _ a.table.now _ _ was passed low free used in
+    let told = c.give.ensures in
+    accepted _ _ a.table.now _ a.out.now a.ids.now fit runs decided _ shows taken.value told.value told.table_after told.out_after taken.ids_after
+
+pub returns : goal.returns
+returns c =
+    let a = c.args in
+    let fit = sym c.list_shape-shape.ensures ∙ c.if-shape-ne0.false in
+    let was = c.counters_in-was.ensures in
+    let passed = sym c.observation_test-verdict.ensures ∙ c.in-Pass.is in
+    let tested = none_free _ a.table.now _ _ was passed c.lowest_empty-at.ensures c.if-at-lt-PINS.false in
+    let told = c.refuse-in-Pass.ensures in
+    refused _ _ a.table.now _ a.out.now a.ids.now fit (listing_shaped _ _ _ _ fit) refl tested was told.value told.table_after told.out_after

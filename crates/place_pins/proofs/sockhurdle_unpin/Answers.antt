@@ -1,0 +1,28 @@
+-- The call decided on the words as they lie, its change stored, its answer told (place's proofs/Called.antt).
+use mathlib.Core.Path.{refl, sym, ◌∙◌}
+use native.Mathlib.Omega.{arith}
+use Rattle.model.specs.Calls.{shown_accepted}
+use Rattle.place.proofs.Called.{shaped, unfit, called}
+use Rattle.place_pins.proofs.Released.{release_words}
+use borrow.Author.Rules.{rules}
+use Rattle.place_pins.proofs.sockhurdle_unpin.Goals as goal
+
+pub returns-then-shape-ne0 : goal.returns-then-shape-ne0
+returns-then-shape-ne0 c =
+    let a = c.args in
+    unfit _ _ a.table.now _ c.shape_test-shape.ensures c.if-shape-ne0.true a.out.now
+
+-- left: part-decide-unpin-end c =
+-- left:     let fit = sym c.before.before.before.shape-test.ensures ∙ c.before.before.if1.false in
+-- left:     let size = (shaped _ _ _ fit).size in
+-- left:     omega arith
+
+pub returns : goal.returns
+unfolding shown_accepted
+returns c =
+    let a = c.args in
+    let fit = sym c.shape_test-shape.ensures ∙ c.if-shape-ne0.false in
+    let was = c.counters_in-was.ensures in
+    let decided = c.decide_unpin-decided.ensures ∙ release_words _ a.table.now _ was in
+    let told = c.tell_plain.ensures in
+    called _ _ a.table.now _ a.out.now fit (shaped _ _ _ fit) decided refl told.value c.store.ensures told.out_after
