@@ -18,7 +18,7 @@ fn entry_test<'a>(
     owner: Owner,
 ) -> Verdict
     ensures { result ≡ then (entry_test SLOTS (lent txids.now xmins.now pins.now counters))
-          (holder_test SLOTS (lent txids.now xmins.now pins.now counters) owner) }
+        (holder_test SLOTS (lent txids.now xmins.now pins.now counters) owner) }
 {
     if table_check::check_columns(txids, xmins, pins, counters) {
         return match owner {

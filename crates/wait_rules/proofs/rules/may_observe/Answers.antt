@@ -1,0 +1,8 @@
+-- `may_observe` meets its contract.
+use mathlib.Core.Path.{ap, ◌∙◌}
+use Rattle.wait_rules.specs.Steps.{passed}
+use borrow.Author.Rules.{rules}
+use Rattle.wait_rules.proofs.rules.may_observe.Goals as goal
+
+pub returns : goal.returns
+returns c = c.is_pass.ensures ∙ ap passed c.observation_test.ensures
