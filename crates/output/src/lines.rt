@@ -110,7 +110,7 @@ fn has_room(version: Version, size: usize, at: usize, count: usize) -> bool
 pub fn put_answer(version: Version, buf: &mut [u8], at: usize, n: Numbers, ids: &[u64]) -> Put
     ensures result_value { result ≡ put_text version SLOTS buf.old at n.count (answer_text version n (take n.count ids.now)) }
     ensures buf_after { buf.new
-          ≡ left_text version SLOTS buf.old at n.count (answer_text version n (take n.count ids.now)) }
+        ≡ left_text version SLOTS buf.old at n.count (answer_text version n (take n.count ids.now)) }
 {
     let count = n.count;
     if has_room(version, buf.len(), at, count) {

@@ -1,0 +1,17 @@
+-- Four lines one after the other: each begins where the one before it ended (crate's proofs/Wrote.antt).
+use Prim.Native.Nat.{◌≤◌}
+use native.Mathlib.Omega.{arith}
+use lib.ListN.{length}
+use Rattle.output.specs.Output.{rest_lines}
+use Rattle.output.proofs.Wrote.{wrote_then, wrote_at-most}
+use borrow.Author.Rules.{rules}
+use Rattle.output.proofs.lines.rest_lines.Goals as goal
+
+pub returns : goal.returns
+unfolding rest_lines
+returns c =
+    let start : c.args.at ≤ length c.args.buf.now = omega (arith, c.requires) in
+    wrote_at-most (omega arith)
+    (wrote_then start
+    (wrote_then start (wrote_then start c.line-a.ensures c.line-b.ensures) c.line-c.ensures)
+    c.line.ensures)
