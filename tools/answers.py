@@ -66,6 +66,17 @@ def labels(crate):
     return found
 
 
+def named(labels, rest):
+    """The clause that the places of nested pairs lead to."""
+    rest = list(rest)
+    while rest and rest[0].isdigit():
+        k = int(rest.pop(0))
+        if k < len(labels) - 1 and (k == 0 or not rest or not rest[0].isdigit()) or k == len(labels) - 1:
+            return [labels[k]] + rest if labels[k] else [str(k)] + rest
+        labels = labels[k:]
+    return [labels[0]] + rest
+
+
 class Turn:
     def __init__(self, entry, crate, words, clauses, where):
         self.e, self.words, self.clauses, self.where = entry, words, clauses, where
@@ -137,7 +148,7 @@ class Turn:
         if callee and out[:1] == ["ensures"]:
             label = self.labels_of(callee)
             if label and len(out) > 1 and out[1].isdigit():
-                out[1] = label[int(out[1])] if int(out[1]) < len(label) and label[int(out[1])] else out[1]
+                out[1:] = named(label, out[1:])
                 label = None
             elif len(out) > 1:
                 label = None
@@ -256,7 +267,7 @@ class Turn:
         at = [m.end() for m in re.finditer(r" in(?=\s)", text)]
         at = at[-1] if at else 0
         last = text[at:].strip()
-        if re.match(r"(unfit|called|kept|refused|accepted|unfit_lists|omega|grind|search|rw|cc|simp|elim|record|absurd|\?)\b", last) or "∙" in last:
+        if re.match(r"(unfit|called|kept|refused|accepted|unfit_lists|omega|grind|search|rw|cc|simp|elim|record|absurd|\?)\b", last) or "∙" in re.sub(r"\([^()]*(?:\([^()]*(?:\([^()]*\)[^()]*)*\)[^()]*)*\)", "", last):
             return text
         lead = "\n    "
         return f"{text[:at]}{lead}let said = {last} in{lead}record {{ " + "; ".join(f"{n} = said.{k}" for k, n in enumerate(names)) + " }"
@@ -271,8 +282,8 @@ class Turn:
             return self.resolve(head[1], fields[1:])
         _, name, label = head
         rest = [self.field(f) for f in fields[1:]]
-        if label and rest and rest[0].isdigit() and int(rest[0]) < len(label) and label[int(rest[0])]:
-            rest[0] = label[int(rest[0])]
+        if label and rest and rest[0].isdigit():
+            rest = named(label, rest)
         return ("value", ".".join([name] + rest), None if rest else label, [])
 
 

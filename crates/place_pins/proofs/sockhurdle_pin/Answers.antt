@@ -13,7 +13,7 @@ returns-then-shape-ne0 c =
     let a = c.args in
     let e = c.list_shape-shape.ensures in
     let same = unfit _ _ a.table.now _ e c.if-shape-ne0.true a.out.now in
-    record { result_value = same.0; table_after = same.1.0; out_after = same.1.1; ids_after = unfit_ids _ _ a.table.now _ e c.if-shape-ne0.true a.ids.now }
+    record { result_value = same.result_value; table_after = same.table_after; out_after = same.out_after; ids_after = unfit_ids _ _ a.table.now _ e c.if-shape-ne0.true a.ids.now }
 
 pub returns-in-Refuse : goal.returns-in-Refuse
 returns-in-Refuse c =
