@@ -24,10 +24,11 @@ returns-in-Refuse c =
     let tested = pin-refused _ a.table.now _ _ was (sym c.observation_test-verdict.ensures ∙ c.in-Refuse.is) in
     refused _ _ a.table.now _ a.out.now a.ids.now fit (listing_shaped _ _ _ _ fit) refl tested was told.value told.table_after told.out_after
 
--- left: part-lowest-empty-end c =
--- left:     let fit = sym c.before.before.before.before.before.before.list-shape.ensures ∙ c.before.before.before.before.before.if1.false in
--- left:     let size = (listing_shaped _ _ _ _ fit).runs.size in
--- left:     omega arith
+pub slice_bounds-lowest_empty-end : goal.slice_bounds-lowest_empty-end
+slice_bounds-lowest_empty-end c =
+    let fit = sym c.list_shape-shape.ensures ∙ c.if-shape-ne0.false in
+    let size = (listing_shaped _ _ _ _ fit).runs.size in
+    omega arith
 
 pub slice_bounds-take_into-end : goal.slice_bounds-take_into-end
 slice_bounds-take_into-end c =

@@ -12,10 +12,11 @@ returns-then-shape-ne0 c =
     let a = c.args in
     unfit _ _ a.table.now _ c.shape_test-shape.ensures c.if-shape-ne0.true a.out.now
 
--- left: part-decide-unpin-end c =
--- left:     let fit = sym c.before.before.before.shape-test.ensures ∙ c.before.before.if1.false in
--- left:     let size = (shaped _ _ _ fit).size in
--- left:     omega arith
+pub slice_bounds-decide_unpin-end : goal.slice_bounds-decide_unpin-end
+slice_bounds-decide_unpin-end c =
+    let fit = sym c.shape_test-shape.ensures ∙ c.if-shape-ne0.false in
+    let size = (shaped _ _ _ fit).size in
+    omega arith
 
 pub returns : goal.returns
 unfolding shown_accepted
