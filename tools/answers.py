@@ -95,7 +95,7 @@ class Turn:
 
     def field(self, f):
         g = f.replace("-", "_")
-        return g if g in self.words else f
+        return g if g in self.words or g in ("type_inv", "well_formed") else f
 
     def resolve(self, at, fields, fn=None):
         """The path from the place `at` along `fields`: a place, or the path's new text with the function whose clauses it names."""
