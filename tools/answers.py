@@ -242,6 +242,8 @@ class Turn:
                 parts.append(text[start:j].strip())
                 start = j + 1
         parts.append(text[start:-1].strip())
+        if not parts[-1]:
+            parts.pop()
         while len(parts) < len(names) and parts[-1].startswith("(") and parts[-1].endswith(")"):
             inner, depth, start, more = parts[-1][1:-1], 0, 0, []
             for j, ch in enumerate(inner):
