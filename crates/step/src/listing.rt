@@ -7,7 +7,7 @@ ghost use Rattle.step.specs.Put.{listing_ran, listing_left};
 
 use crate::Ran;
 use crate::put::{put_listing, put_refused};
-use kinds::{SlotNo, SLOTS, Txid, Verdict};
+use kinds::{SLOTS, SlotNo, Txid, Verdict};
 use table::Counters;
 use trace::Version;
 
@@ -21,11 +21,11 @@ pub fn run_snap(
     at: usize,
 ) -> Ran
     ensures result_value { result ≡ listing_ran version SLOTS
-          (snapshot_decision SLOTS (lent_slots SLOTS txids.now was) (snap clock sample))
-          buf.old at }
+        (snapshot_decision SLOTS (lent_slots SLOTS txids.now was) (snap clock sample))
+        buf.old at }
     ensures buf_after { buf.new ≡ listing_left version SLOTS
-          (snapshot_decision SLOTS (lent_slots SLOTS txids.now was) (snap clock sample))
-          buf.old at }
+        (snapshot_decision SLOTS (lent_slots SLOTS txids.now was) (snap clock sample))
+        buf.old at }
 {
     let verdict = table::observation_test(was.clock, clock, sample);
     match verdict {
@@ -56,11 +56,11 @@ pub fn run_own(
     at: usize,
 ) -> Ran
     ensures result_value { result ≡ listing_ran version SLOTS
-          (snapshot_decision SLOTS (lent_slots SLOTS txids.now was) (own slot id clock sample))
-          buf.old at }
+        (snapshot_decision SLOTS (lent_slots SLOTS txids.now was) (own slot id clock sample))
+        buf.old at }
     ensures buf_after { buf.new ≡ listing_left version SLOTS
-          (snapshot_decision SLOTS (lent_slots SLOTS txids.now was) (own slot id clock sample))
-          buf.old at }
+        (snapshot_decision SLOTS (lent_slots SLOTS txids.now was) (own slot id clock sample))
+        buf.old at }
 {
     let verdict = table::own_test(txids, was, slot, id, clock, sample);
     match verdict {
@@ -90,11 +90,11 @@ pub fn run_pin<'a>(
     at: usize,
 ) -> Ran
     ensures result_value { result ≡ listing_ran version SLOTS
-          (snapshot_decision SLOTS (lent_to_pin SLOTS txids.now pins.now was) (pin clock sample))
-          buf.old at }
+        (snapshot_decision SLOTS (lent_to_pin SLOTS txids.now pins.now was) (pin clock sample))
+        buf.old at }
     ensures buf_after { buf.new ≡ listing_left version SLOTS
-          (snapshot_decision SLOTS (lent_to_pin SLOTS txids.now pins.now was) (pin clock sample))
-          buf.old at }
+        (snapshot_decision SLOTS (lent_to_pin SLOTS txids.now pins.now was) (pin clock sample))
+        buf.old at }
 {
     let verdict = table::observation_test(was.clock, clock, sample);
     match verdict {

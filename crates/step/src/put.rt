@@ -49,19 +49,19 @@ pub fn put_listing(
     at: usize,
 ) -> Ran
     ensures result_value { result ≡ listing_ran version SLOTS
-          (record {
-            change = change;
-            answer = answer;
-            snapshot = record { xmin = xmin; xmax = xmax; ids = ids.now; count = count };
-          })
-          buf.old at }
+        (record {
+          change = change;
+          answer = answer;
+          snapshot = record { xmin = xmin; xmax = xmax; ids = ids.now; count = count };
+        })
+        buf.old at }
     ensures buf_after { buf.new ≡ listing_left version SLOTS
-          (record {
-            change = change;
-            answer = answer;
-            snapshot = record { xmin = xmin; xmax = xmax; ids = ids.now; count = count };
-          })
-          buf.old at }
+        (record {
+          change = change;
+          answer = answer;
+          snapshot = record { xmin = xmin; xmax = xmax; ids = ids.now; count = count };
+        })
+        buf.old at }
 {
     let numbers = answer_numbers::numbers_of(
         answer,

@@ -1,0 +1,14 @@
+-- The text that is put is that of the numbers asked for.
+use mathlib.Core.Path.{ap}
+use Rattle.text.specs.declared.Put.{Put}
+use Rattle.model.specs.Answers.{numbers_of}
+use borrow.Author.Rules.{rules}
+use Rattle.step.proofs.put.put_listing.Goals as goal
+
+pub returns : goal.returns
+unfolding numbers_of
+returns c =
+    let p = c.put_answer-put.ensures in
+    let e = c.numbers_of-numbers.ensures in
+    let change = c.args.change in
+    record { result_value = ap (λ (x : Put). record { put = x; change = change }) (rw e at p.result_value); buf_after = rw e at p.buf_after }
