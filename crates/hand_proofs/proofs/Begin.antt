@@ -8,9 +8,9 @@ use mathlib.Core.List.{List, [], ◌∷◌, ◌++◌}
 use Prim.Native.Nat.{ℕ, zero}
 use lib.Dec.{T as Holds}
 use seplogic.Ra.Ura.{Ura}
-use seplogic.Ra.TreeShare.{full_share}
-use package.mir.Syntax.{Ty, Local, local, Fn}
-use package.mir.Val.{Val, WT, has_ty}
+use base.Fraction.{full_share}
+use mir.Syntax.{Ty, Local, local, Fn}
+use mir.Val.{Val, WT, has_ty}
 use base.Logic.{SProp, ent, sep, wand, emp, via, mono_l, wand_i, all_i, emp∗}
 use base.Fml.{Fml, ftrue, fsep, fat, froom, fdies}
 use prog.Wp.{Env, Calls, Loops, alloc, pass, params, Wp, at_return, WpFn}

@@ -6,8 +6,8 @@ use mathlib.Core.List.{List}
 use Prim.Native.Nat.{ℕ, ◌<◌, ◌^◌}
 use lib.Dec.{lt→ltb}
 use seplogic.Ra.Ura.{Ura}
-use package.mir.Syntax.{Width, w64, Opd as Operand, copy, int, int_neg, int_big, float, opd_true, opd_false, opd_unit, ptr_const}
-use package.mir.Val.{Fits, vint}
+use mir.Syntax.{Width, w64, Opd as Operand, copy, int, int_neg, int_big, float, opd_true, opd_false, opd_unit, ptr_const, size_of, align_of, num_of, fn_addr, vtable}
+use mir.Val.{Fits, vint}
 use base.Logic.{via, guard_i}
 use prog.Wp.{Env}
 use types.Logic.{Logic}
@@ -25,6 +25,11 @@ Constant opd_true n = ⊥
 Constant opd_false n = ⊥
 Constant opd_unit n = ⊥
 Constant (ptr_const k) n = ⊥
+Constant (size_of τ) n = ⊥
+Constant (align_of τ) n = ⊥
+Constant (num_of w τ) n = ⊥
+Constant (fn_addr c s) n = ⊥
+Constant (vtable τ m) n = ⊥
 
 module _ {M : Type 1} {𝓤 : Ura M} {𝓛 : Logic 𝓤} {K : Type 0} {Γ : List (Item 𝓤)} {E : Env 𝓤 𝓛.H} where
   small : K → (n : ℕ) → n < 2 ^ 64 → Opd K 𝓛 Γ E (int w64 n) (vint w64 n)
@@ -47,6 +52,11 @@ module _ {M : Type 1} {𝓤 : Ura M} {𝓛 : Logic 𝓤} {K : Type 0} {Γ : List
   by_form t opd_false n fits e = absurd e
   by_form t opd_unit n fits e = absurd e
   by_form t (ptr_const k) n fits e = absurd e
+  by_form t (size_of τ) n fits e = absurd e
+  by_form t (align_of τ) n fits e = absurd e
+  by_form t (num_of w τ) n fits e = absurd e
+  by_form t (fn_addr c s) n fits e = absurd e
+  by_form t (vtable τ m) n fits e = absurd e
 
   pub constant : K → {x : Operand} (n : ℕ) → n < 2 ^ 64 → Constant x n → Opd K 𝓛 Γ E x (vint w64 n)
   constant t {x} n fits e = by_form t x n fits e

@@ -1,15 +1,16 @@
 -- Entries of a context: what is left of one that is forgotten, and where one stands.
 --     back n           the first entry goes back to place n
---     first-only       [i; what some arguments own; ..] becomes [i; what the first of them owns; ..]
+--     first_only       [i; what some arguments own; ..] becomes [i; what the first of them owns; ..]
 --     empties p n e    the n entries from place p on, which are locals, are emptied. e is `refl`
 use mathlib.Core.Path.{◌≡◌, subst, sym}
 use mathlib.Core.List.{List, [], ◌∷◌, head-eq_of_cons-eq, tail-eq_of_cons-eq}
 use Prim.Native.Nat.{ℕ, zero, suc}
 use seplogic.Ra.Ura.{Ura}
-use seplogic.Ra.TreeShare.{full_share}
+use base.Fraction.{full_share}
 use base.Logic.{SProp, ent, sep, via, id⊢, mono∗, mono_r}
 use base.Fml.{Share, Fml, ftrue, ffalse, feq, flt, fsep, fand, for, fwand, fex, fall, fupd, fat, froom, fdies}
 use base.Fml.{flft, fdead, fobs, fauth, fres, fbor, fobor, flent, fshr_bor}
+use base.Fml.{fhide, fleft, fown, finv, fnamed, ftok, fkid, fme, fsent}
 use types.Logic.{Logic}
 use sound.Laws.{swap∗}
 use types.Kit.{Goal, Item, Step, step, ‵, raw, ◌⊛◌, some, given, later, ⋆ as star, mean as means, push, pop, ◌$◌, move, drop, fsplit}
@@ -56,6 +57,15 @@ module _ {M : Type 1} {𝓤 : Ura M} (𝓛 : Logic 𝓤) where
   room_of (fobor κ q P) = same (‵ (fobor κ q P))
   room_of (flent κ P) = same (‵ (flent κ P))
   room_of (fshr_bor κ F) = same (‵ (fshr_bor κ F))
+  room_of (fhide P) = same (‵ (fhide P))
+  room_of (fleft q τ τs b o) = same (‵ (fleft q τ τs b o))
+  room_of (fown R γ x) = same (‵ (fown R γ x))
+  room_of (finv P) = same (‵ (finv P))
+  room_of (fnamed n P) = same (‵ (fnamed n P))
+  room_of (ftok m) = same (‵ (ftok m))
+  room_of (fkid h a) = same (‵ (fkid h a))
+  room_of (fme t) = same (‵ (fme t))
+  room_of (fsent x) = same (‵ (fsent x))
 
   abbrev pub left : (i : Item 𝓤) → Left i
   left (‵ P) = room_of P

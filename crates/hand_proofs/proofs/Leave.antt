@@ -5,9 +5,9 @@ use mathlib.Core.Path.{◌≡◌, subst, ap}
 use mathlib.Core.List.{List, [], ◌∷◌, head-eq_of_cons-eq, tail-eq_of_cons-eq, nil≢cons}
 use Prim.Native.Nat.{ℕ, zero, suc}
 use seplogic.Ra.Ura.{Ura}
-use seplogic.Ra.TreeShare.{full_share}
-use package.mir.Syntax.{Ty, return}
-use package.mir.Val.{Val}
+use base.Fraction.{full_share}
+use mir.Syntax.{Ty, return}
+use mir.Val.{Val}
 use base.Logic.{SProp, ent, sep, emp∗, via, id⊢, mono_l, mono_r, snd∗}
 use base.Fml.{Share, Fml, fat, froom}
 use prog.Wp.{Env, Calls, Loops, release, spot_of}

@@ -4,18 +4,18 @@
 --     through d e        the place to which a local points
 --     locals d es        all the operands of a call or of a struct, each a local
 --     sets d r e typed   a statement that assigns to an empty local, and the rest.        resets      to one that holds something
---     sets_last, resets-last     the same of the last statement of its part
+--     sets_last, resets_last     the same of the last statement of its part
 --     lands d e typed    a call's result is stored in an empty local, and the rest.        lands_last      where the call ends its part
 use mathlib.Core.Path.{◌≡◌, subst, sym, ap, ◌∙◌}
 use mathlib.Core.List.{List, [], ◌∷◌}
 use mathlib.Core.Option.{Option, some}
 use Prim.Native.Nat.{ℕ, zero, ◌+◌}
 use seplogic.Ra.Ura.{Ura}
-use seplogic.Ra.TreeShare.{full_share}
-use package.mir.Syntax.{Sym, Ty, Tys, ty_struct, Body, deref, field, place, Rv as RValue, assign, seq}
-use package.mir.Syntax.{Opd as Operand, copy, int, int_neg, int_big, float, opd_true, opd_false, opd_unit, ptr_const}
-use package.mir.Val.{Val, Vals, vptr, vstruct}
-use package.mir.Fields.{get_v, set_v}
+use base.Fraction.{full_share}
+use mir.Syntax.{Sym, Ty, Tys, ty_struct, Body, deref, field, place, Rv as RValue, assign, seq}
+use mir.Syntax.{Opd as Operand, copy, int, int_neg, int_big, float, opd_true, opd_false, opd_unit, ptr_const, size_of, align_of, num_of, fn_addr, vtable}
+use mir.Val.{Val, Vals, vptr, vstruct}
+use mir.Fields.{get_v, set_v}
 use base.Fml.{fat, froom}
 use prog.Memory.{field_of, field_at}
 use prog.Wp.{Env, Calls, Loops, next, spot_of}
@@ -54,6 +54,11 @@ module _ {M : Type 1} {𝓤 : Ura M} (𝓛 : Logic 𝓤) (Γ : List (Item 𝓤))
   Local opd_false v = No
   Local opd_unit v = No
   Local (ptr_const k) v = No
+  Local (size_of τ) v = No
+  Local (align_of τ) v = No
+  Local (num_of w τ) v = No
+  Local (fn_addr c s) v = No
+  Local (vtable τ m) v = No
 
   abbrev Locals : List Operand → List Val → Type 2
   Locals [] [] = Unit {2}
@@ -93,6 +98,11 @@ module _ {M : Type 1} {𝓤 : Ura M} {𝓛 : Logic 𝓤} {K : Type 0} {Γ : List
   one t d opd_false v e = absurd e.0
   one t d opd_unit v e = absurd e.0
   one t d (ptr_const k) v e = absurd e.0
+  one t d (size_of τ) v e = absurd e.0
+  one t d (align_of τ) v e = absurd e.0
+  one t d (num_of w τ) v e = absurd e.0
+  one t d (fn_addr c s) v e = absurd e.0
+  one t d (vtable τ m) v e = absurd e.0
 
   each : K → (d : ℕ) (xs : List Operand) (vs : List Val) → Locals 𝓛 Γ E d xs vs → Opds K 𝓛 Γ E xs vs
   each t d [] [] es = no_more t

@@ -8,9 +8,9 @@ use mathlib.Core.Path.{refl}
 use mathlib.Core.List.{List, [], ◌∷◌}
 use Prim.Native.Nat.{ℕ}
 use seplogic.Ra.Ura.{Ura}
-use package.mir.Syntax.{named}
-use package.mir.Val.{Val}
-use prog.Wp.{Heap}
+use mir.Syntax.{named}
+use mir.Val.{Val}
+use types.Logic.{Logic}
 use contract.Lifetimes.{Lfts, Within, lft_at}
 use denote.Exit.{Kept, yes}
 use denote.RattleType.{RattleType}
@@ -25,15 +25,17 @@ use denote.Triple.Walked.{Silent, Stays, stay_dropped, AllGo, Goes-dropped}
 use Rattle.hand_proofs.proofs.World.{World}
 use Rattle.hand_proofs.proofs.Plains.{Plain, word}
 
-module _ {M : Type 1} {𝓤 : Ura M} {H : Heap 𝓤} (w : World {𝓤 = 𝓤} _) {n : ℕ} where
+module _ {M : Type 1} {𝓤 : Ura M} {𝓛 : Logic 𝓤} (w : World 𝓛) {n : ℕ} where
+  open 𝓛 use {H}
+
   abbrev pub Unsaid : Slot n → Kept → Type 1
-  Unsaid s k = Silent 𝓤 H w.atoms w.given n s k
+  Unsaid s k = Silent 𝓛 n s k
 
   pub record Param (s : Slot n) (k : Kept) : Type 1 where
     pub silent : Unsaid s k
     pub vals : (κs : Lfts n) → (s.row κs).Denot → List Val
     pub tells : (κs : Lfts n) → Tells (s.row κs) (Is (s.row κs)) (vals κs)
-    pub lawful : (κs : Lfts n) → Lawful 𝓤 H w.atoms (s.row κs)
+    pub lawful : (κs : Lfts n) → Lawful 𝓛 (s.row κs)
 
   abbrev pub Params : (ss : List (Slot n)) → Kepts ss → Type 1
   Params [] ks = Unit {1}
@@ -48,7 +50,7 @@ module _ {M : Type 1} {𝓤 : Ura M} {H : Heap 𝓤} (w : World {𝓤 = 𝓤} _)
   all_tell [] ks ps κs = tt
   all_tell (s ∷ ss) ks ps κs = (ps.0.tells κs, all_tell ss ks.1 ps.1 κs)
 
-  pub all_lawful : (ss : List (Slot n)) (ks : Kepts ss) → Params ss ks → (κs : Lfts n) → Lawfuls 𝓤 H w.atoms (types_at ss κs)
+  pub all_lawful : (ss : List (Slot n)) (ks : Kepts ss) → Params ss ks → (κs : Lfts n) → Lawfuls 𝓛 (types_at ss κs)
   all_lawful [] ks ps κs = tt
   all_lawful (s ∷ ss) ks ps κs = (ps.0.lawful κs, all_lawful ss ks.1 ps.1 κs)
 
@@ -57,9 +59,9 @@ module _ {M : Type 1} {𝓤 : Ura M} {H : Heap 𝓤} (w : World {𝓤 = 𝓤} _)
   dropped [] ks = tt
   dropped (s ∷ ss) ks = (stay_dropped s ks.0, dropped ss ks.1)
 
-  pub all_go : (ss : List (Slot n)) (ks : Kepts ss) → Params ss ks → AllGo 𝓤 H w.atoms w.given n ss ks (dropped ss ks)
+  pub all_go : (ss : List (Slot n)) (ks : Kepts ss) → Params ss ks → AllGo 𝓛 n ss ks (dropped ss ks)
   all_go [] ks ps = tt
-  all_go (s ∷ ss) ks ps = (Goes-dropped 𝓤 H w.atoms w.given n s ks.0 ps.0.silent, all_go ss ks.1 ps.1)
+  all_go (s ∷ ss) ks ps = (Goes-dropped 𝓛 n s ks.0 ps.0.silent, all_go ss ks.1 ps.1)
 
   abbrev pub by_value : {R : RattleType} → Plain w R → Unsaid (plain (λ κs. R)) yes → Param (plain (λ κs. R)) yes
   by_value r q = record { silent = q; vals = λ κs. r.vals; tells = λ κs. r.tells; lawful = λ κs. r.lawful }
@@ -72,7 +74,7 @@ module _ {M : Type 1} {𝓤 : Ura M} {H : Heap 𝓤} (w : World {𝓤 = 𝓤} _)
     silent = λ κs x f. refl;
     vals = λ κs. shr_slice_vals;
     tells = λ κs. shr_slice_Tells (named j) (lft_at n j ok κs) R;
-    lawful = λ κs. shr_slice_Lawful 𝓤 H w.atoms w.given (named j) (lft_at n j ok κs) R;
+    lawful = λ κs. shr_slice_Lawful 𝓛 (named j) (lft_at n j ok κs) R;
   }
 
   abbrev pub struct : (D : Lfts n → Declared) (L : (κs : Lfts n) → LL.Laws (D κs)) → Unsaid (plain (λ κs. row (D κs))) yes
@@ -81,5 +83,5 @@ module _ {M : Type 1} {𝓤 : Ura M} {H : Heap 𝓤} (w : World {𝓤 = 𝓤} _)
     silent = q;
     vals = λ κs. LL.vals (D κs) (L κs);
     tells = λ κs. LL.tells (D κs) (L κs);
-    lawful = λ κs. LL.lawful (D κs) (L κs) 𝓤 H w.atoms w.given;
+    lawful = λ κs. LL.lawful (D κs) (L κs) 𝓛;
   }

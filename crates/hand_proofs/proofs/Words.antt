@@ -4,13 +4,13 @@ pub use mathlib.Core.List.{List, [], ◌∷◌, ◌++◌}
 pub use mathlib.Core.Bool.{Bool, true, false, not}
 pub use Prim.Native.Nat.{ℕ, ◌+◌, ◌-◌, ◌*◌, ◌<◌, ◌≤◌, ◌^◌}
 pub use seplogic.Ra.Ura.{Ura}
-pub use seplogic.Ra.TreeShare.{full_share}
-pub use package.mir.Syntax.{Ty, named, erased, w64, ty_bool, ty_ptr}
-pub use package.mir.Val.{Val, vbool, vint, vunit}
+pub use base.Fraction.{full_share}
+pub use mir.Syntax.{Ty, named, erased, w64, ty_bool, ty_ptr}
+pub use mir.Val.{Val, vbool, vint, vunit}
 pub use base.Logic.{SProp, ent, emp, via, id⊢}
 pub use base.Fml.{Lft, Fml, fat, froom}
 pub use prog.Wp.{Heap, Env}
-pub use ghost.Atoms.{sem}
+pub use types.Logic.{Logic, sem}
 pub use contract.Lifetimes.{Lfts, Shares}
 pub use contract.Monad.{fact, fact_i}
 pub use types.Kit.{Item, ‵, raw, ◌⊛◌, at_ret, ◌$◌, ◌∵◌, !, qed, by, move, keep, drop, use1, split, rewrite}

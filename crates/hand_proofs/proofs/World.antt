@@ -1,13 +1,12 @@
 -- What a proof by hand is made over, and what it shows.
---     World            the atoms of ghost state and their rules, what owns the memory, what a routine does,
---                      and what the calls and loops in the code at hand do
+--     World            what owns the memory, what a routine does that a clause runs, and what the calls and loops in the code at hand do
 --     Promise          a contract: a signature, and the clauses
 --     promise w T c    a function's, by its generated `ended` and `clauses`
 --     Callee w P k     what the code at hand calls k keeps P.        Proved w P f      the code f does
 --     known, proves    a callee's theorem, as the code at hand needs it; and a function's own, from its code's
 use mathlib.Core.Path.{◌≡◌}
 use seplogic.Ra.Ura.{Ura}
-use package.mir.Syntax.{Name, Fn}
+use mir.Syntax.{Callee as Name, Fn}
 use base.Logic.{SProp}
 use prog.Memory.{Memory}
 use prog.Model.{Model}
@@ -37,7 +36,7 @@ module _ {M : Type 1} {𝓤 : Ura M} {𝓛 : Logic 𝓤} (w : World 𝓛) where
 
   module _ (P : Promise 𝓤) where
     abbrev pub Keeps : Fun 𝓤 → Type 1
-    Keeps run = Meets 𝓤 H w.atoms P.0.signature run (closing 𝓤 H w.atoms P.0 P.1)
+    Keeps run = Meets 𝓛 P.0.signature run (closing 𝓛 P.0 P.1)
 
     abbrev pub Callee : Name → Type 1
     Callee k = Keeps (w.tables.C k)
@@ -45,12 +44,12 @@ module _ {M : Type 1} {𝓤 : Ura M} {𝓛 : Logic 𝓤} (w : World 𝓛) where
     abbrev pub Proved : Fn → Type 1
     Proved f = Keeps (WpFn 𝓤 H w.tables.C w.tables.Λ f)
 
-module _ {M : Type 1} {𝓤 : Ura M} {𝓛 : Logic 𝓤} (𝓜 : Model 𝓤 𝓛.H) (𝓡 : Running 𝓤 𝓛.H 𝓜) (γ : Env) where
+module _ {M : Type 1} {𝓤 : Ura M} (𝓛 : Logic 𝓤) (𝓜 : Model 𝓤 𝓛.H) (𝓡 : Running 𝓤 𝓛.H 𝓜) (γ : Env) where
   -- where the calls in the code at hand mean γ
   open 𝓛 use {H}
 
   abbrev pub world : World 𝓛
-  world = record { atoms = 𝓛.A; given = 𝓛; memory = 𝓜.mem; run = 𝓡.run; tables = tables_of 𝓤 H 𝓜 (machine 𝓤 H 𝓜 𝓡 γ) }
+  world = record { memory = 𝓜.mem; run = 𝓡.returns; tables = tables_of 𝓤 H 𝓜 (machine 𝓤 H 𝓜 𝓡 γ) }
 
   module _ (P : Promise 𝓤) (k : Name) where
     abbrev triple : Contract 𝓤

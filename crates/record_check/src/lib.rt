@@ -90,6 +90,7 @@ fn check_gathered(columns: Columns, rest: Rest) -> bool
 }
 
 // The table check of a lent run of any length. A run of another length than a table's is refused before a record is read.
+#[tactic(auto, using(crate::proofs::Runs::other_length))]
 pub fn check_run(slots: &[Slot], rest: Rest) -> bool
     ensures { result ≡ run_passes SLOTS slots.now rest }
 {

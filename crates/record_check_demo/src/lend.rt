@@ -1,4 +1,4 @@
-// Covered code can't make a `&[Slot]`: here an array by value is lent.
+// An array by value, lent as a `&[Slot]`.
 ghost use Rattle.std.specs.Prelude.{◌≤◌, ◌≡◌, length, take};
 ghost use Rattle.record_check.specs.Run.{run_passes};
 
