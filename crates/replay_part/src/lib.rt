@@ -6,7 +6,6 @@ ghost use Rattle.text.specs.Write.{spliced};
 ghost use Rattle.replay_part.specs.Course.{course_of, progress_of};
 
 use kinds::SLOTS;
-
 use table::Table;
 use text::Put;
 use trace::{RecordAt, Version};
@@ -23,7 +22,7 @@ pub struct Progress {
 pub fn run_part(version: Version, s: &[u8], from: usize, table: Table, buf: &mut [u8]) -> Progress
     ensures result_value { result ≡ progress_of (course_of version SLOTS (length buf.old) s.now from 0 table) }
     ensures buf_after { buf.new
-          ≡ spliced buf.old 0 (course_of version SLOTS (length buf.old) s.now from 0 table).text }
+        ≡ spliced buf.old 0 (course_of version SLOTS (length buf.old) s.now from 0 table).text }
 {
     let mut t = table;
     let mut at = from;

@@ -1,8 +1,6 @@
-use Prim.Native.Nat.{ℕ, ◌+◌, ◌≤◌, ◌-◌, min}
-use mathlib.Core.Path.{◌≡◌, refl, sym, ◌∙◌}
-use mathlib.Core.Bool.{false}
+use Prim.Native.Nat.{◌+◌}
+use mathlib.Core.Path.{refl, sym, ◌∙◌}
 use native.Mathlib.Omega.{arith}
-use lib.ListN.{length, take}
 use borrow.Author.Rules.{rules}
 use Rattle.listed.specs.Listed.{listed}
 use Rattle.listed.proofs.Listed.{listed_miss, listed_hit, listed_more, listed_misses, listed_hits, listed_none_left}

@@ -1,7 +1,6 @@
 -- The tree of eight comparisons is `listed` of the eight places: `listed-near` in Listed.antt.
 use Rattle.listed.proofs.Listed.{listed_near}
 use native.Mathlib.Omega.{arith}
-use borrow.Author.Rules.{rules}
 use Rattle.listed.proofs.is_near.Goals as goal
 
 pub returns : goal.returns

@@ -1,7 +1,6 @@
 -- Each exit is one case of the test's definition: the count, the id 0, xmax, the list.
 use Rattle.settled.specs.Settled.{settled_test}
 use borrow.Author.Tests.{lt-ltb, le-ltb, eq-eqb, ne_eqb}
-use borrow.Author.Rules.{rules}
 use Rattle.settled.proofs.is_settled_among.Goals as goal
 
 pub returns-then-count-gt-SLOTS : goal.returns-then-count-gt-SLOTS

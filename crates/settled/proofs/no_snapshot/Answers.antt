@@ -1,5 +1,4 @@
 -- A snapshot of zeros, place by place.
-use borrow.Author.Rules.{rules}
 use Rattle.settled.specs.Snapshots.{no_snapshot}
 use Rattle.settled.proofs.no_snapshot.Goals as goal
 

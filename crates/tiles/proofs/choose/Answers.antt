@@ -1,6 +1,5 @@
 -- Each exit is one case of the choice, in its order (crate's proofs/Choices.antt).
 use Rattle.tiles.proofs.Choices.{choice_yes, choice_no, choice-refused}
-use borrow.Author.Rules.{rules}
 use Rattle.tiles.proofs.choose.Goals as goal
 
 pub returns-in-Yes : goal.returns-in-Yes

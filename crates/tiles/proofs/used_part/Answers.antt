@@ -1,8 +1,7 @@
 -- Each arm of the choice: the part as bytes and as memory (crate's proofs/Choices.antt).
 use Rattle.tiles.proofs.Choices.{newer_within, older_within}
-use lib.ListN.{length, take, length-take}
+use lib.ListN.{length-take}
 use native.Mathlib.Omega.{arith}
-use borrow.Author.Rules.{rules}
 use Rattle.tiles.proofs.used_part.Goals as goal
 
 pub slice_bounds-result-end : goal.slice_bounds-result-end

@@ -1,7 +1,6 @@
 -- Each arm of the choice: the number that it tells (crate's proofs/Choices.antt).
 use Rattle.kinds.specs.declared.told.Told.{Told}
-use mathlib.Core.Path.{◌≡◌, ap}
-use borrow.Author.Rules.{rules}
+use mathlib.Core.Path.{ap}
 use Rattle.tiles.proofs.used_refusal.Goals as goal
 
 pub returns-in-Newer : goal.returns-in-Newer

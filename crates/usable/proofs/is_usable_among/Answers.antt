@@ -2,7 +2,6 @@
 -- for an own id (`usable-within`). All of this is in the crate's proofs/Wider.antt.
 use mathlib.Core.Path.{◌∙◌}
 use Rattle.usable.proofs.Wider.{usable_within, usable_settled, usable_own, usable_neither, usable_refused}
-use borrow.Author.Rules.{rules}
 use Rattle.usable.proofs.is_usable_among.Goals as goal
 
 pub returns-then-own-id : goal.returns-then-own-id
