@@ -1,10 +1,9 @@
 -- What a call decides, by its verdict: one law for every refused call but begin, one for every accepted call.
 use Prim.Native.Nat.{ℕ}
-use mathlib.Core.Path.{◌≡◌, sym, ap}
+use mathlib.Core.Path.{◌≡◌}
 use mathlib.Core.Bool.{false}
 use Rattle.kinds.specs.declared.refusal.Refusal.{Refusal}
 use Rattle.kinds.specs.declared.refusal.Verdict.TheVariants.{Pass, Refuse}
-use Rattle.kinds.specs.Refusals.{consumed}
 use Rattle.settled.specs.Snapshots.{no_snapshot}
 use Rattle.model.specs.declared.Counters.{Counters}
 use Rattle.model.specs.declared.Table.{Table}
@@ -13,7 +12,7 @@ use Rattle.model.specs.declared.answer.Answer.TheVariants.{Refused}
 use Rattle.model.specs.declared.answer.Decision.{Decision}
 use Rattle.model.specs.declared.answer.SnapshotDecision.{SnapshotDecision}
 use Rattle.model.specs.Changes.{change}
-use Rattle.model.specs.Calls.{Call, refusal, change_accepted, spent, change_of, answer_accepted, answer, shown_accepted, shown}
+use Rattle.model.specs.Calls.{Call, refusal, change_accepted, change_of, answer_accepted, answer, shown_accepted, shown}
 use Rattle.model.specs.Calls.{decision, snapshot_decision}
 use Rattle.model.specs.Deeds.{opens}
 use Rattle.model.proofs.Refused.{refused_kept}

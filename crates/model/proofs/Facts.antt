@@ -15,7 +15,7 @@ use Rattle.model.specs.Tables.{fresh_table, txid_at, xmin_at, pin_at, line_of, c
 use Rattle.model.specs.Changes.{change, past_number, applied}
 use Rattle.model.specs.Calls.{Call, oldest_in, pin_sample, change_accepted, after}
 use Rattle.model.specs.Accepted.{Owns, Observes, Acceptable}
-use Rattle.model.specs.Facts.{Good, PinGood, pin_free, pin_held}
+use Rattle.model.specs.Facts.{Good, pin_free, pin_held}
 use Rattle.model.specs.History.{run, reached}
 use Rattle.model.proofs.Tally.{minimum_start, minimum_member, minimum_bound, taken-active, active-taken, taken-retained}
 use Rattle.model.proofs.Accepted.{accepted_acceptable}

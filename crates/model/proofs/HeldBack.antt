@@ -1,5 +1,5 @@
 -- The named slot or pin holds the tiles back: it retains the result, and oldest is at most what a taken slot or pin retains.
-use Prim.Native.Nat.{ℕ, ◌≤◌, ◌<◌}
+use Prim.Native.Nat.{ℕ, ◌≤◌}
 use mathlib.Core.Path.{◌≡◌, refl, sym, ◌∙◌, ap}
 use mathlib.Core.Logic.{◌≢◌, ◌⊎◌, inl, inr}
 use mathlib.Core.Bool.{true}
@@ -11,7 +11,6 @@ use Rattle.kinds.specs.declared.refusal.Verdict.{Verdict}
 use Rattle.kinds.specs.declared.refusal.Verdict.TheVariants.{Pass, Refuse}
 use Rattle.listed.specs.Listed.{listed}
 use Rattle.model.specs.declared.Table.{Table}
-use Rattle.model.specs.declared.answer.Answer.{Answer}
 use Rattle.model.specs.declared.answer.Answer.TheVariants.{Oldest, Line}
 use Rattle.model.specs.Tally.{active, retained, oldest_of, no_holder, first_pin, pin_holder_of}
 use Rattle.model.specs.Tables.{fresh_table, line_of, clock_of}

@@ -15,8 +15,8 @@ use Rattle.model.specs.declared.Table.{Table}
 use Rattle.model.specs.Tally.{lowest_empty}
 use Rattle.model.specs.Tables.{txid_at}
 use Rattle.model.specs.Changes.{applied}
-use Rattle.model.specs.Calls.{Call, begin, refusal, change_accepted, after}
-use Rattle.model.specs.Deeds.{same_transaction, end_of}
+use Rattle.model.specs.Calls.{Call, begin, refusal, after}
+use Rattle.model.specs.Deeds.{end_of}
 use Rattle.model.specs.Accepted.{Registered}
 use Rattle.model.specs.History.{Accepts}
 use Rattle.model.proofs.Places.{Stored, new_here, as_before, stored, inside_of_ne}

@@ -25,7 +25,7 @@ use Rattle.model.specs.Tables.{txid_at, xmin_at, line_of, lent}
 use Rattle.model.specs.Changes.{applied}
 use Rattle.model.specs.Calls.{Call, own, refusal, change_accepted, spent, after, shown}
 use Rattle.model.specs.Deeds.{same_transaction, own_of}
-use Rattle.model.specs.Accepted.{Registered, Acceptable}
+use Rattle.model.specs.Accepted.{Registered}
 use Rattle.model.specs.Facts.{Good}
 use Rattle.model.specs.History.{noted_by}
 use Rattle.model.proofs.Places.{Stored, new_here, as_before, stored, StoredBoth, both-new, both-before, stored_both}

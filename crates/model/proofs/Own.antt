@@ -3,9 +3,9 @@
 use Prim.Native.Nat.{ℕ, ◌≤◌}
 use mathlib.Core.Path.{◌≡◌, refl, sym, ◌∙◌}
 use mathlib.Core.List.{List}
-use mathlib.Core.Bool.{true, false, ◌&&◌, not, and-false, or-true}
+use mathlib.Core.Bool.{true, false, and-false, or-true}
 use native.Mathlib.Omega.{arith}
-use lib.Dec.{ltb, eqb}
+use lib.Dec.{ltb}
 use lib.ListN.{length, take}
 use borrow.Author.Tests.{eq-eqb, ne_eqb, le-ltb}
 use Rattle.kinds.specs.declared.SlotNo.{SlotNo}
@@ -18,7 +18,7 @@ use Rattle.settled.specs.Settled.{settled_in, paper_settled, settled_test}
 use Rattle.usable.specs.Usable.{usable_in, paper_usable, usable_test}
 use Rattle.usable.proofs.Wider.{own_is_usable}
 use Rattle.model.specs.declared.Table.{Table}
-use Rattle.model.specs.Tally.{active, places, snapshot_of}
+use Rattle.model.specs.Tally.{active, snapshot_of}
 use Rattle.model.specs.Calls.{Call, own, shown, shown_accepted}
 use Rattle.model.specs.Accepted.{Owns, Registered}
 use Rattle.model.specs.History.{reached, Accepts}

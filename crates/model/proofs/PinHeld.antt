@@ -14,9 +14,9 @@ use Rattle.kinds.specs.declared.refusal.Verdict.{Verdict}
 use Rattle.settled.specs.declared.Snapshot.{Snapshot}
 use Rattle.model.specs.declared.Table.{Table}
 use Rattle.model.specs.Tally.{active, lowest_empty, xmin_of, snapshot_of}
-use Rattle.model.specs.Tables.{fresh_table, txid_at, pin_at, line_of, clock_of}
+use Rattle.model.specs.Tables.{fresh_table, txid_at, pin_at, line_of}
 use Rattle.model.specs.Calls.{Call, pin, refusal, pin_sample, change_accepted, after, shown_accepted, shown_by, shown}
-use Rattle.model.specs.Accepted.{Observes, SomePinFree}
+use Rattle.model.specs.Accepted.{SomePinFree}
 use Rattle.model.specs.Facts.{Good}
 use Rattle.model.specs.History.{run, reached, Accepts}
 use Rattle.model.specs.Pins.{held_by, held_from, held_snapshot}

@@ -24,7 +24,7 @@ use Rattle.model.proofs.Tally.{lowest_empty_lem}
 use Rattle.model.proofs.Answers.{pin-told, refused_not_pinned, pinned_as}
 use Rattle.model.proofs.Never.{never_nil, never_cons, never_head, never_tail}
 use Rattle.model.proofs.Facts.{good-after, good-reached}
-use Rattle.model.proofs.History.{run-append, run_snoc}
+use Rattle.model.proofs.History.{run_snoc}
 use Rattle.model.proofs.PinNoted.{PinNoted, now-pinned, now_released, pin-stays, pin_noted}
 use Rattle.model.proofs.PinHeld.{KeepsPin, KeepsHeld, kept_taken, keeps_held-after, held_keeps}
 

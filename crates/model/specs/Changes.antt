@@ -1,6 +1,5 @@
 -- What a change leaves of a table. What it doesn't name stays as it was.
 use Rattle.std.specs.Prelude.{ℕ, ◌+◌, List, set}
-use Rattle.kinds.specs.declared.Stamp.{Stamp}
 use Rattle.model.specs.declared.Counters.{Counters}
 use Rattle.model.specs.declared.Table.{Table}
 use Rattle.model.specs.declared.change.SlotChange.{SlotChange}
