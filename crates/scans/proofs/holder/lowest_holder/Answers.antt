@@ -1,9 +1,6 @@
-use Prim.Native.Nat.{◌≤◌, ◌-◌, ◌+◌, min}
-use mathlib.Core.Path.{◌≡◌, refl, sym, ◌∙◌}
+use mathlib.Core.Path.{refl, sym, ◌∙◌}
 use native.Mathlib.Omega.{arith}
 use borrow.Author.Rules.{rules}
-use lib.ListN.{length, drop}
-use Rattle.model.specs.Tally.{holder_from}
 use Rattle.scans.proofs.Slots.{holder_other, holder-empty, holder_here, eight-held, holder_over}
 use Rattle.scans.proofs.holder.lowest_holder.Goals as goal
 

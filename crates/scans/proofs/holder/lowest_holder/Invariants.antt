@@ -1,12 +1,9 @@
 -- No slot before slot i holds the xmin, so the holder is that of the slots left, counted on from i; eight slots in a turn, or one at
 -- a time, by the laws of `Slots`.
-use Prim.Native.Nat.{◌≤◌, ◌-◌, ◌+◌, min}
-use mathlib.Core.Path.{◌≡◌, refl, sym, ◌∙◌}
-use native.Mathlib.Omega.{arith}
-use borrow.Author.Rules.{rules}
+use Prim.Native.Nat.{◌≤◌, ◌-◌, min}
+use mathlib.Core.Path.{◌≡◌}
 use lib.ListN.{length, drop}
 use Rattle.model.specs.Tally.{holder_from}
-use Rattle.scans.proofs.Slots.{holder_other, holder-empty, holder_here, eight-held, holder_over}
 use Rattle.scans.proofs.holder.lowest_holder.Given as goal
 
 abbrev pub invariant-loop-i-2 : goal.invariant-loop-i-2

@@ -1,9 +1,5 @@
-use Prim.Native.Nat.{◌≤◌, ◌+◌, ◌-◌}
-use mathlib.Core.Path.{◌≡◌, sym, ◌∙◌}
+use mathlib.Core.Path.{sym, ◌∙◌}
 use native.Mathlib.Omega.{arith}
-use borrow.Author.Rules.{rules}
-use lib.ListN.{length, drop}
-use Rattle.model.specs.Tally.{lowest_empty}
 use Rattle.scans.proofs.Slots.{empty_here, taken_here, no_more_slots, eight-taken}
 use Rattle.scans.proofs.lowest.lowest_empty.Goals as goal
 

@@ -1,12 +1,9 @@
 -- The i slots before slot i are taken, so the lowest empty one is i places past that of the slots left; eight slots in a turn, then one
 -- at a time, by the laws of `Slots`.
 use Prim.Native.Nat.{◌≤◌, ◌+◌, ◌-◌}
-use mathlib.Core.Path.{◌≡◌, sym, ◌∙◌}
-use native.Mathlib.Omega.{arith}
-use borrow.Author.Rules.{rules}
+use mathlib.Core.Path.{◌≡◌}
 use lib.ListN.{length, drop}
 use Rattle.model.specs.Tally.{lowest_empty}
-use Rattle.scans.proofs.Slots.{empty_here, taken_here, no_more_slots, eight-taken}
 use Rattle.scans.proofs.lowest.lowest_empty.Given as goal
 
 abbrev pub invariant-loop-i : goal.invariant-loop-i
