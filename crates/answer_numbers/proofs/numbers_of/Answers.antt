@@ -1,6 +1,5 @@
 -- Three of the numbers are asked for; the others are handed on: `numbers_of` (crate model, specs/Answers) opened.
 use Rattle.model.specs.Answers.{numbers_of}
-use borrow.Author.Rules.{rules}
 use Rattle.answer_numbers.proofs.numbers_of.Goals as goal
 
 pub returns : goal.returns

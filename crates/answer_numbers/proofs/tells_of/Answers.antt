@@ -1,6 +1,5 @@
 -- Each case of an answer: what the case of `tells_of` (crate model, specs/Answers) tells, by the arm that was taken.
 use Rattle.model.specs.Answers.{tells_of}
-use borrow.Author.Rules.{rules}
 use Rattle.answer_numbers.proofs.tells_of.Goals as goal
 
 pub returns-in-Begun : goal.returns-in-Begun

@@ -1,6 +1,5 @@
 -- Each case of an answer, by the arm that was taken: the cases of `xmin_told` (crate model, specs/Answers).
 use Rattle.model.specs.Answers.{xmin_told}
-use borrow.Author.Rules.{rules}
 use Rattle.answer_numbers.proofs.xmin_told.Goals as goal
 
 pub returns-in-Oldest : goal.returns-in-Oldest

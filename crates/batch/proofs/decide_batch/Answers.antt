@@ -1,7 +1,6 @@
 -- Each exit is one case of the answer, with the run that it leaves.
-use mathlib.Core.Path.{◌≡◌, sym, ◌∙◌}
+use mathlib.Core.Path.{sym, ◌∙◌}
 use borrow.Author.Tests.{lt-ltb, le-ltb}
-use borrow.Author.Rules.{rules}
 use Rattle.batch.specs.Batch.{batch_of, decisions_left}
 use Rattle.batch.proofs.decide_batch.Goals as goal
 

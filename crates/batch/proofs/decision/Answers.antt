@@ -1,5 +1,4 @@
 -- Each arm is one case of the decision.
-use borrow.Author.Rules.{rules}
 use Rattle.batch.proofs.decision.Goals as goal
 
 pub returns-then-ended_below : goal.returns-then-ended_below

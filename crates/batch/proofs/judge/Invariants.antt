@@ -1,11 +1,8 @@
 -- The invariant: the whole batch is answered as the versions left are, counted from place i (crate's proofs/Walk.antt).
 use Prim.Native.Nat.{◌≤◌, ◌-◌}
-use mathlib.Core.Path.{◌≡◌, refl, sym, ◌∙◌}
-use native.Mathlib.Omega.{arith}
+use mathlib.Core.Path.{◌≡◌}
 use lib.ListN.{length, drop}
-use borrow.Author.Rules.{rules}
 use Rattle.batch.specs.Batch.{judged_from}
-use Rattle.batch.proofs.Walk.{judged-next, judged_bad, judged_over}
 use Rattle.batch.proofs.judge.Given as goal
 
 abbrev pub invariant-loop-i : goal.invariant-loop-i

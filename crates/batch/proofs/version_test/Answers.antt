@@ -1,6 +1,5 @@
 -- Each exit is one case of the test, in its order.
 use borrow.Author.Tests.{eq-eqb, ne_eqb}
-use borrow.Author.Rules.{rules}
 use Rattle.batch.proofs.version_test.Goals as goal
 
 pub returns-then-maker-eq0 : goal.returns-then-maker-eq0

@@ -1,12 +1,9 @@
 -- The invariant: the whole run is what the decisions left put from place i on (crate's proofs/Walk.antt).
-use Prim.Native.Nat.{ℕ, ◌+◌, ◌≤◌, ◌-◌}
-use mathlib.Core.Path.{◌≡◌, refl, sym, ap, ◌∙◌}
-use native.Mathlib.Omega.{arith}
-use lib.ListN.{length, drop, set, length-set}
+use Prim.Native.Nat.{◌≤◌, ◌-◌}
+use mathlib.Core.Path.{◌≡◌}
+use lib.ListN.{length, drop}
 use lib.Seq.{sets}
-use borrow.Author.Rules.{rules}
 use Rattle.batch.specs.Batch.{decisions}
-use Rattle.batch.proofs.Walk.{front_sets, sets_next, sets_over}
 use Rattle.batch.proofs.write_decisions.Given as goal
 
 abbrev pub invariant-loop-i : goal.invariant-loop-i

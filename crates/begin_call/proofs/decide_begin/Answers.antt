@@ -1,7 +1,6 @@
 -- Each exit is one case of begin's two tests, the reservation and the lowest empty slot (crate's proofs/Begins.antt).
 use mathlib.Core.Path.{sym, ◌∙◌}
 use Rattle.begin_call.proofs.Begins.{begin-refused, begin_free, begin-full}
-use borrow.Author.Rules.{rules}
 use Rattle.begin_call.proofs.decide_begin.Goals as goal
 
 pub returns-then-at-lt-SLOTS : goal.returns-then-at-lt-SLOTS

@@ -1,7 +1,6 @@
 -- A place that the column has is written, and no other.
 use borrow.Author.Tests.{lt-ltb, le-ltb}
 use Rattle.model.specs.Stored.{stored_at}
-use borrow.Author.Rules.{rules}
 use Rattle.changes.proofs.store_at.Goals as goal
 
 pub returns-then-i-lt-SLOTS : goal.returns-then-i-lt-SLOTS

@@ -1,6 +1,5 @@
 -- Each case of a change: the pins as the case of `stored_pin` has them.
 use Rattle.model.specs.Stored.{stored_pin}
-use borrow.Author.Rules.{rules}
 use Rattle.changes.proofs.store_pin.Goals as goal
 
 pub returns-in-Stays : goal.returns-in-Stays

@@ -1,6 +1,5 @@
 -- Each case of a change: the column as the case of `stored_txid` has it.
 use Rattle.model.specs.Stored.{stored_txid}
-use borrow.Author.Rules.{rules}
 use Rattle.changes.proofs.store_txid.Goals as goal
 
 pub returns-in-Stays : goal.returns-in-Stays

@@ -1,6 +1,5 @@
 -- Each case of a change: the column as the case of `stored_xmin` has it.
 use Rattle.model.specs.Stored.{stored_xmin}
-use borrow.Author.Rules.{rules}
 use Rattle.changes.proofs.store_xmin.Goals as goal
 
 pub returns-in-Stays : goal.returns-in-Stays

@@ -1,5 +1,4 @@
 -- The one number asked for is the one that the definition names.
-use borrow.Author.Rules.{rules}
 use Rattle.counters.proofs.reserved.Goals as goal
 
 pub returns : goal.returns

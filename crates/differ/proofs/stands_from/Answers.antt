@@ -1,9 +1,6 @@
 use Prim.Native.Nat.{◌-◌}
-use mathlib.Core.Path.{◌≡◌, refl, sym, ◌∙◌}
+use mathlib.Core.Path.{refl, sym, ◌∙◌}
 use native.Mathlib.Omega.{arith}
-use borrow.Author.Rules.{rules}
-use lib.ListN.{length, drop}
-use Rattle.listed.specs.Listed.{listed}
 use Rattle.listed.proofs.Listed.{listed_here, listed_later, listed_over}
 use Rattle.differ.proofs.stands_from.Goals as goal
 

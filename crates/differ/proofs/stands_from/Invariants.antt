@@ -1,11 +1,8 @@
 -- The invariant: whether x stands from the first place on is whether it stands from place i on (settled's proofs/Listed.antt).
 use Prim.Native.Nat.{◌-◌}
-use mathlib.Core.Path.{◌≡◌, refl, sym, ◌∙◌}
-use native.Mathlib.Omega.{arith}
-use borrow.Author.Rules.{rules}
+use mathlib.Core.Path.{◌≡◌}
 use lib.ListN.{length, drop}
 use Rattle.listed.specs.Listed.{listed}
-use Rattle.listed.proofs.Listed.{listed_here, listed_later, listed_over}
 use Rattle.differ.proofs.stands_from.Given as goal
 
 abbrev pub invariant-loop-i : goal.invariant-loop-i

@@ -1,6 +1,5 @@
 -- Mark 0 says that it stands nowhere there.
 use mathlib.Core.Path.{sym}
-use borrow.Author.Rules.{rules}
 use Rattle.differ.proofs.stands_marked.Goals as goal
 
 pub returns-then-mark-eq0 : goal.returns-then-mark-eq0

@@ -1,12 +1,11 @@
-use Prim.Native.Nat.{◌-◌, ◌≤◌}
+use Prim.Native.Nat.{◌-◌}
 use mathlib.Core.Path.{◌≡◌, refl, sym, ◌∙◌}
 use mathlib.Core.Bool.{true}
 use native.Mathlib.Omega.{arith}
 use borrow.Author.Rules.{rules}
-use lib.ListN.{length, length-set, drop}
-use Rattle.model.specs.Check.{differ}
+use lib.ListN.{length, length-set}
 use Rattle.differ.proofs.Rest.{differ_none}
-use Rattle.differ.proofs.Marks.{Marked, marked_none, unmarked_back, marked_back_empty, marked_back}
+use Rattle.differ.proofs.Marks.{marked_none, unmarked_back, marked_back_empty, marked_back}
 use Rattle.differ.proofs.Marks.{differ_back_empty, differ_back_once, differ_back_twice}
 use Rattle.differ.proofs.txids_differ.Goals as goal
 

@@ -1,14 +1,10 @@
 -- The invariant: from place i on the txids differ, and each has set its mark (crate's proofs/Marks.antt).
 use Prim.Native.Nat.{◌-◌, ◌≤◌}
-use mathlib.Core.Path.{◌≡◌, refl, sym, ◌∙◌}
+use mathlib.Core.Path.{◌≡◌}
 use mathlib.Core.Bool.{true}
-use native.Mathlib.Omega.{arith}
-use borrow.Author.Rules.{rules}
-use lib.ListN.{length, length-set, drop}
+use lib.ListN.{length, drop}
 use Rattle.model.specs.Check.{differ}
-use Rattle.differ.proofs.Rest.{differ_none}
-use Rattle.differ.proofs.Marks.{Marked, marked_none, unmarked_back, marked_back_empty, marked_back}
-use Rattle.differ.proofs.Marks.{differ_back_empty, differ_back_once, differ_back_twice}
+use Rattle.differ.proofs.Marks.{Marked}
 use Rattle.differ.proofs.txids_differ.Given as goal
 
 abbrev pub invariant-loop-i : goal.invariant-loop-i

@@ -1,7 +1,6 @@
 -- The change decided on the lent column is made: that is the outcome (model's proofs/Lent.antt).
 use mathlib.Core.Path.{refl}
 use Rattle.model.proofs.Lent.{lent-outcome}
-use borrow.Author.Rules.{rules}
 use Rattle.end_call.proofs.end_transaction.Goals as goal
 
 pub returns : goal.returns

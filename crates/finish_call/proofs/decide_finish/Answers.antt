@@ -4,7 +4,6 @@ use mathlib.Core.Path.{refl, sym, ◌∙◌}
 use Rattle.model.specs.Calls.{refusal}
 use Rattle.model.proofs.Decides.{refused_decides}
 use Rattle.finish_call.proofs.Accepted.{finish-accepted}
-use borrow.Author.Rules.{rules}
 use Rattle.finish_call.proofs.decide_finish.Goals as goal
 
 pub returns-in-Refuse : goal.returns-in-Refuse

@@ -1,6 +1,5 @@
 -- The owner test, and where it passes the reservation test: `then`.
 use mathlib.Core.Path.{sym, ◌∙◌}
-use borrow.Author.Rules.{rules}
 use Rattle.finish_call.proofs.finish_test.Goals as goal
 
 pub returns-in-Refuse : goal.returns-in-Refuse

@@ -1,5 +1,4 @@
 -- `field_if` meets its contract: the limit that it passes on is the definition's.
-use borrow.Author.Rules.{rules}
 use Rattle.five_lines.proofs.field_if.Goals as goal
 
 pub returns : goal.returns

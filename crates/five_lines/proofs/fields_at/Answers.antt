@@ -3,7 +3,6 @@
 use native.Mathlib.Omega.{arith}
 use mathlib.Core.Path.{sym, ◌∙◌}
 use Rattle.text.proofs.FiveLines.{slot-fits, broken_slot, broken_id, broken_fourth, broken_clock, broken_sample, all_five}
-use borrow.Author.Rules.{rules}
 use Rattle.five_lines.proofs.fields_at.Goals as goal
 
 pub field_if-requires : goal.field_if-requires

@@ -2,7 +2,6 @@
 -- (`holder-further`).
 use native.Mathlib.Omega.{arith}
 use Rattle.model.proofs.Holding.{holder_further, holder_bound}
-use borrow.Author.Rules.{rules}
 use Rattle.horizon.proofs.holder_of.Goals as goal
 
 pub overflow_add-otherwise : goal.overflow_add-otherwise

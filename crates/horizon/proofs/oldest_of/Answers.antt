@@ -1,6 +1,5 @@
 -- A pin retains what it holds, so the second scan is over the taken pins.
 use Rattle.model.proofs.Tally.{retained_self}
-use borrow.Author.Rules.{rules}
 use Rattle.horizon.proofs.oldest_of.Goals as goal
 
 pub returns : goal.returns

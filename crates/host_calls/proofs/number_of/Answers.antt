@@ -1,7 +1,6 @@
 -- The number among what a refusal tells.
 use mathlib.Core.Path.{ap}
 use Rattle.kinds.specs.declared.told.Told.{Told}
-use borrow.Author.Rules.{rules}
 use Rattle.host_calls.proofs.number_of.Goals as goal
 
 pub returns : goal.returns

@@ -1,7 +1,6 @@
 -- Each exit is one case of the answer's definition: 18, 10, 4, xmax, the list (crate's proofs/Decoded.antt).
 use mathlib.Core.Path.{sym, ◌∙◌}
 use native.Mathlib.Omega.{arith}
-use borrow.Author.Rules.{rules}
 use Rattle.host_calls.proofs.Decoded.{settled_18, settled_10, settled_4, settled_late, settled_listed, settled_absent}
 use Rattle.host_calls.proofs.settled_number.Goals as goal
 

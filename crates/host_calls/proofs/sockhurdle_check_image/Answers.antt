@@ -1,11 +1,10 @@
 -- 18, or the check's answer on the table that was read (`check-is` in the crate's proofs/Decoded.antt).
 use Prim.Native.Nat.{ℕ}
-use mathlib.Core.Path.{◌≡◌, sym, ap, ◌∙◌}
+use mathlib.Core.Path.{sym, ap, ◌∙◌}
 use Rattle.kinds.specs.declared.refusal.Verdict.{Verdict}
 use Rattle.model.specs.Check.{table_passes}
 use Rattle.host_calls.specs.Answers.{yes_or_no, answer_by}
 use Rattle.host_calls.proofs.Decoded.{check_is}
-use borrow.Author.Rules.{rules}
 use Rattle.host_calls.proofs.sockhurdle_check_image.Goals as goal
 
 pub returns-in-Pass : goal.returns-in-Pass

@@ -1,6 +1,5 @@
 -- Another's id, the reader's own, and a refusal (crate's proofs/Decoded.antt).
 use mathlib.Core.Path.{sym, ◌∙◌}
-use borrow.Author.Rules.{rules}
 use Rattle.host_calls.proofs.Decoded.{usable_other, own_yes, own-refused}
 use Rattle.host_calls.proofs.sockhurdle_usable.Goals as goal
 

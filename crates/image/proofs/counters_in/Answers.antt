@@ -1,5 +1,4 @@
 -- Three numbers, each at its place.
-use borrow.Author.Rules.{rules}
 use Rattle.image.proofs.counters_in.Goals as goal
 
 pub returns : goal.returns

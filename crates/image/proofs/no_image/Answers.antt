@@ -1,6 +1,5 @@
 -- A table of zeros, place by place.
 use Rattle.image.specs.Images.{no_image}
-use borrow.Author.Rules.{rules}
 use Rattle.image.proofs.no_image.Goals as goal
 
 pub returns : goal.returns

@@ -2,7 +2,6 @@
 use borrow.Author.Tests.{eq-eqb, ne_eqb}
 use Rattle.image.specs.Images.{table_of, image_read}
 use Rattle.image.proofs.Columns.{column_read, pins-read}
-use borrow.Author.Rules.{rules}
 use Rattle.image.proofs.read_image.Goals as goal
 
 pub returns-then-image-ne-LENGTH : goal.returns-then-image-ne-LENGTH

@@ -1,7 +1,6 @@
 -- Each exit is one case of the order 7, 8.
 use borrow.Author.Tests.{lt-ltb, le-ltb, eq-eqb, ne_eqb}
 use Rattle.kinds.specs.Refusals.{told}
-use borrow.Author.Rules.{rules}
 use Rattle.ledger_tests.proofs.observation.Goals as goal
 
 pub returns-then-clock-former : goal.returns-then-clock-former

@@ -2,7 +2,6 @@
 use mathlib.Core.Path.{sym, ◌∙◌}
 use borrow.Author.Tests.{le-leb, lt-leb, eq-eqb, ne_eqb}
 use Rattle.kinds.specs.Refusals.{told}
-use borrow.Author.Rules.{rules}
 use Rattle.ledger_tests.proofs.owner.Goals as goal
 
 pub returns-then-place-ge-SLOTS : goal.returns-then-place-ge-SLOTS

@@ -4,7 +4,6 @@ use native.Mathlib.Omega.{arith}
 use borrow.Author.Tests.{lt-ltb, le-ltb, le-leb, lt-leb, eq-eqb, ne_eqb}
 use Rattle.kinds.specs.Refusals.{told}
 use Rattle.model.specs.Tests.{farthest}
-use borrow.Author.Rules.{rules}
 use Rattle.ledger_tests.proofs.reservation.Goals as goal
 
 pub returns-then-clock-ge18446744073709551615 : goal.returns-then-clock-ge18446744073709551615

@@ -1,6 +1,5 @@
 -- `op_of` meets its contract: the calls, last first, are the definition's list.
 use Rattle.op_numbers.specs.Numbers.{op_numbered}
-use borrow.Author.Rules.{rules}
 use Rattle.op_numbers.proofs.op_of.Goals as goal
 
 pub returns : goal.returns

@@ -3,7 +3,6 @@ use mathlib.Core.Path.{refl, sym, ◌∙◌}
 use Rattle.model.specs.Tally.{snapshot_of}
 use Rattle.model.specs.Calls.{change_accepted, answer_accepted, shown_accepted}
 use Rattle.model.proofs.Decides.{refused_shows, accepted_shows}
-use borrow.Author.Rules.{rules}
 use Rattle.own_call.proofs.decide_own.Goals as goal
 
 pub returns-in-Refuse : goal.returns-in-Refuse

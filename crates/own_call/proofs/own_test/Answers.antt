@@ -3,7 +3,6 @@
 use mathlib.Core.Path.{sym, ◌∙◌}
 use Rattle.model.specs.Calls.{refusal}
 use Rattle.own_call.proofs.Cut.{owner-cut}
-use borrow.Author.Rules.{rules}
 use Rattle.own_call.proofs.own_test.Goals as goal
 
 pub returns-in-Refuse : goal.returns-in-Refuse

@@ -1,7 +1,6 @@
 -- Each exit is one case of the two tests, the observation and the lowest free pin (crate's proofs/LowestPin.antt).
 use mathlib.Core.Path.{sym, ◌∙◌}
 use Rattle.pin_call.proofs.LowestPin.{pin-refused, none_free, lowest_pinned}
-use borrow.Author.Rules.{rules}
 use Rattle.pin_call.proofs.decide_pin.Goals as goal
 
 pub returns-in-Refuse : goal.returns-in-Refuse

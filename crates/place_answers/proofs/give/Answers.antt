@@ -2,7 +2,6 @@
 use mathlib.Core.Path.{ap, ◌∙◌}
 use Rattle.model.specs.declared.answer.Numbers.{Numbers}
 use Rattle.place.specs.Shapes.{told_in}
-use borrow.Author.Rules.{rules}
 use Rattle.place_answers.proofs.give.Goals as goal
 
 pub returns : goal.returns

@@ -1,5 +1,4 @@
 -- The counters are stored as they were, then the refusal is told.
-use borrow.Author.Rules.{rules}
 use Rattle.place_answers.proofs.refuse.Goals as goal
 
 pub returns : goal.returns

@@ -1,6 +1,5 @@
 use mathlib.Core.Path.{ap}
 use Rattle.kinds.specs.declared.told.Told.{Told}
-use borrow.Author.Rules.{rules}
 use Rattle.place_batch.proofs.number_of.Goals as goal
 
 pub returns : goal.returns

@@ -1,8 +1,7 @@
 -- Each exit is one case of the answer, with what it leaves in the runs.
-use mathlib.Core.Path.{◌≡◌, refl, sym, ◌∙◌}
+use mathlib.Core.Path.{sym, ◌∙◌}
 use borrow.Author.Tests.{eq-eqb, ne_eqb}
 use Rattle.place_batch.specs.Batched.{batch_number, batch_run, batch_out}
-use borrow.Author.Rules.{rules}
 use Rattle.place_batch.proofs.sockhurdle_batch.Goals as goal
 
 pub returns-then-out-eq0 : goal.returns-then-out-eq0

@@ -4,7 +4,6 @@ use Rattle.place.proofs.Called.{shaped, unfit, called, lent_words}
 use lib.Seq.{length-take-le}
 use native.Mathlib.Omega.{arith}
 use mathlib.Core.Path.{refl, sym, ◌∙◌}
-use borrow.Author.Rules.{rules}
 use Rattle.place_calls.proofs.sockhurdle_finish.Goals as goal
 
 pub returns-then-shape-ne0 : goal.returns-then-shape-ne0

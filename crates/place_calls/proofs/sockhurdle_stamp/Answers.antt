@@ -2,9 +2,7 @@
 use Rattle.model.specs.Calls.{shown_accepted}
 use Rattle.place.proofs.Called.{shaped, unfit, called}
 use Rattle.place_calls.proofs.Stamped.{stamp_words}
-use native.Mathlib.Omega.{arith}
 use mathlib.Core.Path.{refl, sym, ◌∙◌}
-use borrow.Author.Rules.{rules}
 use Rattle.place_calls.proofs.sockhurdle_stamp.Goals as goal
 
 pub returns-then-shape-ne0 : goal.returns-then-shape-ne0

@@ -5,7 +5,6 @@ use lib.Seq.{length-take-le}
 use Rattle.place.proofs.Called.{listing_shaped, unfit, unfit_ids}
 use Rattle.place_answers.proofs.Listed.{refused, accepted}
 use Rattle.place_pins.proofs.Pinned.{pin-refused, none_free, pin_decided, pin-shown}
-use borrow.Author.Rules.{rules}
 use Rattle.place_pins.proofs.sockhurdle_pin.Goals as goal
 
 pub returns-then-shape-ne0 : goal.returns-then-shape-ne0

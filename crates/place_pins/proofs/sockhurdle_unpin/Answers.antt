@@ -4,7 +4,6 @@ use native.Mathlib.Omega.{arith}
 use Rattle.model.specs.Calls.{shown_accepted}
 use Rattle.place.proofs.Called.{shaped, unfit, called}
 use Rattle.place_pins.proofs.Released.{release_words}
-use borrow.Author.Rules.{rules}
 use Rattle.place_pins.proofs.sockhurdle_unpin.Goals as goal
 
 pub returns-then-shape-ne0 : goal.returns-then-shape-ne0

@@ -1,10 +1,10 @@
-use Rattle.place_tables.proofs.Cleared.{cleared, cleared_more, cleared_all}
+use Rattle.place_tables.proofs.Cleared.{cleared_more, cleared_all}
 use borrow.Author.Rules.{rules}
-use lib.ListN.{length, length-set, set}
+use lib.ListN.{length-set, set}
 use native.Mathlib.Omega.{arith}
 use mathlib.Core.List.{List}
-use mathlib.Core.Path.{◌≡◌, refl, sym, ap, ◌∙◌}
-use Prim.Native.Nat.{◌≤◌, ◌-◌, ℕ}
+use mathlib.Core.Path.{refl, ap, ◌∙◌}
+use Prim.Native.Nat.{◌-◌, ℕ}
 use Rattle.place_tables.proofs.clear.Goals as goal
 
 pub loop-i-init : goal.loop-i-init

@@ -1,10 +1,7 @@
-use Rattle.place_tables.proofs.Cleared.{cleared, cleared_more, cleared_all}
-use borrow.Author.Rules.{rules}
-use lib.ListN.{length, length-set, set}
-use native.Mathlib.Omega.{arith}
-use mathlib.Core.List.{List}
-use mathlib.Core.Path.{◌≡◌, refl, sym, ap, ◌∙◌}
-use Prim.Native.Nat.{◌≤◌, ◌-◌, ℕ}
+use Rattle.place_tables.proofs.Cleared.{cleared}
+use lib.ListN.{length}
+use mathlib.Core.Path.{◌≡◌}
+use Prim.Native.Nat.{◌≤◌, ◌-◌}
 use Rattle.place_tables.proofs.clear.Given as goal
 
 abbrev pub invariant-loop-i : goal.invariant-loop-i

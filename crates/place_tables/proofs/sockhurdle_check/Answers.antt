@@ -7,7 +7,6 @@ use borrow.Author.Tests.{ne_eqb}
 use Rattle.kinds.specs.declared.told.Told.{Told}
 use Rattle.place_tables.specs.Tables.{check_number}
 use Rattle.place_tables.proofs.Checked.{checks}
-use borrow.Author.Rules.{rules}
 use Rattle.place_tables.proofs.sockhurdle_check.Goals as goal
 
 pub returns-then-table-ne-WORDS : goal.returns-then-table-ne-WORDS

@@ -5,7 +5,6 @@ use Rattle.place_vacuum.proofs.Lent.{columns_decide}
 use lib.Seq.{length-take-le}
 use native.Mathlib.Omega.{arith}
 use mathlib.Core.Path.{refl, sym, ◌∙◌}
-use borrow.Author.Rules.{rules}
 use Rattle.place_vacuum.proofs.sockhurdle_vacuum.Goals as goal
 
 pub returns-then-shape-ne0 : goal.returns-then-shape-ne0

@@ -1,5 +1,4 @@
 -- A refusal with what it leaves, all of it plain but the snapshot of zeros.
-use borrow.Author.Rules.{rules}
 use Rattle.refused.proofs.refused_snapshot.Goals as goal
 
 pub returns : goal.returns

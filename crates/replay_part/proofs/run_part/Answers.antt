@@ -1,12 +1,11 @@
 use Prim.Native.Nat.{◌-◌}
-use mathlib.Core.Path.{◌≡◌, refl, sym, ap, ◌∙◌}
+use mathlib.Core.Path.{refl, sym, ap, ◌∙◌}
 use native.Mathlib.Omega.{arith}
-use lib.ListN.{length, length-map}
+use lib.ListN.{length}
 use Rattle.model.proofs.Stores.{stored_txid_long, stored_xmin_long, stored_pin_long, stored_applied}
 use Rattle.trace.proofs.Shape.{any_facts}
 use Rattle.trace.proofs.Answers.{record_is}
-use Rattle.replay_part.proofs.Running.{Running, ran_there, running_start, running_more, running_broken, running_full, running_over}
-use borrow.Author.Rules.{rules}
+use Rattle.replay_part.proofs.Running.{ran_there, running_start, running_more, running_broken, running_full, running_over}
 use Rattle.replay_part.proofs.run_part.Goals as goal
 
 pub loop-at-init : goal.loop-at-init

@@ -1,6 +1,5 @@
 -- Both arms of the test.
 use mathlib.Core.Path.{sym, ◌∙◌}
-use borrow.Author.Rules.{rules}
 use Rattle.rows_measure.proofs.allowed_record.Goals as goal
 
 pub returns-then-allows : goal.returns-then-allows

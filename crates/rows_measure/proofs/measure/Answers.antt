@@ -1,8 +1,7 @@
-use Prim.Native.Nat.{◌-◌, ◌≤◌}
-use mathlib.Core.Path.{◌≡◌, sym, ◌∙◌}
+use Prim.Native.Nat.{◌-◌}
+use mathlib.Core.Path.{sym, ◌∙◌}
 use native.Mathlib.Omega.{arith}
-use lib.ListN.{length, drop}
-use Rattle.rows_measure.specs.Measuring.{records_of, too_long, sized, measured}
+use Rattle.rows_measure.specs.Measuring.{measured}
 use Rattle.rows_measure.proofs.Walking.{measure-good, measure_bad, measure_over}
 use borrow.Author.Rules.{rules}
 use Rattle.rows_measure.proofs.measure.Goals as goal

@@ -1,11 +1,8 @@
 -- The measure of the whole run is, at row i, that of the rows left past the bytes counted so far (crate's proofs/Judging.antt).
 use Prim.Native.Nat.{◌-◌, ◌≤◌}
-use mathlib.Core.Path.{◌≡◌, sym, ◌∙◌}
-use native.Mathlib.Omega.{arith}
+use mathlib.Core.Path.{◌≡◌}
 use lib.ListN.{length, drop}
 use Rattle.rows_measure.specs.Measuring.{records_of, too_long, sized, measured}
-use Rattle.rows_measure.proofs.Walking.{measure-good, measure_bad, measure_over}
-use borrow.Author.Rules.{rules}
 use Rattle.rows_measure.proofs.measure.Given as goal
 
 abbrev pub invariant-loop-i : goal.invariant-loop-i

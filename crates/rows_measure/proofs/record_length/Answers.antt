@@ -1,7 +1,6 @@
 -- The length of a record's text is the sum of its parts (crate's proofs/Texts.antt).
 use mathlib.Core.Path.{sym, ◌∙◌}
 use Rattle.rows_measure.proofs.Lengths.{record-length}
-use borrow.Author.Rules.{rules}
 use Rattle.rows_measure.proofs.record_length.Goals as goal
 
 pub returns : goal.returns

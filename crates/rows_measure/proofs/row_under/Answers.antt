@@ -1,7 +1,6 @@
 -- By what the row is.
 use mathlib.Core.Path.{sym, ◌∙◌}
 use Rattle.rows_measure.specs.Measuring.{row_under}
-use borrow.Author.Rules.{rules}
 use Rattle.rows_measure.proofs.row_under.Goals as goal
 
 pub returns-in-Record : goal.returns-in-Record

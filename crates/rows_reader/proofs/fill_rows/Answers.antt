@@ -1,15 +1,13 @@
-use Prim.Native.Nat.{◌-◌, ◌≤◌}
-use mathlib.Core.Path.{◌≡◌, refl, sym, ◌∙◌}
+use Prim.Native.Nat.{◌-◌}
+use mathlib.Core.Path.{refl, sym, ◌∙◌}
 use native.Mathlib.Omega.{arith}
-use lib.ListN.{length, length-set}
-use Rattle.trace.specs.Trace.{first_record, records_from}
+use lib.ListN.{length-set}
+use Rattle.trace.specs.Trace.{first_record}
 use Rattle.grammar.proofs.Walk.{next_item, none_broken}
 use Rattle.trace.specs.Record.{any_form}
 use Rattle.trace.proofs.Shape.{any_facts}
 use Rattle.trace.proofs.Answers.{record_is}
-use Rattle.rows_reader.specs.Reading.{rows_of, in_front}
-use Rattle.rows_reader.proofs.Filling.{Filled, filled_start, row_room, filled_next, filled_over}
-use borrow.Author.Rules.{rules}
+use Rattle.rows_reader.proofs.Filling.{filled_start, row_room, filled_next, filled_over}
 use Rattle.rows_reader.proofs.fill_rows.Goals as goal
 
 pub loop-at-init : goal.loop-at-init

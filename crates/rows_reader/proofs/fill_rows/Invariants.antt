@@ -1,16 +1,10 @@
 -- The rows of the records left from `at` on fill the run from row i on (crate's proofs/Filling.antt).
-use Prim.Native.Nat.{◌-◌, ◌≤◌}
-use mathlib.Core.Path.{◌≡◌, refl, sym, ◌∙◌}
-use native.Mathlib.Omega.{arith}
-use lib.ListN.{length, length-set}
+use Prim.Native.Nat.{◌-◌}
+use mathlib.Core.Path.{◌≡◌}
+use lib.ListN.{length}
 use Rattle.trace.specs.Trace.{first_record, records_from}
-use Rattle.grammar.proofs.Walk.{next_item, none_broken}
-use Rattle.trace.specs.Record.{any_form}
-use Rattle.trace.proofs.Shape.{any_facts}
-use Rattle.trace.proofs.Answers.{record_is}
 use Rattle.rows_reader.specs.Reading.{rows_of, in_front}
-use Rattle.rows_reader.proofs.Filling.{Filled, filled_start, row_room, filled_next, filled_over}
-use borrow.Author.Rules.{rules}
+use Rattle.rows_reader.proofs.Filling.{Filled}
 use Rattle.rows_reader.proofs.fill_rows.Given as goal
 
 abbrev pub invariant-loop-at : goal.invariant-loop-at

@@ -5,7 +5,6 @@ use Rattle.trace.specs.Trace.{trace_grammar}
 use Rattle.trace.proofs.Shape.{trace_grammar_lem}
 use Rattle.trace.proofs.Answers.{reading_is}
 use Rattle.rows_reader.proofs.Answering.{read_broken, read_short, room_read, read_whole}
-use borrow.Author.Rules.{rules}
 use Rattle.rows_reader.proofs.read_rows.Goals as goal
 
 pub returns-then-rows-n : goal.returns-then-rows-n

@@ -1,8 +1,6 @@
-use Prim.Native.Nat.{◌≤◌, ◌-◌}
-use mathlib.Core.Path.{◌≡◌, refl, sym, ◌∙◌}
+use Prim.Native.Nat.{◌-◌}
+use mathlib.Core.Path.{refl, sym, ◌∙◌}
 use native.Mathlib.Omega.{arith}
-use lib.ListN.{length, drop}
-use Rattle.same_bytes.specs.Same.{equal_bytes}
 use Rattle.same_bytes.proofs.Equal.{other_length, same_here, differs_here, both_over}
 use borrow.Author.Rules.{rules}
 use Rattle.same_bytes.proofs.same_bytes.Goals as goal

@@ -1,11 +1,8 @@
 -- The texts are as long, and equal before place i, so they are equal where they are from place i on (crate's proofs/Equal.antt).
 use Prim.Native.Nat.{◌≤◌, ◌-◌}
-use mathlib.Core.Path.{◌≡◌, refl, sym, ◌∙◌}
-use native.Mathlib.Omega.{arith}
+use mathlib.Core.Path.{◌≡◌}
 use lib.ListN.{length, drop}
 use Rattle.same_bytes.specs.Same.{equal_bytes}
-use Rattle.same_bytes.proofs.Equal.{other_length, same_here, differs_here, both_over}
-use borrow.Author.Rules.{rules}
 use Rattle.same_bytes.proofs.same_bytes.Given as goal
 
 abbrev pub invariant-loop-i : goal.invariant-loop-i

@@ -4,7 +4,6 @@ use mathlib.Core.Path.{ap, ◌∙◌}
 use lib.ListN.{length-replicate}
 use Rattle.same_bytes.specs.Same.{equal_bytes}
 use Rattle.second_text.proofs.Printed.{never_full, end_is, front_is, front_count, front_inside}
-use borrow.Author.Rules.{rules}
 use Rattle.second_text.proofs.record_agrees.Goals as goal
 
 pub slice_bounds-buf-end : goal.slice_bounds-buf-end

@@ -1,9 +1,7 @@
 -- The table has as many slots as a snapshot has places, so what was decided on its txids was decided on it (`Lent`).
 use mathlib.Core.Path.{refl, ◌∙◌}
 use native.Mathlib.Nat.{le_of_eq}
-use lib.ListN.{length-map}
 use Rattle.model.proofs.Lent.{slots_show, snapshot_outcome_of}
-use borrow.Author.Rules.{rules}
 use Rattle.snap_call.proofs.create_snapshot.Goals as goal
 
 pub returns : goal.returns

@@ -2,7 +2,6 @@
 use mathlib.Core.Path.{refl, sym, ◌∙◌}
 use Rattle.model.specs.Calls.{refusal, change_accepted, answer_accepted, shown_accepted}
 use Rattle.model.proofs.Decides.{refused_shows, accepted_shows}
-use borrow.Author.Rules.{rules}
 use Rattle.snap_call.proofs.decide_snap.Goals as goal
 
 pub returns-in-Refuse : goal.returns-in-Refuse

@@ -4,7 +4,6 @@ use mathlib.Core.Path.{refl, sym, ◌∙◌}
 use Rattle.model.specs.Calls.{refusal}
 use Rattle.model.proofs.Decides.{refused_decides}
 use Rattle.stamp_call.proofs.Accepted.{stamp-accepted}
-use borrow.Author.Rules.{rules}
 use Rattle.stamp_call.proofs.decide_stamp.Goals as goal
 
 pub returns-in-Refuse : goal.returns-in-Refuse

@@ -1,6 +1,5 @@
 -- The change decided on the counters is made: that is the outcome (model's proofs/Lent.antt).
 use Rattle.model.proofs.Lent.{stamp-outcome}
-use borrow.Author.Rules.{rules}
 use Rattle.stamp_call.proofs.reserve_publication_clock.Goals as goal
 
 pub returns : goal.returns

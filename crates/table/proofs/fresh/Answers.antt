@@ -1,6 +1,5 @@
 -- Both columns are zeros, the pins are free, and the three counters 1.
 use Rattle.model.specs.Tables.{fresh_table}
-use borrow.Author.Rules.{rules}
 use Rattle.table.proofs.fresh.Goals as goal
 
 pub returns : goal.returns

@@ -1,6 +1,5 @@
 -- Four parts in order: the numbers, the slots, the txids, the pins. The first that fails decides.
 use Rattle.model.specs.Check.{passes}
-use borrow.Author.Rules.{rules}
 use Rattle.table_check.proofs.check_columns.Goals as goal
 
 pub returns-then-txids_differ : goal.returns-then-txids_differ

@@ -1,7 +1,6 @@
 -- Three keys, three numbers and three newlines (crate's proofs/Walk.antt).
 use native.Mathlib.Omega.{arith}
 use Rattle.table_measure.proofs.Walk.{counter_length}
-use borrow.Author.Rules.{rules}
 use Rattle.table_measure.proofs.counter_length.Goals as goal
 
 pub returns : goal.returns

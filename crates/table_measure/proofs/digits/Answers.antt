@@ -1,7 +1,6 @@
 -- A number of the machine has at most 20 digits.
 use native.Mathlib.Omega.{arith}
 use Rattle.text.proofs.Decimal.{length-word}
-use borrow.Author.Rules.{rules}
 use Rattle.table_measure.proofs.digits.Goals as goal
 
 pub returns : goal.returns

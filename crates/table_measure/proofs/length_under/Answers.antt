@@ -1,10 +1,8 @@
-use Prim.Native.Nat.{◌+◌, ◌-◌, ◌*◌, ◌≤◌}
-use mathlib.Core.Path.{◌≡◌, ap}
+use Prim.Native.Nat.{◌-◌}
+use mathlib.Core.Path.{ap}
 use lib.ListN.{length}
-use Rattle.table_text.specs.TableText.{lines_under}
-use Rattle.table_measure.proofs.Walk.{under, none_counted, here_length, under_over}
+use Rattle.table_measure.proofs.Walk.{none_counted, here_length, under_over}
 use native.Mathlib.Omega.{arith}
-use borrow.Author.Rules.{rules}
 use Rattle.table_measure.proofs.length_under.Goals as goal
 
 pub loop-i-init : goal.loop-i-init

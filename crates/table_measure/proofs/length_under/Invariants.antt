@@ -1,11 +1,9 @@
 -- Invariant: the length of all lines is what was counted and that of the lines left (crate's proofs/Walk.antt).
 use Prim.Native.Nat.{◌+◌, ◌-◌, ◌*◌, ◌≤◌}
-use mathlib.Core.Path.{◌≡◌, ap}
+use mathlib.Core.Path.{◌≡◌}
 use lib.ListN.{length}
 use Rattle.table_text.specs.TableText.{lines_under}
-use Rattle.table_measure.proofs.Walk.{under, none_counted, here_length, under_over}
-use native.Mathlib.Omega.{arith}
-use borrow.Author.Rules.{rules}
+use Rattle.table_measure.proofs.Walk.{under}
 use Rattle.table_measure.proofs.length_under.Given as goal
 
 abbrev pub invariant-loop-i : goal.invariant-loop-i

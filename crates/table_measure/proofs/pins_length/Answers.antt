@@ -1,10 +1,8 @@
-use Prim.Native.Nat.{◌+◌, ◌-◌, ◌*◌, ◌≤◌}
-use mathlib.Core.Path.{◌≡◌, ap}
+use Prim.Native.Nat.{◌-◌}
+use mathlib.Core.Path.{ap}
 use lib.ListN.{length, get_or}
-use Rattle.table_measure.specs.Lines.{pin_lines}
-use Rattle.table_measure.proofs.Walk.{from-pin, no_pin-counted, pin-length, pin_here_length, pins_over}
+use Rattle.table_measure.proofs.Walk.{no_pin-counted, pin-length, pin_here_length, pins_over}
 use native.Mathlib.Omega.{arith}
-use borrow.Author.Rules.{rules}
 use Rattle.table_measure.proofs.pins_length.Goals as goal
 
 pub loop-k-init : goal.loop-k-init

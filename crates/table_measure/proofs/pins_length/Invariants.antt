@@ -1,11 +1,9 @@
 -- Invariant: the length of all lines is what was counted and that of the lines left (crate's proofs/Walk.antt).
 use Prim.Native.Nat.{◌+◌, ◌-◌, ◌*◌, ◌≤◌}
-use mathlib.Core.Path.{◌≡◌, ap}
-use lib.ListN.{length, get_or}
+use mathlib.Core.Path.{◌≡◌}
+use lib.ListN.{length}
 use Rattle.table_measure.specs.Lines.{pin_lines}
-use Rattle.table_measure.proofs.Walk.{from-pin, no_pin-counted, pin-length, pin_here_length, pins_over}
-use native.Mathlib.Omega.{arith}
-use borrow.Author.Rules.{rules}
+use Rattle.table_measure.proofs.Walk.{from-pin}
 use Rattle.table_measure.proofs.pins_length.Given as goal
 
 abbrev pub invariant-loop-k : goal.invariant-loop-k

@@ -1,7 +1,6 @@
 -- Two keys, two numbers and two newlines (crate's proofs/Walk.antt).
 use native.Mathlib.Omega.{arith}
 use Rattle.table_measure.proofs.Walk.{slot-length}
-use borrow.Author.Rules.{rules}
 use Rattle.table_measure.proofs.slot_length.Goals as goal
 
 pub returns : goal.returns

@@ -1,7 +1,6 @@
 -- Line 1 and the lines under it (crate's proofs/Walk.antt); both columns have a place for each slot.
 use native.Mathlib.Omega.{arith}
 use Rattle.table_measure.proofs.Walk.{table-length}
-use borrow.Author.Rules.{rules}
 use Rattle.table_measure.proofs.table_length.Goals as goal
 
 pub returns : goal.returns

@@ -1,11 +1,8 @@
 -- `place_bytes` meets its contract.
 use Prim.Native.Nat.{◌≤◌, ◌-◌}
-use mathlib.Core.Path.{◌≡◌, refl, ap, ◌∙◌}
-use native.Mathlib.Omega.{arith}
-use lib.ListN.{length, take, length-set}
-use lib.Seq.{take_all}
+use mathlib.Core.Path.{◌≡◌}
+use lib.ListN.{length, take}
 use Rattle.text.specs.Write.{spliced}
-use Rattle.text.proofs.Splice.{splice_none, splice_take}
 use Rattle.text_writer.proofs.place_bytes.Given as goal
 
 abbrev pub invariant-loop-i : goal.invariant-loop-i

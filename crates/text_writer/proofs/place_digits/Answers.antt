@@ -1,9 +1,9 @@
-use Prim.Native.Nat.{◌≤◌, ◌<◌, ◌-◌, ◌/◌}
-use mathlib.Core.Path.{◌≡◌, refl}
+use Prim.Native.Nat.{◌≤◌, ◌-◌, ◌/◌}
+use mathlib.Core.Path.{refl}
 use native.Mathlib.Omega.{arith}
-use lib.ListN.{length, length-set}
+use lib.ListN.{length-set}
 use Rattle.text.proofs.Decimal.{length_some, length_more}
-use Rattle.text.proofs.Splice.{Backwards, back_none, back_more, back_last}
+use Rattle.text.proofs.Splice.{back_none, back_more, back_last}
 use Rattle.text_writer.proofs.place_digits.Goals as goal
 
 pub overflow_sub-i : goal.overflow_sub-i

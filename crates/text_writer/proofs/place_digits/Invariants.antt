@@ -1,10 +1,8 @@
 -- `place_digits` meets its contract.
-use Prim.Native.Nat.{◌≤◌, ◌<◌, ◌-◌, ◌/◌}
-use mathlib.Core.Path.{◌≡◌, refl}
-use native.Mathlib.Omega.{arith}
-use lib.ListN.{length, length-set}
-use Rattle.text.proofs.Decimal.{length_some, length_more}
-use Rattle.text.proofs.Splice.{Backwards, back_none, back_more, back_last}
+use Prim.Native.Nat.{◌<◌, ◌-◌}
+use mathlib.Core.Path.{◌≡◌}
+use lib.ListN.{length}
+use Rattle.text.proofs.Splice.{Backwards}
 use Rattle.text_writer.proofs.place_digits.Given as goal
 
 abbrev pub invariant-loop-left : goal.invariant-loop-left

@@ -1,8 +1,5 @@
 -- `put_line` meets its contract.
-use mathlib.Core.Path.{◌∙◌}
 use native.Mathlib.Omega.{arith}
-use borrow.Author.Rules.{rules}
-use lib.ListN.{length-set}
 use Rattle.text.proofs.Decimal.{length-word}
 use Rattle.text.proofs.Splice.{line_short, line-put}
 use Rattle.text_writer.proofs.put_line.Goals as goal

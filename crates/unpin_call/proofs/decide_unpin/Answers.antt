@@ -2,7 +2,6 @@
 use mathlib.Core.Path.{refl, sym, ◌∙◌}
 use Rattle.model.specs.Calls.{refusal, change_accepted, answer_accepted}
 use Rattle.model.proofs.Decides.{refused_decides, accepted_decides}
-use borrow.Author.Rules.{rules}
 use Rattle.unpin_call.proofs.decide_unpin.Goals as goal
 
 pub returns-in-Refuse : goal.returns-in-Refuse

@@ -1,7 +1,6 @@
 -- A release reads the pins alone, so what was decided on them was decided on the table (`Lent`).
 use mathlib.Core.Path.{◌∙◌}
 use Rattle.model.proofs.Lent.{lent_releases, outcome_of}
-use borrow.Author.Rules.{rules}
 use Rattle.unpin_call.proofs.release_pin.Goals as goal
 
 pub returns : goal.returns

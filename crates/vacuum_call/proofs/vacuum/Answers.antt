@@ -1,6 +1,5 @@
 -- Both columns and the counters are lent, so what was decided was decided on the table (`Lent`).
 use Rattle.model.proofs.Lent.{outcome_of}
-use borrow.Author.Rules.{rules}
 use Rattle.vacuum_call.proofs.vacuum.Goals as goal
 
 pub returns : goal.returns

@@ -1,6 +1,5 @@
 -- Below the slot count the slot has its place; from it on the slot test refuses.
 use borrow.Author.Tests.{le-leb, lt-leb}
-use borrow.Author.Rules.{rules}
 use Rattle.verdicts.proofs.checked_slot.Goals as goal
 
 pub returns-then-at-lt-SLOTS : goal.returns-then-at-lt-SLOTS

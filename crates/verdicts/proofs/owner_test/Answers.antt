@@ -1,7 +1,6 @@
 -- The slot is checked before it is read; then each exit is one case of the order 2, 4, 3 (crate's proofs/Owner.antt).
 use mathlib.Core.Path.{sym, ◌∙◌}
 use Rattle.verdicts.proofs.Owner.{owner_unchecked, owner_zero, owner-passed, owner_other}
-use borrow.Author.Rules.{rules}
 use Rattle.verdicts.proofs.owner_test.Goals as goal
 
 pub returns-then-expected-eq0 : goal.returns-then-expected-eq0

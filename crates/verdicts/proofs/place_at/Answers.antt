@@ -1,7 +1,6 @@
 -- Past the end of the column stands 0, as `get_or` has it.
 use lib.ListN.{get_or-eq_default}
 use mathlib.Core.Path.{sym}
-use borrow.Author.Rules.{rules}
 use Rattle.verdicts.proofs.place_at.Goals as goal
 
 pub returns : goal.returns

@@ -1,7 +1,6 @@
 -- Each exit is one case of the order 15, 16.
 use borrow.Author.Tests.{lt-leb, le-leb, eq-eqb, ne_eqb}
 use mathlib.Core.Path.{sym, ◌∙◌}
-use borrow.Author.Rules.{rules}
 use Rattle.verdicts.proofs.release_test.Goals as goal
 
 pub returns-then-held-eq0 : goal.returns-then-held-eq0

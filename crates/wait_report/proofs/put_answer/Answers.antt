@@ -5,7 +5,6 @@ use lib.ListN.{length}
 use Rattle.text.proofs.Splice.{no_room}
 use Rattle.wait_report.specs.Report.{answer_text}
 use Rattle.wait_report.proofs.Whole.{answer_size, answer-put}
-use borrow.Author.Rules.{rules}
 use Rattle.wait_report.proofs.put_answer.Goals as goal
 
 pub returns-then-out-five : goal.returns-then-out-five

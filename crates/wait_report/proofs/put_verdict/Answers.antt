@@ -5,7 +5,6 @@ use lib.ListN.{length}
 use Rattle.text.proofs.Splice.{no_room}
 use Rattle.text.proofs.Placed.{placed_put}
 use Rattle.wait_report.specs.Report.{verdict_lines}
-use borrow.Author.Rules.{rules}
 use Rattle.wait_report.proofs.put_verdict.Goals as goal
 
 pub returns-then-out-size : goal.returns-then-out-size

@@ -1,6 +1,5 @@
 -- By what the table's text was read as (crate's proofs/Whole.antt).
 use Rattle.wait_report.proofs.Whole.{report_broken, report-whole}
-use borrow.Author.Rules.{rules}
 use Rattle.wait_report.proofs.report.Goals as goal
 
 pub returns-then-line-ne0 : goal.returns-then-line-ne0

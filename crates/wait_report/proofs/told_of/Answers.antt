@@ -1,6 +1,5 @@
 -- By cases: an accepted wait tells zeros.
 use mathlib.Core.Path.{◌∙◌}
-use borrow.Author.Rules.{rules}
 use Rattle.wait_report.proofs.told_of.Goals as goal
 
 pub returns-in-Pass : goal.returns-in-Pass

@@ -1,4 +1,4 @@
-use Rattle.std.proofs.Common.{◌-◌, ◌≤◌, arith, rules}
+use Rattle.std.proofs.Common.{◌-◌, arith}
 use Rattle.bench.proofs.begin_end.lent.Goals as goal
 
 pub loop-i-smaller : goal.loop-i-smaller

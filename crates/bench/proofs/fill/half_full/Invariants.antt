@@ -1,5 +1,5 @@
 -- The loop stays within the columns, and ends: each turn leaves fewer numbers above i.
-use Rattle.std.proofs.Common.{◌-◌, ◌≤◌, rules}
+use Rattle.std.proofs.Common.{◌-◌, ◌≤◌}
 use Rattle.bench.proofs.fill.half_full.Given as goal
 
 abbrev pub invariant-loop-i : goal.invariant-loop-i

@@ -1,5 +1,5 @@
 -- Of the answers nothing is said. The loop ends: each turn leaves fewer rounds.
-use Rattle.std.proofs.Common.{◌-◌, ◌≤◌, rules}
+use Rattle.std.proofs.Common.{◌-◌, ◌≤◌}
 use Rattle.bench.proofs.oldest.lent.Given as goal
 
 abbrev pub invariant-loop-i : goal.invariant-loop-i

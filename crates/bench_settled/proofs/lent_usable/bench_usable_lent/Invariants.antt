@@ -1,5 +1,5 @@
 -- Rounds are counted; nothing else is promised.
-use Rattle.std.proofs.Common.{◌-◌, ◌≤◌, rules}
+use Rattle.std.proofs.Common.{◌-◌, ◌≤◌}
 use Rattle.bench_settled.proofs.lent_usable.bench_usable_lent.Given as goal
 
 abbrev pub invariant-loop-i : goal.invariant-loop-i

@@ -1,6 +1,5 @@
 -- `event_after` meets its contract: the five numbers, or the line that breaks a rule.
 use mathlib.Core.Path.{sym, ◌∙◌}
-use borrow.Author.Rules.{rules}
 use Rattle.events.proofs.lines.event_after.Goals as goal
 
 pub returns-in-Are : goal.returns-in-Are

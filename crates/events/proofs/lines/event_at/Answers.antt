@@ -4,7 +4,6 @@ use Rattle.grammar.specs.Grammar.{every_kind}
 use Rattle.grammar.proofs.Named.{item_named, item_unknown}
 use Rattle.events.specs.Event.{event_shape, event_at}
 use Rattle.events.proofs.Answers.{kind_is}
-use borrow.Author.Rules.{rules}
 use Rattle.events.proofs.lines.event_at.Goals as goal
 
 pub returns-in_default : goal.returns-in_default

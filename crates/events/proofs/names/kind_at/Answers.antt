@@ -1,7 +1,6 @@
 -- `kind_at` meets its contract.
 use mathlib.Core.Path.{sym, ◌∙◌}
 use native.Mathlib.Omega.{arith}
-use borrow.Author.Rules.{rules}
 use Rattle.text.proofs.Bytes.{starts_room}
 use Rattle.grammar.specs.Names.{name_at}
 use Rattle.events.specs.Kind.{event_key, kind_at}

@@ -1,5 +1,4 @@
 -- `name_at` meets its contract: the calls, last first, are the definition's list of names.
-use borrow.Author.Rules.{rules}
 use Rattle.grammar.proofs.Said.{first_tried}
 use Rattle.events.specs.Kind.{kind_name, kinds}
 use Rattle.events.specs.declared.names.KindAt.TheVariants.{Is, Unknown}

@@ -1,5 +1,4 @@
 -- `reads_of` meets its contract: an arm for each kind.
-use borrow.Author.Rules.{rules}
 use Rattle.events.proofs.names.reads_of.Goals as goal
 
 pub returns-in-Register : goal.returns-in-Register

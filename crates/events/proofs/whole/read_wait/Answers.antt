@@ -3,17 +3,16 @@ use mathlib.Core.Path.{◌≡◌, sym, ◌∙◌}
 use mathlib.Core.Bool.{false}
 use mathlib.Core.List.{List}
 use native.Mathlib.Omega.{arith}
-use borrow.Author.Tests.{lt-ltb, le-ltb, not-true, not-false}
-use lib.ListN.{length, drop}
+use borrow.Author.Tests.{lt-ltb, le-ltb}
+use lib.ListN.{drop}
 use Rattle.text.specs.Bytes.{starts}
 use Rattle.grammar.specs.Names.{name_line}
 use Rattle.grammar.specs.Texts.{count_text, read_text}
 use Rattle.grammar.proofs.Laws.{head_is, no_head, under_facts}
-use Rattle.grammar.proofs.Count.{Stands, stands_start, stands_next, stands_small, stands_broken, stands_end}
+use Rattle.grammar.proofs.Count.{stands_start, stands_next, stands_small, stands_broken, stands_end}
 use Rattle.events.specs.Wait.{Header, Wait1, headers, header, wait_grammar, reading}
 use Rattle.events.proofs.Shape.{wait_grammar_lem}
 use Rattle.events.proofs.Answers.{event_is}
-use borrow.Author.Rules.{rules}
 use Rattle.events.proofs.whole.read_wait.Goals as goal
 
 no_other : (s : List ℕ) → starts header (drop 0 s) ≡ false → (h : Header) → starts (name_line headers h) (drop 0 s) ≡ false

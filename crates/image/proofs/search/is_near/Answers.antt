@@ -1,7 +1,5 @@
 -- The eight comparisons are `listed` of the eight numbers: `near` in the crate's proofs/Searching.antt.
-use native.Mathlib.Omega.{arith}
 use Rattle.image.proofs.Searching.{near}
-use borrow.Author.Rules.{rules}
 use Rattle.image.proofs.search.is_near.Goals as goal
 
 pub returns : goal.returns

@@ -1,11 +1,10 @@
-use Prim.Native.Nat.{ℕ, ◌+◌, ◌*◌, ◌-◌, ◌/◌, ◌≤◌}
-use mathlib.Core.Path.{◌≡◌, refl, sym, ap, ◌∙◌}
+use Prim.Native.Nat.{◌*◌, ◌-◌, ◌/◌}
+use mathlib.Core.Path.{refl, sym, ap, ◌∙◌}
 use native.Mathlib.Omega.{arith}
 use lib.ListN.{length}
 use borrow.Author.Rules.{rules}
 use Rattle.listed.specs.Listed.{listed}
-use Rattle.image.specs.Lists.{ids_of}
-use Rattle.image.proofs.Searching.{rest, rest_whole, rest_none, rest_hit, rest_miss, one_hit, one_miss}
+use Rattle.image.proofs.Searching.{rest_whole, rest_none, rest_hit, rest_miss, one_hit, one_miss}
 use Rattle.image.proofs.search.lists.Goals as goal
 
 pub loop-i-init : goal.loop-i-init

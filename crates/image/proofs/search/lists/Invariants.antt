@@ -1,13 +1,11 @@
 -- The invariant of both loops: whether x is in the whole list is whether it is in the rest. What a turn of eight, one more number and
 -- the end of the list say of the rest is in the crate's proofs/Searching.antt.
-use Prim.Native.Nat.{ℕ, ◌+◌, ◌*◌, ◌-◌, ◌/◌, ◌≤◌}
-use mathlib.Core.Path.{◌≡◌, refl, sym, ap, ◌∙◌}
-use native.Mathlib.Omega.{arith}
+use Prim.Native.Nat.{◌-◌, ◌/◌, ◌≤◌}
+use mathlib.Core.Path.{◌≡◌}
 use lib.ListN.{length}
-use borrow.Author.Rules.{rules}
 use Rattle.listed.specs.Listed.{listed}
 use Rattle.image.specs.Lists.{ids_of}
-use Rattle.image.proofs.Searching.{rest, rest_whole, rest_none, rest_hit, rest_miss, one_hit, one_miss}
+use Rattle.image.proofs.Searching.{rest}
 use Rattle.image.proofs.search.lists.Given as goal
 
 abbrev pub invariant-loop-i : goal.invariant-loop-i

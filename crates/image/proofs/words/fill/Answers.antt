@@ -1,9 +1,8 @@
-use Prim.Native.Nat.{ℕ, ◌+◌, ◌*◌, ◌-◌, ◌≤◌}
-use mathlib.Core.Path.{◌≡◌, refl, sym, ap, ◌∙◌}
+use Prim.Native.Nat.{ℕ, ◌+◌, ◌-◌}
+use mathlib.Core.Path.{refl, sym, ap, ◌∙◌}
 use native.Mathlib.Omega.{arith}
 use lib.ListN.{length, length-set, set}
 use borrow.Author.Rules.{rules}
-use Rattle.image.specs.Words.{words_from}
 use Rattle.image.proofs.Filling.{filled, filled_none, filled_more, filled_all}
 use Rattle.image.proofs.words.fill.Goals as goal
 

@@ -1,11 +1,9 @@
 -- The invariant: the numbers that were read, and those that follow, are all of them (crate's proofs/Filling.antt).
-use Prim.Native.Nat.{ℕ, ◌+◌, ◌*◌, ◌-◌, ◌≤◌}
-use mathlib.Core.Path.{◌≡◌, refl, sym, ap, ◌∙◌}
-use native.Mathlib.Omega.{arith}
-use lib.ListN.{length, length-set, set}
-use borrow.Author.Rules.{rules}
+use Prim.Native.Nat.{◌-◌, ◌≤◌}
+use mathlib.Core.Path.{◌≡◌}
+use lib.ListN.{length}
 use Rattle.image.specs.Words.{words_from}
-use Rattle.image.proofs.Filling.{filled, filled_none, filled_more, filled_all}
+use Rattle.image.proofs.Filling.{filled}
 use Rattle.image.proofs.words.fill.Given as goal
 
 abbrev pub invariant-loop-i : goal.invariant-loop-i

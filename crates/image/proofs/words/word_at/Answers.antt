@@ -2,7 +2,6 @@
 use mathlib.Core.Path.{sym}
 use native.Mathlib.Omega.{arith}
 use Rattle.image.proofs.Eight.{eight-bytes}
-use borrow.Author.Rules.{rules}
 use Rattle.image.proofs.words.word_at.Goals as goal
 
 pub returns : goal.returns

@@ -2,7 +2,6 @@
 use Rattle.ledger.specs.List.{row_call}
 use Rattle.ledger.specs.Said.{worked_out}
 use Rattle.ledger.proofs.Shows.{said_is}
-use borrow.Author.Rules.{rules}
 use Rattle.ledger.proofs.answer.answer_to.Goals as goal
 
 pub returns : goal.returns

@@ -1,7 +1,6 @@
 -- By the count.
 use borrow.Author.Tests.{eq-eqb, ne_eqb}
 use Rattle.ledger.specs.Said.{listed_by}
-use borrow.Author.Rules.{rules}
 use Rattle.ledger.proofs.answer.ids_beside.Goals as goal
 
 pub returns-then-count-eq0 : goal.returns-then-count-eq0

@@ -1,7 +1,6 @@
 -- A row that the list has room for is written, and no other.
 use borrow.Author.Tests.{lt-ltb, le-ltb}
 use Rattle.ledger.specs.List.{kept_answer, kept_run}
-use borrow.Author.Rules.{rules}
 use Rattle.ledger.proofs.list.keep.Goals as goal
 
 pub returns-then-used-lt-CALLS : goal.returns-then-used-lt-CALLS

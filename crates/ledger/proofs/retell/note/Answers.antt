@@ -1,7 +1,6 @@
 -- A place that there is is written, and no other.
 use borrow.Author.Tests.{lt-ltb, le-ltb}
 use Rattle.model.specs.Stored.{stored_at}
-use borrow.Author.Rules.{rules}
 use Rattle.ledger.proofs.retell.note.Goals as goal
 
 pub returns-then-place-lt-SLOTS : goal.returns-then-place-lt-SLOTS

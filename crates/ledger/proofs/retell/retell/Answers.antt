@@ -1,9 +1,7 @@
 use Prim.Native.Nat.{◌-◌}
 use native.Mathlib.Omega.{arith}
-use lib.ListN.{length}
-use Rattle.ledger.proofs.Walked.{Walked, fresh_size, walked_none, walked_on, walked_all}
+use Rattle.ledger.proofs.Walked.{fresh_size, walked_none, walked_on, walked_all}
 use Rattle.ledger.specs.List.{row_call}
-use borrow.Author.Rules.{rules}
 use Rattle.ledger.proofs.retell.retell.Goals as goal
 
 pub loop-i-init : goal.loop-i-init

@@ -1,10 +1,7 @@
 -- The invariant is `Walked` (crate's proofs/Walked.antt): the calls left, made on what was told so far, reach what the list does.
 use Prim.Native.Nat.{◌-◌}
-use native.Mathlib.Omega.{arith}
 use lib.ListN.{length}
-use Rattle.ledger.proofs.Walked.{Walked, fresh_size, walked_none, walked_on, walked_all}
-use Rattle.ledger.specs.List.{row_call}
-use borrow.Author.Rules.{rules}
+use Rattle.ledger.proofs.Walked.{Walked}
 use Rattle.ledger.proofs.retell.retell.Given as goal
 
 abbrev pub invariant-loop-i : goal.invariant-loop-i

@@ -1,7 +1,6 @@
 -- The arm that was taken names the call.
 use mathlib.Core.Path.{sym, ◌∙◌}
 use Rattle.ledger_calls.specs.Rows.{call_of}
-use borrow.Author.Rules.{rules}
 use Rattle.ledger_calls.proofs.asked.one_call.Goals as goal
 
 pub returns-in-Begin : goal.returns-in-Begin

@@ -1,6 +1,5 @@
 -- The tries from the last on.
 use Rattle.ledger_calls.specs.Rows.{op_of}
-use borrow.Author.Rules.{rules}
 use Rattle.ledger_calls.proofs.op.op_of.Goals as goal
 
 pub returns : goal.returns

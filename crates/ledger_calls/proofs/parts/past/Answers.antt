@@ -1,5 +1,4 @@
 -- The clock is held at the top.
-use borrow.Author.Rules.{rules}
 use Rattle.ledger_calls.proofs.parts.past.Goals as goal
 
 pub returns : goal.returns

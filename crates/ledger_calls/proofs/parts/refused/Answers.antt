@@ -1,5 +1,4 @@
 -- Its answer stands beside a deed that moves nothing.
-use borrow.Author.Rules.{rules}
 use Rattle.ledger_calls.proofs.parts.refused.Goals as goal
 
 pub returns : goal.returns

@@ -1,6 +1,5 @@
 -- Each exit is one case of the reservation and the lowest free slot (crate's proofs/Reserving.antt).
 use Rattle.ledger_calls.proofs.Reserving.{begin-refused, begin_free, begin-full}
-use borrow.Author.Rules.{rules}
 use Rattle.ledger_calls.proofs.slots.begun.Goals as goal
 
 pub returns-then-told-ne0 : goal.returns-then-told-ne0

@@ -1,7 +1,6 @@
 -- The owner test, then the reservation (crate's proofs/Reserving.antt).
 use Rattle.ledger_calls.proofs.Tells.{passes}
 use Rattle.ledger_calls.proofs.Reserving.{finish_not_owner, finish-refused, finish_leaves}
-use borrow.Author.Rules.{rules}
 use Rattle.ledger_calls.proofs.slots.finished.Goals as goal
 
 pub returns-then-owned-ne0 : goal.returns-then-owned-ne0

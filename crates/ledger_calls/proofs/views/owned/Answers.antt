@@ -1,7 +1,6 @@
 -- The owner test, then the observation (crate's proofs/Viewing.antt).
 use Rattle.ledger_calls.proofs.Tells.{passes}
 use Rattle.ledger_calls.proofs.Viewing.{own_not_owner, own-refused, own_retains}
-use borrow.Author.Rules.{rules}
 use Rattle.ledger_calls.proofs.views.owned.Goals as goal
 
 pub returns-then-owned-ne0 : goal.returns-then-owned-ne0

@@ -1,7 +1,6 @@
 -- The observation, then the lowest free pin (crate's proofs/Viewing.antt).
 use Rattle.ledger_calls.proofs.Tells.{passes}
 use Rattle.ledger_calls.proofs.Viewing.{pin-refused, pin_takes, pin-full}
-use borrow.Author.Rules.{rules}
 use Rattle.ledger_calls.proofs.views.pinned.Goals as goal
 
 pub returns-then-told-ne0 : goal.returns-then-told-ne0

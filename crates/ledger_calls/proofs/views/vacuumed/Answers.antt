@@ -3,7 +3,6 @@ use mathlib.Core.Path.{refl}
 use Rattle.model.specs.Calls.{refusal}
 use Rattle.ledger_calls.proofs.Tells.{passes, refused_did}
 use Rattle.ledger_calls.proofs.Viewing.{vacuum_raises}
-use borrow.Author.Rules.{rules}
 use Rattle.ledger_calls.proofs.views.vacuumed.Goals as goal
 
 pub returns-then-told-ne0 : goal.returns-then-told-ne0

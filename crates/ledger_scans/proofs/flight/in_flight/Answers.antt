@@ -1,8 +1,6 @@
 use Prim.Native.Nat.{◌-◌}
 use native.Mathlib.Omega.{arith}
-use lib.ListN.{length}
-use Rattle.ledger_scans.proofs.Seen.{Seen, seen_none, seen-empty, seen-taken, seen_all}
-use borrow.Author.Rules.{rules}
+use Rattle.ledger_scans.proofs.Seen.{seen_none, seen-empty, seen-taken, seen_all}
 use Rattle.ledger_scans.proofs.flight.in_flight.Goals as goal
 
 pub loop-i-init : goal.loop-i-init

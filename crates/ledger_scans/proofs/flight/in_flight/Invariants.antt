@@ -1,9 +1,7 @@
 -- The invariant is `Seen` (`Seen.antt`): the numbers of all slots are those of the slots left, taken up from the present ones.
 use Prim.Native.Nat.{◌-◌}
-use native.Mathlib.Omega.{arith}
 use lib.ListN.{length}
-use Rattle.ledger_scans.proofs.Seen.{Seen, seen_none, seen-empty, seen-taken, seen_all}
-use borrow.Author.Rules.{rules}
+use Rattle.ledger_scans.proofs.Seen.{Seen}
 use Rattle.ledger_scans.proofs.flight.in_flight.Given as goal
 
 abbrev pub invariant-loop-i : goal.invariant-loop-i

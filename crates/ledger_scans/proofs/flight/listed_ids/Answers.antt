@@ -1,8 +1,6 @@
 use Prim.Native.Nat.{◌-◌}
 use native.Mathlib.Omega.{arith}
-use lib.ListN.{length}
-use Rattle.ledger_scans.proofs.Ids.{Filled, filled_none, filled_empty, filled_taken, filled_all}
-use borrow.Author.Rules.{rules}
+use Rattle.ledger_scans.proofs.Ids.{filled_none, filled_empty, filled_taken, filled_all}
 use Rattle.ledger_scans.proofs.flight.listed_ids.Goals as goal
 
 pub loop-i-init : goal.loop-i-init

@@ -1,9 +1,7 @@
 -- The invariant is `Filled` (`Ids.antt`): what is still to be stored are the ids of the slots left.
 use Prim.Native.Nat.{◌-◌}
-use native.Mathlib.Omega.{arith}
 use lib.ListN.{length}
-use Rattle.ledger_scans.proofs.Ids.{Filled, filled_none, filled_empty, filled_taken, filled_all}
-use borrow.Author.Rules.{rules}
+use Rattle.ledger_scans.proofs.Ids.{Filled}
 use Rattle.ledger_scans.proofs.flight.listed_ids.Given as goal
 
 abbrev pub invariant-loop-i : goal.invariant-loop-i

@@ -1,10 +1,6 @@
-use Prim.Native.Nat.{◌≤◌, ◌+◌, ◌-◌}
-use mathlib.Core.Path.{◌≡◌}
+use Prim.Native.Nat.{◌-◌}
 use native.Mathlib.Omega.{arith}
-use lib.ListN.{length, drop}
-use Rattle.model.specs.Tally.{lowest_empty}
 use Rattle.ledger_scans.proofs.Columns.{free_here, taken_here, none_left}
-use borrow.Author.Rules.{rules}
 use Rattle.ledger_scans.proofs.free.lowest_free.Goals as goal
 
 pub returns-then-column-place-eq0 : goal.returns-then-column-place-eq0

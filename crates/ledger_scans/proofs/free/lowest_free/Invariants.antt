@@ -1,11 +1,8 @@
 -- The places before `place` are taken, so the lowest free one is as many past that of the places left.
 use Prim.Native.Nat.{◌≤◌, ◌+◌, ◌-◌}
 use mathlib.Core.Path.{◌≡◌}
-use native.Mathlib.Omega.{arith}
 use lib.ListN.{length, drop}
 use Rattle.model.specs.Tally.{lowest_empty}
-use Rattle.ledger_scans.proofs.Columns.{free_here, taken_here, none_left}
-use borrow.Author.Rules.{rules}
 use Rattle.ledger_scans.proofs.free.lowest_free.Given as goal
 
 abbrev pub invariant-loop-place : goal.invariant-loop-place

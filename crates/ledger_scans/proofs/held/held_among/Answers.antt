@@ -1,11 +1,7 @@
-use Prim.Native.Nat.{◌≤◌, ◌+◌, ◌-◌}
-use mathlib.Core.Path.{◌≡◌, sym, ◌∙◌}
+use Prim.Native.Nat.{◌-◌}
+use mathlib.Core.Path.{sym, ◌∙◌}
 use native.Mathlib.Omega.{arith}
-use lib.ListN.{length, drop}
-use Rattle.ledger_scans.specs.declared.held.Held.{Held}
-use Rattle.ledger_scans.specs.Held.{held_from}
 use Rattle.ledger_scans.proofs.Walk.{held_start, all_places, empty_place, lower_place, higher_place}
-use borrow.Author.Rules.{rules}
 use Rattle.ledger_scans.proofs.held.held_among.Goals as goal
 
 pub loop-i-init : goal.loop-i-init

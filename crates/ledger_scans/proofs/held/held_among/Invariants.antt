@@ -1,12 +1,9 @@
 -- What the walk has found before place i is what `held_from` finds from there on; one place a turn (`Walk.antt`).
 use Prim.Native.Nat.{◌≤◌, ◌+◌, ◌-◌}
-use mathlib.Core.Path.{◌≡◌, sym, ◌∙◌}
-use native.Mathlib.Omega.{arith}
+use mathlib.Core.Path.{◌≡◌}
 use lib.ListN.{length, drop}
 use Rattle.ledger_scans.specs.declared.held.Held.{Held}
 use Rattle.ledger_scans.specs.Held.{held_from}
-use Rattle.ledger_scans.proofs.Walk.{held_start, all_places, empty_place, lower_place, higher_place}
-use borrow.Author.Rules.{rules}
 use Rattle.ledger_scans.proofs.held.held_among.Given as goal
 
 abbrev pub invariant-loop-i : goal.invariant-loop-i

@@ -1,6 +1,5 @@
 -- The walk down the pins and that down the slots, together, are what the model says (crate's proofs/Walk.antt).
 use mathlib.Core.Path.{◌∙◌}
-use borrow.Author.Rules.{rules}
 use Rattle.ledger_scans.proofs.Walk.{held_is}
 use Rattle.ledger_scans.proofs.held.held_back.Goals as goal
 

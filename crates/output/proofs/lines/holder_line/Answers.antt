@@ -2,7 +2,6 @@
 use native.Mathlib.Omega.{arith}
 use Rattle.output.specs.Output.{holder_line}
 use Rattle.output.proofs.Wrote.{wrote_none}
-use borrow.Author.Rules.{rules}
 use Rattle.output.proofs.lines.holder_line.Goals as goal
 
 pub line-requires : goal.line-requires

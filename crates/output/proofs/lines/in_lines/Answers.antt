@@ -1,11 +1,9 @@
-use Prim.Native.Nat.{ℕ, ◌≤◌, ◌-◌, ◌*◌, min}
+use Prim.Native.Nat.{ℕ, ◌≤◌, ◌-◌}
 use mathlib.Core.Path.{◌≡◌, sym, ap, ◌∙◌}
 use native.Mathlib.Omega.{arith}
-use borrow.Author.Rules.{rules}
 use lib.ListN.{length, take}
 use lib.Seq.{take_all}
 use Rattle.output.specs.Output.{in_lines}
-use Rattle.output.specs.Wrote.{Wrote}
 use Rattle.output.proofs.Wrote.{wrote_none, wrote_then, wrote_at-most, wrote_same, one_more_id}
 use Rattle.output.proofs.lines.in_lines.Goals as goal
 

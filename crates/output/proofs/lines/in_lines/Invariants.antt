@@ -1,14 +1,9 @@
 -- Invariant: the lines of the first i ids stand from `at` on, and `past` is the place after them, at most 24 bytes for each (`Wrote`;
 -- its laws, and that one line more is one id more, stand in the crate's proofs/Wrote.antt).
-use Prim.Native.Nat.{ℕ, ◌≤◌, ◌-◌, ◌*◌, min}
-use mathlib.Core.Path.{◌≡◌, sym, ap, ◌∙◌}
-use native.Mathlib.Omega.{arith}
-use borrow.Author.Rules.{rules}
+use Prim.Native.Nat.{◌≤◌, ◌-◌, ◌*◌, min}
 use lib.ListN.{length, take}
-use lib.Seq.{take_all}
 use Rattle.output.specs.Output.{in_lines}
 use Rattle.output.specs.Wrote.{Wrote}
-use Rattle.output.proofs.Wrote.{wrote_none, wrote_then, wrote_at-most, wrote_same, one_more_id}
 use Rattle.output.proofs.lines.in_lines.Given as goal
 
 abbrev pub invariant-loop-i : goal.invariant-loop-i

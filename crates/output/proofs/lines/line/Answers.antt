@@ -1,6 +1,5 @@
 -- There is room for the longest number, so the line is put and the other arm is not reached (crate's proofs/Wrote.antt).
 use Rattle.output.proofs.Wrote.{line_wrote, line-put_there}
-use borrow.Author.Rules.{rules}
 use Rattle.output.proofs.lines.line.Goals as goal
 
 pub returns-in-Past : goal.returns-in-Past

@@ -5,7 +5,6 @@ use native.Mathlib.Omega.{arith}
 use lib.ListN.{length}
 use Rattle.output.specs.Output.{answer_text}
 use Rattle.output.proofs.Wrote.{wrote_then, fits_room, put_room, put_no_room}
-use borrow.Author.Rules.{rules}
 use Rattle.output.proofs.lines.put_answer.Goals as goal
 
 pub told_lines-four-requires : goal.told_lines-four-requires

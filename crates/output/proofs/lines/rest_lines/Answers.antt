@@ -4,7 +4,6 @@ use native.Mathlib.Omega.{arith}
 use lib.ListN.{length}
 use Rattle.output.specs.Output.{rest_lines}
 use Rattle.output.proofs.Wrote.{wrote_then, wrote_at-most}
-use borrow.Author.Rules.{rules}
 use Rattle.output.proofs.lines.rest_lines.Goals as goal
 
 pub returns : goal.returns

@@ -1,7 +1,6 @@
-use mathlib.Core.Path.{◌≡◌, sym, ◌∙◌}
+use mathlib.Core.Path.{sym, ◌∙◌}
 use borrow.Author.Tests.{eq-eqb, ne_eqb, lt-ltb, le-ltb}
-use borrow.Author.Rules.{rules}
-use Rattle.place.specs.Shapes.{shape_of, list_shape}
+use Rattle.place.specs.Shapes.{list_shape}
 use Rattle.place.proofs.shape.list_shape.Goals as goal
 
 pub returns-then-shape-ne0 : goal.returns-then-shape-ne0

@@ -1,5 +1,4 @@
 use borrow.Author.Tests.{eq-eqb, ne_eqb, lt-ltb, le-ltb}
-use borrow.Author.Rules.{rules}
 use Rattle.place.specs.Shapes.{shape_of}
 use Rattle.place.proofs.shape.shape_test.Goals as goal
 

@@ -1,4 +1,3 @@
-use borrow.Author.Rules.{rules}
 use Rattle.place.proofs.told.tell_plain.Goals as goal
 
 pub returns : goal.returns

@@ -1,4 +1,3 @@
-use borrow.Author.Rules.{rules}
 use Rattle.place.specs.Words.{table_of}
 use Rattle.place.proofs.words.counters_in.Goals as goal
 

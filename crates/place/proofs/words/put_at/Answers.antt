@@ -1,5 +1,4 @@
 use borrow.Author.Tests.{lt-ltb, le-ltb}
-use borrow.Author.Rules.{rules}
 use Rattle.place.specs.Words.{put_at}
 use Rattle.place.proofs.words.put_at.Goals as goal
 

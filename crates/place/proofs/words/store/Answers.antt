@@ -1,9 +1,8 @@
-use mathlib.Core.Path.{◌≡◌, ◌∙◌}
+use mathlib.Core.Path.{◌∙◌}
 use lib.ListN.{length-set}
 use borrow.Author.Tests.{eq-eqb, ne_eqb}
 use Rattle.place.specs.Words.{stored_words}
 use Rattle.place.proofs.Laid.{stored_change}
-use borrow.Author.Rules.{rules}
 use Rattle.place.proofs.words.store.Goals as goal
 
 pub returns-then-words-ne-WORDS : goal.returns-then-words-ne-WORDS

@@ -1,5 +1,4 @@
 use Rattle.place.specs.Words.{slot_put}
-use borrow.Author.Rules.{rules}
 use Rattle.place.proofs.words.store_slot.Goals as goal
 
 pub returns-in-Stays : goal.returns-in-Stays

@@ -1,6 +1,5 @@
 -- `allowed_by` meets its contract: the five answers, joined as the definition joins them.
 use Rattle.record_rows.specs.Rows.{allowed_by}
-use borrow.Author.Rules.{rules}
 use Rattle.record_rows.proofs.rows.allowed_by.Goals as goal
 
 pub returns : goal.returns

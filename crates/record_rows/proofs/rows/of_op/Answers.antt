@@ -2,7 +2,6 @@
 use mathlib.Core.Path.{sym, ◌∙◌}
 use borrow.Author.Tests.{lt-ltb, le-ltb}
 use Rattle.record_rows.specs.Rows.{of_op}
-use borrow.Author.Rules.{rules}
 use Rattle.record_rows.proofs.rows.of_op.Goals as goal
 
 pub returns-then-slot-gt-MOST_SLOT : goal.returns-then-slot-gt-MOST_SLOT

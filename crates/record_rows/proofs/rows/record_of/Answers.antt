@@ -1,7 +1,6 @@
 -- `record_of` meets its contract: by the op that the first number names.
 use mathlib.Core.Path.{sym, ◌∙◌}
 use Rattle.record_rows.specs.Rows.{record_row}
-use borrow.Author.Rules.{rules}
 use Rattle.record_rows.proofs.rows.record_of.Goals as goal
 
 pub returns-in-Is : goal.returns-in-Is

@@ -2,7 +2,6 @@
 use mathlib.Core.Path.{ap}
 use Rattle.text.specs.declared.Put.{Put}
 use Rattle.model.specs.Answers.{numbers_of}
-use borrow.Author.Rules.{rules}
 use Rattle.step.proofs.put.put_plain.Goals as goal
 
 pub returns : goal.returns

@@ -7,7 +7,6 @@ use Rattle.model.proofs.Lent.{slots_show, lent_decides, lent_stamps, lent-pins, 
 use Rattle.step.specs.Named.{call_of}
 use Rattle.step.specs.Step.{ran, ran_left}
 use Rattle.step.proofs.Prints.{plain-ran, plain-left, listing-ran, listing-left}
-use borrow.Author.Rules.{rules}
 use Rattle.step.proofs.record.run_record.Goals as goal
 
 pub returns-then-txids-gt-SLOTS : goal.returns-then-txids-gt-SLOTS

@@ -1,11 +1,8 @@
 -- The invariant: the pins pass exactly where those from place i on do (crate's proofs/Rest.antt).
 use Prim.Native.Nat.{◌≤◌, ◌-◌}
-use mathlib.Core.Path.{◌≡◌, refl, sym, ◌∙◌}
-use native.Mathlib.Omega.{arith}
-use borrow.Author.Rules.{rules}
+use mathlib.Core.Path.{◌≡◌}
 use lib.ListN.{length, drop}
 use Rattle.model.specs.Check.{pins_pass}
-use Rattle.table_check.proofs.Rest.{pins_bad, pins-good, pins_over}
 use Rattle.table_check.proofs.pins.each_pin_passes.Given as goal
 
 abbrev pub invariant-loop-i : goal.invariant-loop-i

@@ -1,6 +1,5 @@
 -- The length is tested first, then the pins.
 use borrow.Author.Tests.{eq-eqb, ne_eqb}
-use borrow.Author.Rules.{rules}
 use Rattle.table_check.proofs.pins.pins_pass.Goals as goal
 
 pub returns-then-pins-ne-PINS : goal.returns-then-pins-ne-PINS

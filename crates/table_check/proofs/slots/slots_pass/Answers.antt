@@ -1,9 +1,7 @@
-use Prim.Native.Nat.{◌≤◌, ◌-◌}
-use mathlib.Core.Path.{◌≡◌, refl, sym, ◌∙◌}
+use Prim.Native.Nat.{◌-◌}
+use mathlib.Core.Path.{refl, sym, ◌∙◌}
 use native.Mathlib.Omega.{arith}
 use borrow.Author.Rules.{rules}
-use lib.ListN.{length, drop}
-use Rattle.model.specs.Check.{slots_pass}
 use Rattle.table_check.proofs.Rest.{slots_short, slots_bad, slots_good, slots_long, slots_over}
 use Rattle.table_check.proofs.slots.slots_pass.Goals as goal
 

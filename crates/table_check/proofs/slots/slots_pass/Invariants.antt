@@ -1,11 +1,8 @@
 -- The invariant: the slots pass exactly where those from place i on do (crate's proofs/Rest.antt).
 use Prim.Native.Nat.{◌≤◌, ◌-◌}
-use mathlib.Core.Path.{◌≡◌, refl, sym, ◌∙◌}
-use native.Mathlib.Omega.{arith}
-use borrow.Author.Rules.{rules}
+use mathlib.Core.Path.{◌≡◌}
 use lib.ListN.{length, drop}
 use Rattle.model.specs.Check.{slots_pass}
-use Rattle.table_check.proofs.Rest.{slots_short, slots_bad, slots_good, slots_long, slots_over}
 use Rattle.table_check.proofs.slots.slots_pass.Given as goal
 
 abbrev pub invariant-loop-i : goal.invariant-loop-i

@@ -1,7 +1,6 @@
 -- The three lines after the pins one after the other, then the end. A place `x-read` is where the line x was read (crate's proofs/Reading.antt).
 use mathlib.Core.Path.{sym, ◌∙◌}
 use Rattle.table_text.proofs.Reading.{clock_broken, sample_broken, line_broken, more_stands, all_read}
-use borrow.Author.Rules.{rules}
 use Rattle.table_text.proofs.read.last_lines.Goals as goal
 
 pub returns-in_default : goal.returns-in_default

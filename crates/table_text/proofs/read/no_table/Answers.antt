@@ -1,6 +1,5 @@
 -- A table of zeros, place by place.
 use Rattle.table_text.specs.TableText.{broken_at}
-use borrow.Author.Rules.{rules}
 use Rattle.table_text.proofs.read.no_table.Goals as goal
 
 pub returns : goal.returns

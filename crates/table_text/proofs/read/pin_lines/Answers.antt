@@ -1,10 +1,8 @@
-use Prim.Native.Nat.{ℕ, ◌-◌}
+use Prim.Native.Nat.{◌-◌}
 use native.Mathlib.Omega.{arith}
-use mathlib.Core.Path.{refl, sym, ◌∙◌}
-use Rattle.kinds.specs.Kinds.{pin_count}
-use Rattle.table_text.proofs.Reading.{Pinning, free_size, pinning_start, read_no_pin, pinning-next, pinning_over}
+use mathlib.Core.Path.{sym, ◌∙◌}
+use Rattle.table_text.proofs.Reading.{free_size, pinning_start, read_no_pin, pinning-next, pinning_over}
 use Rattle.kinds.specs.declared.TheConstants.{SLOTS}
-use borrow.Author.Rules.{rules}
 use Rattle.table_text.proofs.read.pin_lines.Goals as goal
 
 pub loop-k-init : goal.loop-k-init

@@ -1,11 +1,8 @@
 -- Invariant: the whole, for a table of any number of slots, is what the lines left make of the slots and of the pins that were read
 -- (`Pinning`, crate's proofs/Reading.antt).
 use Prim.Native.Nat.{ℕ, ◌-◌}
-use native.Mathlib.Omega.{arith}
-use mathlib.Core.Path.{refl, sym, ◌∙◌}
 use Rattle.kinds.specs.Kinds.{pin_count}
-use Rattle.table_text.proofs.Reading.{Pinning, free_size, pinning_start, read_no_pin, pinning-next, pinning_over}
-use borrow.Author.Rules.{rules}
+use Rattle.table_text.proofs.Reading.{Pinning}
 use Rattle.table_text.proofs.read.pin_lines.Given as goal
 
 abbrev pub invariant-loop-k : goal.invariant-loop-k

@@ -1,11 +1,8 @@
 use Prim.Native.Nat.{◌-◌}
 use native.Mathlib.Omega.{arith}
 use mathlib.Core.Path.{refl, sym, ◌∙◌}
-use lib.ListN.{length}
-use Rattle.table_text.proofs.Reading.{Reading, zeros_size, no_header, reading_start, reading-next, reading_over}
+use Rattle.table_text.proofs.Reading.{zeros_size, no_header, reading_start, reading-next, reading_over}
 use Rattle.table_text.proofs.Reading.{read_no_txid, read_no_xmin}
-use borrow.Author.Tests.{not-true, not-false}
-use borrow.Author.Rules.{rules}
 use Rattle.table_text.proofs.read.read_table.Goals as goal
 
 pub returns-then-not-headed : goal.returns-then-not-headed

@@ -1,12 +1,7 @@
 -- Invariant: the whole is what the lines left make of the slots that were read (`Reading`, crate's proofs/Reading.antt).
 use Prim.Native.Nat.{◌-◌}
-use native.Mathlib.Omega.{arith}
-use mathlib.Core.Path.{refl, sym, ◌∙◌}
 use lib.ListN.{length}
-use Rattle.table_text.proofs.Reading.{Reading, zeros_size, no_header, reading_start, reading-next, reading_over}
-use Rattle.table_text.proofs.Reading.{read_no_txid, read_no_xmin}
-use borrow.Author.Tests.{not-true, not-false}
-use borrow.Author.Rules.{rules}
+use Rattle.table_text.proofs.Reading.{Reading}
 use Rattle.table_text.proofs.read.read_table.Given as goal
 
 abbrev pub invariant-loop-i : goal.invariant-loop-i

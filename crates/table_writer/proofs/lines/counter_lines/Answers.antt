@@ -1,6 +1,5 @@
 -- Three lines, each of which begins where the one before it ended (crate's proofs/Walk.antt).
 use Rattle.table_measure.proofs.Walk.{clock_fits, sample_fits, line-fits, counters_placed}
-use borrow.Author.Rules.{rules}
 use Rattle.table_writer.proofs.lines.counter_lines.Goals as goal
 
 pub line-a-requires : goal.line-a-requires

@@ -4,7 +4,6 @@ use mathlib.Core.Path.{ap}
 use lib.ListN.{length}
 use Rattle.text.proofs.Placed.{placed_same}
 use Rattle.table_measure.proofs.Walk.{header-line}
-use borrow.Author.Rules.{rules}
 use Rattle.table_writer.proofs.lines.first_line.Goals as goal
 
 pub line-requires : goal.line-requires

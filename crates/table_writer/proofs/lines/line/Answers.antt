@@ -1,6 +1,5 @@
 -- Where there is room, the line is put: `put_line` can't say otherwise (proofs/Placed.antt of crate text).
 use Rattle.text.proofs.Placed.{line_placed, line_there}
-use borrow.Author.Rules.{rules}
 use Rattle.table_writer.proofs.lines.line.Goals as goal
 
 pub returns-in-Past : goal.returns-in-Past

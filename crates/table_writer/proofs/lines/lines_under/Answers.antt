@@ -1,9 +1,6 @@
-use Prim.Native.Nat.{◌-◌, ◌≤◌}
-use mathlib.Core.Path.{◌∙◌}
-use lib.ListN.{length}
-use Rattle.table_measure.proofs.Walk.{Left, under, left_start, slot_room, left-next, pins_room, left_over}
+use Prim.Native.Nat.{◌-◌}
+use Rattle.table_measure.proofs.Walk.{left_start, slot_room, left-next, pins_room, left_over}
 use native.Mathlib.Omega.{arith}
-use borrow.Author.Rules.{rules}
 use Rattle.table_writer.proofs.lines.lines_under.Goals as goal
 
 pub loop-i-init : goal.loop-i-init

@@ -1,10 +1,7 @@
 -- Invariant: the whole, put where it belongs, is what the lines left put at the place that was reached (crate's proofs/Walk.antt).
 use Prim.Native.Nat.{◌-◌, ◌≤◌}
-use mathlib.Core.Path.{◌∙◌}
 use lib.ListN.{length}
-use Rattle.table_measure.proofs.Walk.{Left, under, left_start, slot_room, left-next, pins_room, left_over}
-use native.Mathlib.Omega.{arith}
-use borrow.Author.Rules.{rules}
+use Rattle.table_measure.proofs.Walk.{Left, under}
 use Rattle.table_writer.proofs.lines.lines_under.Given as goal
 
 abbrev pub invariant-loop-i : goal.invariant-loop-i

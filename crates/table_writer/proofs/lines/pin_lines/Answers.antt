@@ -1,9 +1,6 @@
-use Prim.Native.Nat.{◌-◌, ◌≤◌}
-use mathlib.Core.Path.{◌∙◌}
-use lib.ListN.{length}
-use Rattle.table_measure.proofs.Walk.{Left, from-pin, pins_start, pin_room, pin-next, counter_room, pins_placed}
+use Prim.Native.Nat.{◌-◌}
+use Rattle.table_measure.proofs.Walk.{pins_start, pin_room, pin-next, counter_room, pins_placed}
 use native.Mathlib.Omega.{arith}
-use borrow.Author.Rules.{rules}
 use Rattle.table_writer.proofs.lines.pin_lines.Goals as goal
 
 pub loop-k-init : goal.loop-k-init

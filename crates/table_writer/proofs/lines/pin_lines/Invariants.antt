@@ -1,10 +1,7 @@
 -- Invariant: the whole, put where it belongs, is what the lines left put at the place that was reached (crate's proofs/Walk.antt).
 use Prim.Native.Nat.{◌-◌, ◌≤◌}
-use mathlib.Core.Path.{◌∙◌}
 use lib.ListN.{length}
-use Rattle.table_measure.proofs.Walk.{Left, from-pin, pins_start, pin_room, pin-next, counter_room, pins_placed}
-use native.Mathlib.Omega.{arith}
-use borrow.Author.Rules.{rules}
+use Rattle.table_measure.proofs.Walk.{Left, from-pin}
 use Rattle.table_writer.proofs.lines.pin_lines.Given as goal
 
 abbrev pub invariant-loop-k : goal.invariant-loop-k

@@ -1,6 +1,5 @@
 -- Two lines, the second where the first ended (crate's proofs/Walk.antt).
 use Rattle.table_measure.proofs.Walk.{txid-fits, xmin_fits, slot_placed}
-use borrow.Author.Rules.{rules}
 use Rattle.table_writer.proofs.lines.slot_lines.Goals as goal
 
 pub line-a-requires : goal.line-a-requires

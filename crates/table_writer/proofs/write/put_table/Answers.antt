@@ -1,12 +1,11 @@
 -- Without room nothing is written; with room, line 1 and the lines under it are put one after the other (crate's proofs/Walk.antt).
 use native.Mathlib.Omega.{arith}
 use Prim.Native.Nat.{◌+◌, ◌≤◌}
-use lib.ListN.{length, length-map}
+use lib.ListN.{length}
 use Rattle.text.proofs.Splice.{no_room}
 use Rattle.table_text.specs.TableText.{table_text}
 use Rattle.text.proofs.Placed.{placed_put}
 use Rattle.table_measure.proofs.Walk.{header-fits, under-fits, table_placed}
-use borrow.Author.Rules.{rules}
 use Rattle.table_writer.proofs.write.put_table.Goals as goal
 
 pub returns-then-buf-size : goal.returns-then-buf-size

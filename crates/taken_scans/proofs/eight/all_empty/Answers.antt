@@ -1,5 +1,4 @@
 -- Two and two, by what each pair says.
-use borrow.Author.Rules.{rules}
 use Rattle.taken_scans.proofs.eight.all_empty.Goals as goal
 
 pub returns : goal.returns

@@ -1,9 +1,6 @@
-use Prim.Native.Nat.{◌≤◌, ◌-◌, ◌+◌, min}
-use mathlib.Core.Path.{◌≡◌, refl, sym, ◌∙◌}
+use mathlib.Core.Path.{refl, sym, ◌∙◌}
 use native.Mathlib.Omega.{arith}
 use borrow.Author.Rules.{rules}
-use lib.ListN.{length, drop}
-use Rattle.model.specs.Tally.{oldest_of}
 use Rattle.taken_scans.proofs.Slots.{oldest_miss, oldest_hit, eight-oldest, oldest_over}
 use Rattle.taken_scans.proofs.oldest.oldest_retained.Goals as goal
 

@@ -1,12 +1,9 @@
 -- The oldest of all slots is that of the slots left, taken up from the lowest so far; eight slots in a turn, or one at a time, by the
 -- laws of `Slots`.
-use Prim.Native.Nat.{◌≤◌, ◌-◌, ◌+◌, min}
-use mathlib.Core.Path.{◌≡◌, refl, sym, ◌∙◌}
-use native.Mathlib.Omega.{arith}
-use borrow.Author.Rules.{rules}
+use Prim.Native.Nat.{◌≤◌, ◌-◌, min}
+use mathlib.Core.Path.{◌≡◌}
 use lib.ListN.{length, drop}
 use Rattle.model.specs.Tally.{oldest_of}
-use Rattle.taken_scans.proofs.Slots.{oldest_miss, oldest_hit, eight-oldest, oldest_over}
 use Rattle.taken_scans.proofs.oldest.oldest_retained.Given as goal
 
 abbrev pub invariant-loop-i-2 : goal.invariant-loop-i-2

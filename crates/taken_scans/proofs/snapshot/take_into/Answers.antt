@@ -1,8 +1,7 @@
-use Prim.Native.Nat.{ℕ, ◌-◌, ◌≤◌, min, max}
-use Rattle.taken_scans.proofs.Scan.{Scanned, none_yet, further, scanned_miss, scanned_hit, scanned_eight, scanned_ids, scanned_nothing, scanned_some, here, read, room, over}
-use mathlib.Core.Path.{◌≡◌, refl, sym, ap, ◌∙◌}
+use Prim.Native.Nat.{ℕ, ◌≤◌, min, max}
+use Rattle.taken_scans.proofs.Scan.{none_yet, further, scanned_miss, scanned_hit, scanned_eight, scanned_ids, scanned_nothing, scanned_some, here, read, room, over}
+use mathlib.Core.Path.{refl, sym, ap, ◌∙◌}
 use native.Mathlib.Omega.{arith}
-use borrow.Author.Rules.{rules}
 use lib.ListN.{length, take, length-set}
 use Rattle.taken_scans.proofs.snapshot.take_into.Goals as goal
 

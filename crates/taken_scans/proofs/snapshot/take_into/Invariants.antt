@@ -1,11 +1,9 @@
 -- The invariant is `Scanned` (`Scan`), over the first slots, as many as the run has places, begun with the run as it was lent: the
 -- tallies of all of them are those of the slots left, taken up from the present numbers; eight slots in a turn, or one at a time.
-use Prim.Native.Nat.{ℕ, ◌-◌, ◌≤◌, min, max}
-use Rattle.taken_scans.proofs.Scan.{Scanned, none_yet, further, scanned_miss, scanned_hit, scanned_eight, scanned_ids, scanned_nothing, scanned_some, here, read, room, over}
-use mathlib.Core.Path.{◌≡◌, refl, sym, ap, ◌∙◌}
-use native.Mathlib.Omega.{arith}
-use borrow.Author.Rules.{rules}
-use lib.ListN.{length, take, length-set}
+use Prim.Native.Nat.{◌-◌, ◌≤◌}
+use Rattle.taken_scans.proofs.Scan.{Scanned}
+use mathlib.Core.Path.{◌≡◌}
+use lib.ListN.{length, take}
 use Rattle.taken_scans.proofs.snapshot.take_into.Given as goal
 
 abbrev pub invariant-loop-i-2 : goal.invariant-loop-i-2

@@ -1,6 +1,5 @@
 -- What is taken into as many zeros as there are places is the snapshot (`Scan`).
 use Rattle.taken_scans.proofs.Scan.{taken-shown}
-use borrow.Author.Rules.{rules}
 use Rattle.taken_scans.proofs.snapshot.take_snapshot.Goals as goal
 
 pub returns : goal.returns

@@ -1,10 +1,9 @@
-use Prim.Native.Nat.{◌≤◌, ◌-◌, ◌+◌}
-use mathlib.Core.Path.{◌≡◌, sym, ◌∙◌}
+use Prim.Native.Nat.{◌-◌, ◌+◌}
+use mathlib.Core.Path.{sym, ◌∙◌}
 use native.Mathlib.Omega.{arith}
 use native.Mathlib.Nat.{add-zero, add_assoc}
 use borrow.Author.Tests.{ne_eqb}
-use lib.ListN.{length, drop}
-use Rattle.text.specs.Bytes.{starts}
+use lib.ListN.{length}
 use Rattle.text.proofs.Bytes.{starts-past, starts-end, starts_same, starts_other}
 use Rattle.text.proofs.read.bytes_at.Goals as goal
 

@@ -1,12 +1,8 @@
 -- `bytes_at` meets its contract.
 use Prim.Native.Nat.{◌≤◌, ◌-◌, ◌+◌}
-use mathlib.Core.Path.{◌≡◌, sym, ◌∙◌}
-use native.Mathlib.Omega.{arith}
-use native.Mathlib.Nat.{add-zero, add_assoc}
-use borrow.Author.Tests.{ne_eqb}
+use mathlib.Core.Path.{◌≡◌}
 use lib.ListN.{length, drop}
 use Rattle.text.specs.Bytes.{starts}
-use Rattle.text.proofs.Bytes.{starts-past, starts-end, starts_same, starts_other}
 use Rattle.text.proofs.read.bytes_at.Given as goal
 
 abbrev pub invariant-loop-j : goal.invariant-loop-j

@@ -2,8 +2,7 @@
 use Prim.Native.Nat.{◌-◌, ◌^◌}
 use mathlib.Core.Path.{sym, ◌∙◌}
 use native.Mathlib.Omega.{arith}
-use borrow.Author.Rules.{rules}
-use borrow.Author.Tests.{le-leb, lt-leb, not-true, not-false}
+use borrow.Author.Tests.{le-leb, lt-leb}
 use Rattle.text.specs.Line.{field_at}
 use Rattle.text.proofs.Bytes.{starts_within}
 use Rattle.text.proofs.read.field_at.Goals as goal

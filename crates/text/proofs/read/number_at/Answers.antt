@@ -1,10 +1,9 @@
-use Prim.Native.Nat.{◌≤◌, ◌-◌}
-use mathlib.Core.Path.{◌≡◌, sym, ◌∙◌}
+use Prim.Native.Nat.{◌-◌}
+use mathlib.Core.Path.{sym, ◌∙◌}
 use mathlib.Core.Bool.{true, false}
 use native.Mathlib.Omega.{arith}
-use borrow.Author.Tests.{le-leb, lt-leb, not-true, not-false}
-use lib.ListN.{length, drop, get_or}
-use Rattle.text.specs.Decimal.{number_tail, number_at}
+use borrow.Author.Tests.{le-leb, lt-leb}
+use lib.ListN.{get_or}
 use Rattle.text.proofs.Numbers.{start_none, start_step, tail_none, tail_ends, tail_goes, went}
 use Rattle.text.proofs.read.number_at.Goals as goal
 

@@ -1,5 +1,4 @@
 -- `reads_of` meets its contract: an arm for each op.
-use borrow.Author.Rules.{rules}
 use Rattle.trace.proofs.ops.reads_of.Goals as goal
 
 pub returns-in-Begin : goal.returns-in-Begin

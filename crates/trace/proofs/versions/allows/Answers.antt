@@ -1,6 +1,5 @@
 -- `allows` meets its contract: the ops of pins under the third header alone.
 use Rattle.trace.specs.Version.{allowed}
-use borrow.Author.Rules.{rules}
 use Rattle.trace.proofs.versions.allows.Goals as goal
 
 pub returns-in-Proc1 : goal.returns-in-Proc1

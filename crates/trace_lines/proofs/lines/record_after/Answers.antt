@@ -1,6 +1,5 @@
 -- `record_after` meets its contract: the five numbers, or the line that breaks a rule.
 use mathlib.Core.Path.{sym, ◌∙◌}
-use borrow.Author.Rules.{rules}
 use Rattle.trace_lines.proofs.lines.record_after.Goals as goal
 
 pub returns-in-Are : goal.returns-in-Are

@@ -4,7 +4,6 @@ use Rattle.grammar.proofs.Named.{item_named, item_unknown}
 use Rattle.grammar.specs.Grammar.{every_kind}
 use Rattle.trace.specs.Record.{record_shape, record_at}
 use Rattle.trace.proofs.Answers.{op_is}
-use borrow.Author.Rules.{rules}
 use Rattle.trace_lines.proofs.lines.record_at.Goals as goal
 
 pub returns-in_default : goal.returns-in_default

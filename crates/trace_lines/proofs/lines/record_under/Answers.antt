@@ -3,7 +3,6 @@ use mathlib.Core.Path.{sym, ◌∙◌}
 use Rattle.grammar.proofs.Named.{item_named, item_refused, item_unknown}
 use Rattle.trace.specs.Record.{record_shape, record_under}
 use Rattle.trace.proofs.Answers.{op_is}
-use borrow.Author.Rules.{rules}
 use Rattle.trace_lines.proofs.lines.record_under.Goals as goal
 
 pub returns-in_default : goal.returns-in_default

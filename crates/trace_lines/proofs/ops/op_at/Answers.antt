@@ -1,7 +1,6 @@
 -- `op_at` meets its contract.
 use mathlib.Core.Path.{sym, ◌∙◌}
 use native.Mathlib.Omega.{arith}
-use borrow.Author.Rules.{rules}
 use Rattle.text.specs.Keys.{op_key}
 use Rattle.text.proofs.Bytes.{starts_room}
 use Rattle.grammar.specs.Names.{name_at}

@@ -1,7 +1,6 @@
 -- `try_name` meets its contract.
 use mathlib.Core.Path.{sym, ◌∙◌}
 use native.Mathlib.Omega.{arith}
-use borrow.Author.Rules.{rules}
 use Rattle.text.proofs.Bytes.{starts_room}
 use Rattle.grammar.specs.Names.{if_named}
 use Rattle.trace_lines.proofs.ops.try_name.Goals as goal

@@ -12,7 +12,6 @@ use Rattle.trace.specs.Trace.{trace_grammar}
 use Rattle.trace.specs.declared.Version.{Version}
 use Rattle.trace.specs.declared.Version.TheVariants.{Proc1, Proc2, Proc3}
 use Rattle.trace.proofs.Shape.{trace_grammar_lem}
-use borrow.Author.Rules.{rules}
 use Rattle.trace_lines.proofs.versions.header_at.Goals as goal
 
 none : (s : List ℕ) → starts (header_of Proc1) (drop 0 s) ≡ false → starts (header_of Proc2) (drop 0 s) ≡ false

@@ -1,11 +1,10 @@
 use Prim.Native.Nat.{◌-◌}
-use mathlib.Core.Path.{◌≡◌, sym, ap, ◌∙◌}
+use mathlib.Core.Path.{sym, ◌∙◌}
 use native.Mathlib.Omega.{arith}
 use borrow.Author.Tests.{lt-ltb, le-ltb}
-use lib.ListN.{length}
 use Rattle.grammar.specs.Texts.{count_text, read_text}
 use Rattle.grammar.proofs.Laws.{under_facts}
-use Rattle.grammar.proofs.Count.{Stands, stands_start, stands_next, stands_small, stands_broken, stands_end}
+use Rattle.grammar.proofs.Count.{stands_start, stands_next, stands_small, stands_broken, stands_end}
 use Rattle.trace.specs.Trace.{trace_grammar, reading}
 use Rattle.trace.proofs.Shape.{trace_grammar_lem}
 use Rattle.trace.proofs.Answers.{header_is, under_is}

@@ -1,16 +1,10 @@
 -- `read_trace` meets its contract. The invariant is the grammar's `Stands`: past n records, at the place `at`, the count goes on from
 -- there, and its numbers are machine numbers.
 use Prim.Native.Nat.{◌-◌}
-use mathlib.Core.Path.{◌≡◌, sym, ap, ◌∙◌}
-use native.Mathlib.Omega.{arith}
-use borrow.Author.Tests.{lt-ltb, le-ltb}
 use lib.ListN.{length}
-use Rattle.grammar.specs.Texts.{count_text, read_text}
-use Rattle.grammar.proofs.Laws.{under_facts}
-use Rattle.grammar.proofs.Count.{Stands, stands_start, stands_next, stands_small, stands_broken, stands_end}
-use Rattle.trace.specs.Trace.{trace_grammar, reading}
+use Rattle.grammar.proofs.Count.{Stands}
+use Rattle.trace.specs.Trace.{trace_grammar}
 use Rattle.trace.proofs.Shape.{trace_grammar_lem}
-use Rattle.trace.proofs.Answers.{header_is, under_is}
 use Rattle.trace_lines.proofs.whole.read_trace.Given as goal
 
 abbrev pub invariant-loop-at : goal.invariant-loop-at

@@ -1,9 +1,7 @@
 -- The header is the line of `trace=proc-` and a number (crate's proofs/Texts.antt).
-use mathlib.Core.Path.{◌∙◌}
 use Rattle.text.proofs.Placed.{placed_same}
 use Rattle.trace.specs.declared.Version.TheVariants.{Proc1, Proc2, Proc3}
 use Rattle.trace_writer.proofs.Texts.{header-line, header_room}
-use borrow.Author.Rules.{rules}
 use Rattle.trace_writer.proofs.lines.header.Goals as goal
 
 pub line-requires : goal.line-requires

@@ -1,7 +1,6 @@
 -- An arm for each op: its line and the slot's are one key and one number (crate's proofs/Texts.antt).
 use Rattle.trace.specs.declared.Op.TheVariants.{Begin, End, Snap, Own, Oldest, Vacuum, Stamp, Finish, Pin, Unpin}
 use Rattle.trace_writer.proofs.Texts.{two_room, two_placed}
-use borrow.Author.Rules.{rules}
 use Rattle.trace_writer.proofs.lines.op_and_slot.Goals as goal
 
 pub line-requires : goal.line-requires

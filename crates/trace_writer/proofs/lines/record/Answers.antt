@@ -1,6 +1,5 @@
 -- Six lines, each of which begins where the one before it ended (crate's proofs/Texts.antt).
 use Rattle.trace_writer.proofs.Texts.{two_fits, id_fits, stamp-fits, clock_fits, sample_fits, record_placed}
-use borrow.Author.Rules.{rules}
 use Rattle.trace_writer.proofs.lines.record.Goals as goal
 
 pub op_and_slot-a-requires : goal.op_and_slot-a-requires

@@ -1,11 +1,8 @@
-use Prim.Native.Nat.{◌-◌, ◌≤◌}
-use mathlib.Core.Path.{◌≡◌, refl, sym, ◌∙◌}
+use Prim.Native.Nat.{◌-◌}
+use mathlib.Core.Path.{refl, sym, ◌∙◌}
 use native.Mathlib.Omega.{arith}
-use lib.ListN.{length, drop}
-use Rattle.text.specs.Write.{spliced}
-use Rattle.rows_measure.specs.Measuring.{records_of, listed, records_text}
 use Rattle.trace_writer.proofs.Texts.{header-fits}
-use Rattle.trace_writer.proofs.Judging.{Left, left_start, past-header, record_room, left-next, none_bad, left_over}
+use Rattle.trace_writer.proofs.Judging.{left_start, past-header, record_room, left-next, none_bad, left_over}
 use borrow.Author.Rules.{rules}
 use Rattle.trace_writer.proofs.write.write_text.Goals as goal
 

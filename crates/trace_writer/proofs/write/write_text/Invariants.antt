@@ -1,13 +1,10 @@
 -- The records left from row i on put the rest of the text at the place that was reached (crate's proofs/Judging.antt).
 use Prim.Native.Nat.{◌-◌, ◌≤◌}
-use mathlib.Core.Path.{◌≡◌, refl, sym, ◌∙◌}
-use native.Mathlib.Omega.{arith}
-use lib.ListN.{length, drop}
+use mathlib.Core.Path.{◌≡◌}
+use lib.ListN.{length}
 use Rattle.text.specs.Write.{spliced}
 use Rattle.rows_measure.specs.Measuring.{records_of, listed, records_text}
-use Rattle.trace_writer.proofs.Texts.{header-fits}
-use Rattle.trace_writer.proofs.Judging.{Left, left_start, past-header, record_room, left-next, none_bad, left_over}
-use borrow.Author.Rules.{rules}
+use Rattle.trace_writer.proofs.Judging.{Left}
 use Rattle.trace_writer.proofs.write.write_text.Given as goal
 
 abbrev pub invariant-loop-i : goal.invariant-loop-i

@@ -1,7 +1,6 @@
 -- By what was measured: a bad row, a text too long, one longer than the buffer, or one with room (crate's proofs/Answering.antt).
 use mathlib.Core.Path.{sym, ◌∙◌}
 use Rattle.trace_writer.proofs.Answering.{refused_bad, refused_long, refused_short, room_written, written-whole}
-use borrow.Author.Rules.{rules}
 use Rattle.trace_writer.proofs.write.write_trace.Goals as goal
 
 pub returns-then-n-gt-LONGEST : goal.returns-then-n-gt-LONGEST

@@ -1,7 +1,6 @@
 -- `check_wait` meets its contract: a text that breaks its grammar, an entry that is refused, and the steps.
 use mathlib.Core.Path.{sym, ◌∙◌}
 use Rattle.wait.proofs.Running.{whole-opens, wait_broken, wait_refused, wait_stepped}
-use borrow.Author.Rules.{rules}
 use Rattle.wait.proofs.check.check_wait.Goals as goal
 
 pub run_steps-requires : goal.run_steps-requires

@@ -1,6 +1,5 @@
 -- `entry_test` meets its contract: a table that fails the check, nobody, and an owner.
 use mathlib.Core.Path.{sym, ◌∙◌}
-use borrow.Author.Rules.{rules}
 use Rattle.wait.proofs.check.entry_test.Goals as goal
 
 pub returns-in-Nobody : goal.returns-in-Nobody

@@ -1,13 +1,11 @@
 use Prim.Native.Nat.{◌-◌}
-use mathlib.Core.Path.{◌≡◌, sym, ◌∙◌}
+use mathlib.Core.Path.{sym, ◌∙◌}
 use native.Mathlib.Omega.{arith}
-use lib.ListN.{length, length-map}
 use Rattle.grammar.proofs.Walk.{none_broken}
 use Rattle.events.specs.Event.{event_form}
 use Rattle.events.proofs.Shape.{event_facts}
 use Rattle.events.proofs.Answers.{event_is}
-use Rattle.wait.proofs.Running.{Running, running_start, running_took, running_stopped, running_over}
-use borrow.Author.Rules.{rules}
+use Rattle.wait.proofs.Running.{running_start, running_took, running_stopped, running_over}
 use Rattle.wait.proofs.run.run_steps.Goals as goal
 
 pub loop-at-init : goal.loop-at-init

@@ -1,15 +1,8 @@
 -- `run_steps` meets its contract. The invariant is `Running` (crate's proofs/Running.antt): from the table as it is now and the
 -- events that are left, verdict and end are those of the whole.
 use Prim.Native.Nat.{◌-◌}
-use mathlib.Core.Path.{◌≡◌, sym, ◌∙◌}
-use native.Mathlib.Omega.{arith}
-use lib.ListN.{length, length-map}
-use Rattle.grammar.proofs.Walk.{none_broken}
-use Rattle.events.specs.Event.{event_form}
-use Rattle.events.proofs.Shape.{event_facts}
-use Rattle.events.proofs.Answers.{event_is}
-use Rattle.wait.proofs.Running.{Running, running_start, running_took, running_stopped, running_over}
-use borrow.Author.Rules.{rules}
+use lib.ListN.{length}
+use Rattle.wait.proofs.Running.{Running}
 use Rattle.wait.proofs.run.run_steps.Given as goal
 
 abbrev pub invariant-loop-at : goal.invariant-loop-at

@@ -1,6 +1,5 @@
 -- Five lines, each of which begins where the one before it ended (crate's proofs/Five.antt).
 use Rattle.wait_report.proofs.Five.{answer-fits, slot-fits, id_fits, seen-fits, at-fits, verdict_placed}
-use borrow.Author.Rules.{rules}
 use Rattle.wait_report.proofs.lines.verdict_lines.Goals as goal
 
 pub line-a-requires : goal.line-a-requires

@@ -1,7 +1,6 @@
 -- Five keys, five numbers and five newlines (crate's proofs/Five.antt).
 use native.Mathlib.Omega.{arith}
 use Rattle.wait_report.proofs.Five.{verdict_length}
-use borrow.Author.Rules.{rules}
 use Rattle.wait_report.proofs.measure.verdict_length.Goals as goal
 
 pub returns : goal.returns

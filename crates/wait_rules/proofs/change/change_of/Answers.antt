@@ -1,6 +1,5 @@
 -- `change_of` meets its contract: an arm for each event.
 use Rattle.wait_rules.specs.Steps.{held_by, held_change}
-use borrow.Author.Rules.{rules}
 use Rattle.wait_rules.proofs.change.change_of.Goals as goal
 
 pub returns-in-Register : goal.returns-in-Register

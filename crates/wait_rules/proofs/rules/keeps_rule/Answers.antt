@@ -1,6 +1,5 @@
 -- `keeps_rule` meets its contract: an arm for each event.
 use Rattle.wait_rules.specs.Steps.{rule_of, event_test}
-use borrow.Author.Rules.{rules}
 use Rattle.wait_rules.proofs.rules.keeps_rule.Goals as goal
 
 pub returns-in-Register : goal.returns-in-Register

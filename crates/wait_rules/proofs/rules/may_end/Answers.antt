@@ -1,7 +1,6 @@
 -- `may_end` meets its contract: the two parts of its rule, in their order.
 use mathlib.Core.Path.{sym, ◌∙◌}
 use Rattle.wait_rules.specs.Steps.{end_rule}
-use borrow.Author.Rules.{rules}
 use Rattle.wait_rules.proofs.rules.may_end.Goals as goal
 
 pub returns-then-may_name : goal.returns-then-may_name

@@ -1,6 +1,5 @@
 -- `may_name` meets its contract: a slot that no table has, nobody's slot, and a slot beside the owner's.
 use borrow.Author.Tests.{lt-ltb, le-ltb}
-use borrow.Author.Rules.{rules}
 use Rattle.wait_rules.proofs.rules.may_name.Goals as goal
 
 pub returns-in-Nobody : goal.returns-in-Nobody

@@ -1,7 +1,6 @@
 -- `may_observe` meets its contract.
 use mathlib.Core.Path.{ap, ◌∙◌}
 use Rattle.wait_rules.specs.Steps.{passed}
-use borrow.Author.Rules.{rules}
 use Rattle.wait_rules.proofs.rules.may_observe.Goals as goal
 
 pub returns : goal.returns

@@ -2,7 +2,6 @@
 use mathlib.Core.Path.{sym, ◌∙◌}
 use borrow.Author.Tests.{eq-eqb, ne_eqb}
 use Rattle.wait_rules.specs.Steps.{register_rule}
-use borrow.Author.Rules.{rules}
 use Rattle.wait_rules.proofs.rules.may_register.Goals as goal
 
 pub returns-then-txid_at-eq0 : goal.returns-then-txid_at-eq0

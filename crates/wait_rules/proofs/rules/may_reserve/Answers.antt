@@ -1,7 +1,6 @@
 -- `may_reserve` meets its contract.
 use mathlib.Core.Path.{ap, ◌∙◌}
 use Rattle.wait_rules.specs.Steps.{passed}
-use borrow.Author.Rules.{rules}
 use Rattle.wait_rules.proofs.rules.may_reserve.Goals as goal
 
 pub returns : goal.returns

@@ -3,7 +3,6 @@ use mathlib.Core.Path.{sym, ◌∙◌}
 use borrow.Author.Tests.{eq-eqb, ne_eqb, le-leb, lt-leb}
 use Rattle.wait_rules.specs.Steps.{horizon_rule}
 use Rattle.model.proofs.Tally.{retained_self}
-use borrow.Author.Rules.{rules}
 use Rattle.wait_rules.proofs.rules.may_set_horizon.Goals as goal
 
 pub returns-then-xmin-ge1 : goal.returns-then-xmin-ge1

@@ -1,7 +1,6 @@
 -- `txid_at` meets its contract: inside the column, and past its end.
 use mathlib.Core.Path.{sym}
 use lib.ListN.{get_or-eq_default}
-use borrow.Author.Rules.{rules}
 use Rattle.wait_rules.proofs.rules.txid_at.Goals as goal
 
 pub returns : goal.returns
