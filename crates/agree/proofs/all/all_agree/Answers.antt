@@ -1,6 +1,5 @@
 -- A text is a trace or breaks a rule. Of a trace every record agrees (records_agree); of another the answer is no.
-use mathlib.Core.Path.{refl, sym, ap, ◌∙◌}
-use borrow.Author.Rules.{rules}
+use mathlib.Core.Path.{sym, ap, ◌∙◌}
 use Rattle.agree.specs.Traces.{is_whole}
 use Rattle.agree.proofs.all.all_agree.Goals as goal
 

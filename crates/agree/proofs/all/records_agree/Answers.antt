@@ -1,14 +1,12 @@
-use Prim.Native.Nat.{◌-◌, ◌≤◌}
-use mathlib.Core.Path.{◌≡◌, refl, sym, ap, ◌∙◌}
+use Prim.Native.Nat.{◌-◌}
+use mathlib.Core.Path.{refl, sym, ap, ◌∙◌}
 use native.Mathlib.Omega.{arith}
 use lib.ListN.{length, length-set}
 use lib.Seq.{length-take-le}
 use Rattle.model.proofs.Stores.{stored_applied}
 use Rattle.trace.proofs.Shape.{any_facts}
 use Rattle.trace.proofs.Answers.{record_is}
-use Rattle.agree.proofs.Side.{Side, kept_last, kept_full, side_start, side_more, side_good, side_broken, side_few, side_from, side_to}
-use borrow.Author.Rules.{rules}
-use borrow.Author.Tests.{not-true}
+use Rattle.agree.proofs.Side.{kept_last, kept_full, side_start, side_more, side_good, side_broken, side_few, side_from, side_to}
 use Rattle.agree.proofs.all.records_agree.Goals as goal
 
 pub loop-at-init : goal.loop-at-init

@@ -3,7 +3,6 @@
 use Prim.Native.Nat.{ℕ}
 use lib.ListN.{length-replicate}
 use Rattle.agree.proofs.Runs.{both_room, both_inside, both_count, both-fits}
-use borrow.Author.Rules.{rules}
 use Rattle.agree.proofs.all.run_both.Goals as goal
 
 pub returns-in_default : goal.returns-in_default
