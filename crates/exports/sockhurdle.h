@@ -1,4 +1,4 @@
-/* The replay and the check of a wait, for a host in C. Link target/staticlib/libexports.a, which `rt staticlib exports` makes.
+/* The replay and the check of a wait, for a host in C. Link target/operator/libsockhurdle.a, which operator/build.sh makes of the crate exports_c.
    Each function is proved: it ends and keeps to the memory that it is lent. */
 #ifndef SOCKHURDLE_H
 #define SOCKHURDLE_H

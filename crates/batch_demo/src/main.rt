@@ -4,8 +4,12 @@
 #![tactic(auto)]
 
 use batch::Batched;
-use libc::{STDIN_FILENO, STDOUT_FILENO};
 use text::Number;
+
+// The standard descriptors.
+const STDIN_FILENO: i32 = 0;
+
+const STDOUT_FILENO: i32 = 1;
 
 const INPUT: usize = 131072;
 

@@ -2,8 +2,14 @@
 #![tactic(auto)]
 
 use kinds::Refusal;
-use libc::{STDERR_FILENO, STDIN_FILENO, STDOUT_FILENO};
 use trace_writer::{RowsRead, Wrote};
+
+// The standard descriptors.
+const STDIN_FILENO: i32 = 0;
+
+const STDOUT_FILENO: i32 = 1;
+
+const STDERR_FILENO: i32 = 2;
 
 // One byte more than a trace may have, to know that there is one; and the most records that one may have.
 const ROOM: usize = trace::LONGEST + 1;

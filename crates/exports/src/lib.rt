@@ -1,5 +1,5 @@
-// The replay and the check of a wait for a host in C or Rust, linked as a static library. sockhurdle.h beside this folder
-// declares these functions for C; a slice is a pointer and a length there.
+// The replay and the check of a wait for a host. The crate exports_c hands these functions to hosts in C or Rust, as a static
+// library; sockhurdle.h in this crate's folder declares them for C.
 #![tactic(auto)]
 
 mod waits;
@@ -7,9 +7,8 @@ mod waits;
 ghost use Rattle.std.specs.Prelude.{◌≡◌, length};
 ghost use Rattle.exports.specs.Status.{answer_of, left_of, ReadFits, StatusFits, RunFits};
 
-use kinds::SLOTS;
-
 use input::{Input, read_all};
+use kinds::SLOTS;
 use replay::{Replayed, Sent};
 pub use waits::{sockhurdle_wait, sockhurdle_wait_owned};
 
@@ -18,8 +17,7 @@ const ROOM: usize = replay::LONGEST + 1;
 
 // A whole replay into a lent buffer, without the second engine. Answers the length of the output; or 0 where it had no room,
 // and the buffer then begins with as many of its records as had. An output is never empty.
-#[unsafe(no_mangle)]
-pub extern "C" fn sockhurdle_replay(input: &[u8], out: &mut [u8]) -> usize
+pub fn sockhurdle_replay(input: &[u8], out: &mut [u8]) -> usize
     ensures result_value { result ≡ answer_of SLOTS input.now out.old }
     ensures out_after { out.new ≡ left_of SLOTS input.now out.old }
 {
@@ -32,8 +30,7 @@ pub extern "C" fn sockhurdle_replay(input: &[u8], out: &mut [u8]) -> usize
 
 // Reads an input to its end, or until the buffer is full. Answers the number of bytes, or 2^64 - 1 where a read failed:
 // what came before it is then no input.
-#[unsafe(no_mangle)]
-pub extern "C" fn sockhurdle_read(from: i32, into: &mut [u8]) -> usize
+pub fn sockhurdle_read(from: i32, into: &mut [u8]) -> usize
     ensures { ReadFits (length into.old) result }
 {
     let input = read_all(from, into);
@@ -45,8 +42,7 @@ pub extern "C" fn sockhurdle_read(from: i32, into: &mut [u8]) -> usize
 
 // A whole replay to a file descriptor, under proc-2 and proc-3 with the second engine's line. Answers 0 where it went; 3 where
 // the text is no trace, and refusal 9 went; 1 where a write failed, and what went is a beginning of the output.
-#[unsafe(no_mangle)]
-pub extern "C" fn sockhurdle_replay_to(input: &[u8], to: i32) -> i32
+pub fn sockhurdle_replay_to(input: &[u8], to: i32) -> i32
     ensures { StatusFits input.now result }
 {
     let sent = replay::replay_to(input, to);
@@ -59,8 +55,7 @@ pub extern "C" fn sockhurdle_replay_to(input: &[u8], to: i32) -> i32
 
 // The program: reads a trace from one descriptor and replays it to another. Answers as sockhurdle_replay_to does; or 2
 // where the input could not be read, and nothing was run or written.
-#[unsafe(no_mangle)]
-pub extern "C" fn sockhurdle_run(from: i32, to: i32) -> i32
+pub fn sockhurdle_run(from: i32, to: i32) -> i32
     ensures { RunFits result }
 {
     let mut buf = [0u8; ROOM];

@@ -5,7 +5,7 @@ ghost use Rattle.wait_rules.specs.declared.Owner.TheVariants.{Nobody};
 ghost use Rattle.wait_report.specs.Report.{report_of};
 ghost use Rattle.exports.specs.Status.{reported, holder};
 
-use kinds::{SlotNo, SLOTS, Txid};
+use kinds::{SLOTS, SlotNo, Txid};
 use text::Put;
 use wait::Owner;
 
@@ -20,8 +20,7 @@ fn length_of(put: Put) -> usize
 
 // Checks what others did to a table while nobody's slot had to stay. Answers the length of the report; or 0 where it had
 // no room, and nothing was written. A report is never empty.
-#[unsafe(no_mangle)]
-pub extern "C" fn sockhurdle_wait(table: &[u8], wait: &[u8], out: &mut [u8]) -> usize
+pub fn sockhurdle_wait(table: &[u8], wait: &[u8], out: &mut [u8]) -> usize
     ensures result_value { result ≡ reported (put_at out.old 0 (report_of SLOTS table.now Nobody wait.now)) }
     ensures out_after { out.new ≡ written out.old 0 (report_of SLOTS table.now Nobody wait.now) }
 {
@@ -30,14 +29,7 @@ pub extern "C" fn sockhurdle_wait(table: &[u8], wait: &[u8], out: &mut [u8]) -> 
 }
 
 // .. while the slot of a registration had to stay.
-#[unsafe(no_mangle)]
-pub extern "C" fn sockhurdle_wait_owned(
-    table: &[u8],
-    slot: u16,
-    id: u64,
-    wait: &[u8],
-    out: &mut [u8],
-) -> usize
+pub fn sockhurdle_wait_owned(table: &[u8], slot: u16, id: u64, wait: &[u8], out: &mut [u8]) -> usize
     ensures result_value { result ≡ reported (put_at out.old 0 (report_of SLOTS table.now (holder slot id) wait.now)) }
     ensures out_after { out.new ≡ written out.old 0 (report_of SLOTS table.now (holder slot id) wait.now) }
 {

@@ -1,7 +1,7 @@
 -- What a run ends with: the line of its number, and the second engine's line after it where the header has one. Lines that are put one
 -- after the other are one text (crate output, proofs/Wrote).
 use Prim.Native.Nat.{ℕ, ◌+◌, ◌≤◌, ◌<◌, ◌^◌}
-use mathlib.Core.Path.{◌≡◌, refl, sym, ap, ◌∙◌}
+use mathlib.Core.Path.{◌≡◌, sym, ◌∙◌}
 use mathlib.Core.Bool.{Bool, true, false}
 use mathlib.Core.List.{List, ◌++◌, append-nil}
 use native.Mathlib.Nat.{zero-add}

@@ -2,8 +2,8 @@
 -- pieces are stands in specs/Sent.antt; that a part leaves fewer records is of crate replay_part (proofs/Room).
 use Prim.Native.Nat.{ℕ, zero, suc, ◌+◌, ◌≤◌, ◌<◌, ◌^◌}
 use mathlib.Core.Path.{◌≡◌, refl, sym, ap, subst, ◌∙◌}
-use mathlib.Core.Bool.{Bool, true, false}
-use mathlib.Core.List.{List, [], ◌∷◌, ◌++◌, append_assoc, append-nil}
+use mathlib.Core.Bool.{Bool}
+use mathlib.Core.List.{List, [], ◌∷◌, append_assoc, append-nil}
 use native.Mathlib.Omega.{arith}
 use lib.IntN.{ℤ}
 use lib.ListN.{length, take, drop, length-append, length-drop}
@@ -16,12 +16,11 @@ use Rattle.text.specs.Line.{line_text, joined}
 use Rattle.text.specs.Write.{spliced}
 use Rattle.text.proofs.Lines.{joined-append}
 use Rattle.trace.specs.declared.Record.{Record}
-use Rattle.trace.specs.declared.Reading.TheVariants.{Broken}
 use Rattle.grammar.specs.Texts as texts
 use Rattle.grammar.specs.Texts.{Read}
 use Rattle.trace.specs.declared.Version.{Version}
 use Rattle.trace.specs.declared.Version.TheVariants.{Proc2}
-use Rattle.trace.specs.Trace.{trace_of, reading}
+use Rattle.trace.specs.Trace.{trace_of}
 use Rattle.output.specs.Output.{need}
 use Rattle.output.proofs.Wrote.{holder_few}
 use Rattle.replay_text.specs.Replay.{text_of, broken_text, agree_line, last_text, replay_by, replay_of}

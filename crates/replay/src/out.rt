@@ -6,11 +6,10 @@ ghost use Rattle.trace.specs.Trace.{reading};
 ghost use Rattle.replay_text.specs.Replay.{broken_text};
 ghost use Rattle.replay.specs.Sent.{SentFits};
 
-use kinds::SLOTS;
-
 use crate::border::{Handed, Stopped, Went, hand_on, nothing};
 use crate::into::{Replayed, put_broken};
 use crate::last::last_lines;
+use kinds::SLOTS;
 use replay_part::run_part;
 use trace::{Reading, Version};
 

@@ -5,8 +5,14 @@
 mod again;
 
 use kinds::Refusal;
-use libc::{STDERR_FILENO, STDIN_FILENO, STDOUT_FILENO};
 use trace_writer::Wrote;
+
+// The standard descriptors.
+const STDIN_FILENO: i32 = 0;
+
+const STDOUT_FILENO: i32 = 1;
+
+const STDERR_FILENO: i32 = 2;
 
 // One byte more than a trace may have, to know that there is one.
 const ROOM: usize = trace::LONGEST + 1;

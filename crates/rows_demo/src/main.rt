@@ -3,10 +3,14 @@
 // held dots, so that bytes past the text can be looked at. The tests put rows to it, good and bad.
 #![tactic(auto)]
 
-use libc::{STDIN_FILENO, STDOUT_FILENO};
 use text::Number;
 use trace::Version;
 use trace_writer::Wrote;
+
+// The standard descriptors.
+const STDIN_FILENO: i32 = 0;
+
+const STDOUT_FILENO: i32 = 1;
 
 const INPUT: usize = 262144;
 

@@ -2,7 +2,12 @@
 // what went wrong is said in words on standard error; the command operator/replay has a status.
 #![tactic(auto)]
 
-use libc::{STDERR_FILENO, STDIN_FILENO, STDOUT_FILENO};
+// The standard descriptors.
+const STDIN_FILENO: i32 = 0;
+
+const STDOUT_FILENO: i32 = 1;
+
+const STDERR_FILENO: i32 = 2;
 
 fn main() {
     let status = exports::sockhurdle_run(STDIN_FILENO, STDOUT_FILENO);

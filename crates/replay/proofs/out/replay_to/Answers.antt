@@ -1,0 +1,21 @@
+-- Each callee's promise is the whole one; a descriptor is the same number after it was handed over (`sent_to`, in Pieces.antt).
+use mathlib.Core.Path.{sym, ◌∙◌}
+use mir.Facts.{to_z-of_z}
+use Rattle.replay.proofs.Pieces.{sent_to}
+use Rattle.replay.proofs.out.replay_to.Goals as goal
+
+pub broken_to-requires : goal.broken_to-requires
+broken_to-requires c = sym c.read_trace-reading.ensures ∙ c.in-Broken.is
+
+pub run_to-requires : goal.run_to-requires
+run_to-requires c = sym c.read_trace-reading.ensures ∙ c.in-Whole.is
+
+pub returns-in-Broken : goal.returns-in-Broken
+returns-in-Broken c =
+    let back = to_z-of_z c.ranges.to in
+    sent_to back c.broken_to.ensures
+
+pub returns-in-Whole : goal.returns-in-Whole
+returns-in-Whole c =
+    let back = to_z-of_z c.ranges.to in
+    sent_to back c.run_to.ensures
