@@ -37,6 +37,14 @@ pub fn rows(tree: &Tree) -> Vec<Row> {
     out
 }
 
+/// The names that a row gives a place upstream.
+pub fn named_upstream(tree: &Tree) -> BTreeSet<String> {
+    let place = |cell: &String| cell.strip_prefix(['L', 'I']).is_some_and(|c| c.starts_with(':'));
+    let rows: Vec<Vec<String>> = tree.text(DOCUMENT).lines().map(cells).filter(|row| row.get(1).is_some_and(place)).collect();
+    let words = rows.iter().flat_map(|row| row[0].split(|c: char| !c.is_ascii_alphanumeric() && c != '_'));
+    words.map(String::from).collect()
+}
+
 pub fn check(tree: &Tree, report: &mut Report) {
     let rows = rows(tree);
     let mut seen = BTreeSet::new();

@@ -231,24 +231,35 @@ impl<'a> Reader<'a> {
         self.code.unknown.push(format!("{}:{}: not read: {what}", self.file, self.line(self.at)));
     }
 
-    /// Past attributes; whether one exports to C.
+    /// Past attributes; whether one exports to C. What tactics a proof tries, and that a type is copied, says nothing of a function.
     fn attributes(&mut self) -> bool {
         let mut exported = false;
         while self.look(0) == "#" {
-            self.at += if self.look(1) == "!" { 2 } else { 1 };
+            let whole = self.look(1) == "!";
+            self.at += if whole { 2 } else { 1 };
             let range = self.bracketed();
-            let attribute = self.between(range);
-            exported |= attribute == "no_mangle";
-            if !["no_mangle", "repr(C)", "inline"].contains(&attribute.as_str()) {
+            let attribute = self.between(range).replace("( ", "(").replace(", )", ")");
+            exported |= attribute == "unsafe(no_mangle)";
+            let tactic = attribute == "tactic(auto)" || (attribute.starts_with("tactic(auto,") && attribute.ends_with(')'));
+            let known = ["unsafe(no_mangle)", "repr(C)", "inline", "derive(Clone, Copy)"];
+            if !tactic && !known.contains(&attribute.as_str()) {
                 self.unknown(&attribute);
+            }
+            if whole {
+                break;
             }
         }
         exported
     }
 
     fn item(&mut self, module: &[String], method: bool) {
+        let above = self.line(self.at);
+        let whole = self.look(0) == "#" && self.look(1) == "!";
         let mut exported = self.attributes();
         let start = self.at;
+        if whole {
+            return;
+        }
         let open = self.look(0) == "pub" && self.look(1) != "(";
         self.at += usize::from(self.look(0) == "pub");
         if self.at > start && !open {
@@ -261,7 +272,7 @@ impl<'a> Reader<'a> {
             self.at += if self.look(1).starts_with('"') { 2 } else { 1 };
         }
         match self.look(0) {
-            "fn" => self.function(module, open, method, exported),
+            "fn" => self.function(module, open, method, exported, above),
             "use" if start < self.at && self.tokens[self.at - 1].1 == "ghost" => {
                 self.up_to(&[";"]);
                 self.at += 1;
@@ -353,7 +364,7 @@ impl<'a> Reader<'a> {
         }
     }
 
-    fn function(&mut self, module: &[String], open: bool, method: bool, exported: bool) {
+    fn function(&mut self, module: &[String], open: bool, method: bool, exported: bool, above: usize) {
         let (krate, file, module) = (crate_of(self.file).to_string(), self.file.to_string(), module.to_vec());
         let (line, name) = (self.line(self.at), self.look(1).to_string());
         let mut f = Function { krate, module, name, open, method, exported, file, line, ..Function::default() };
@@ -370,8 +381,8 @@ impl<'a> Reader<'a> {
         if f.tokens.iter().any(|t| ["use", "fn", "mod", "macro_rules"].contains(&t.as_str())) {
             self.unknown(&format!("a use or an item inside {}", f.name));
         }
-        let above: Vec<&str> = self.raw.lines().take(line - 1).collect();
-        let comment = above.iter().rev().map(|l| l.trim_start()).filter(|l| !l.starts_with("#["));
+        let above: Vec<&str> = self.raw.lines().take(above - 1).collect();
+        let comment = above.iter().rev().map(|l| l.trim_start());
         let mut says: Vec<&str> = comment.map_while(|l| l.strip_prefix("// ")).collect();
         says.reverse();
         f.says = says.join(" ");
@@ -401,6 +412,9 @@ impl<'a> Reader<'a> {
         while ["requires", "ensures", "where"].contains(&self.look(0)) {
             let (word, from) = (self.look(0), self.line(self.at));
             self.at += 1;
+            if self.look(0) == "*" {
+                self.unknown(&format!("a starred {word} of {}", f.name));
+            }
             self.up_to(&["{", ";"]);
             if word == "where" || self.look(0) != "{" {
                 continue;

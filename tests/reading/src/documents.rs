@@ -54,6 +54,8 @@ struct Names<'a> {
     files: BTreeSet<String>,
     /// What the toolchain has: crates that crates.txt names and does not list, and Rust's own.
     foreign: BTreeSet<String>,
+    /// Names of several words that stand in code of any language here, and those that docs/CONTRACTS.md gives a place upstream.
+    others: BTreeSet<String>,
 }
 
 impl<'a> Names<'a> {
@@ -68,7 +70,16 @@ impl<'a> Names<'a> {
         let listed = |c: &String| tree.crates.iter().any(|(name, _)| name == c);
         let mut foreign: BTreeSet<String> = tree.crates.iter().flat_map(|(_, on)| on.clone()).filter(|c| !listed(c)).collect();
         foreign.extend(["std", "u64"].map(String::from));
-        Names { tree, known: declared.iter().flat_map(ways).collect(), paths, files, foreign }
+        let code = tree.files.keys().filter(|f| [".rt", ".rs", ".c", ".h"].iter().any(|e| f.ends_with(e)));
+        let mut others: BTreeSet<String> = BTreeSet::new();
+        for file in code {
+            let text = tree.text(file);
+            let words = text.split(|c: char| !c.is_ascii_alphanumeric() && c != '_').filter(|w| w.contains('_'));
+            others.extend(words.map(String::from));
+        }
+        others.extend(crate::clauses::rows(tree).iter().filter_map(|r| r.id.split('.').nth(1)).map(String::from));
+        others.extend(crate::clauses::named_upstream(tree));
+        Names { tree, known: declared.iter().flat_map(ways).collect(), paths, files, foreign, others }
     }
 
     /// From the top or from the document's folder; one with a `*` finds something.
@@ -103,9 +114,10 @@ impl<'a> Names<'a> {
         } else if [".antt", ".rt", ".edit"].iter().any(|e| word.ends_with(e)) {
             Some(self.files.contains(word))
         } else {
-            let plain = word.chars().all(|c| c.is_ascii_lowercase() || c.is_ascii_digit() || c == '-');
-            let theorem = plain && !word.starts_with('-') && word.trim_end_matches('-').contains('-');
-            theorem.then(|| self.known.contains(word) || self.files.contains(word))
+            let joins = ['-', '_'];
+            let plain = word.chars().all(|c| c.is_ascii_lowercase() || c.is_ascii_digit() || joins.contains(&c));
+            let name = plain && !word.starts_with(joins) && word.trim_end_matches(joins).contains(joins);
+            name.then(|| self.known.contains(word) || self.files.contains(word) || self.others.contains(word))
         }
     }
 }
@@ -144,6 +156,9 @@ fn anchors(text: &str) -> BTreeSet<String> {
     words.map(|w| w.chars().filter(marked).collect::<String>().replace(' ', "-")).collect()
 }
 
+/// The page that names what had another name.
+const PORT: &str = "docs/PORT.md";
+
 pub fn check(tree: &Tree, declared: &BTreeSet<(String, String)>, report: &mut Report) {
     let names = Names::new(tree, declared);
     for document in tree.documents() {
@@ -157,7 +172,8 @@ pub fn check(tree: &Tree, declared: &BTreeSet<(String, String)>, report: &mut Re
                 let there = names.paths.contains(&path) && (heading.is_empty() || anchors(&tree.text(&path)).contains(heading));
                 report.expect(there, || format!("{document}: {link} is not there"));
             }
-            for word in backquoted(line).filter_map(|s| s.split_whitespace().next()) {
+            // (the page of the port says how things were called before)
+            for word in backquoted(line).filter_map(|s| s.split_whitespace().next()).filter(|_| document != PORT) {
                 if let Some(there) = names.look(folder, word).filter(|_| seen.insert(word.to_string())) {
                     report.expect(there, || format!("{document}: {word} is not there"));
                 }
@@ -315,7 +331,7 @@ pub fn theorems<'a>(logic: &'a Logic, text: &str) -> Vec<&'a crate::logic::Decla
     let words: BTreeSet<&str> = written_lines(text).into_iter().flat_map(backquoted).collect();
     let named = |d: &&crate::logic::Declaration| match by_file.get(&d.name) {
         Some(files) => files.contains(&d.file),
-        None => d.name.contains('-') && words.contains(d.name.as_str()),
+        None => d.name.contains(['-', '_']) && words.contains(d.name.as_str()),
     };
     logic.theorems().filter(named).collect()
 }

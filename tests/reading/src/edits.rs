@@ -6,6 +6,7 @@ use crate::promises::excepted;
 use crate::text::{bare, squeezed, words};
 use crate::tree::{Report, Tree, crate_of};
 use std::collections::{BTreeMap, BTreeSet};
+use std::path::Path;
 use std::time::SystemTime;
 
 #[derive(Debug, Default)]
@@ -231,65 +232,64 @@ pub fn check(tree: &Tree, code: &Code, edits: &[Edit], wrong: &[String], report:
     report.none("an exception for no public function", &named.difference(&ids).cloned().collect::<Vec<_>>());
 }
 
-/// What a check says where a fact does not hold. Nothing else counts.
-const FACTS: [&str; 11] = [
+/// What a check says where a fact does not hold. Nothing else counts. `rt ci` prints the first line of it, cut short.
+const FACTS: [&str; 14] = [
     "it is not proved that ",
     "the two types ",
     "the two values ",
+    "computed as a goal is, one side reads `",
     "expected type `",
     "`cc` met a bound of its own before the equations had joined `",
+    "list the missing equation with its arguments, or rewrite by `rw` or `simp`",
     "`omega`: the goal does not follow",
     "` of the goal does not follow from what it read",
     "`search`: no proof of `",
     "`rw`: no occurrence of the path's ",
     "`rw`: no part of the goal ",
     "`rw` has no last argument, so what it leaves must be a path whose two ends are equal",
+    "give a proof of that as the last argument, `rw L t`",
 ];
 
 /// Whether an error says that a value of one type was expected, and one of another came: no fact is at stake.
 fn of_values(error: &str) -> bool {
-    let expected = error.split_once("expected type `").and_then(|(_, rest)| rest.split_once('`')).map(|(t, _)| words(t));
+    let expected = error.split_once("expected type `").map(|(_, rest)| words(rest.split('`').next().unwrap_or(rest)));
     let data = ["ℕ", "Bool", "List", "Option", "String", "Char", "Prim", "mathlib"];
     let relates =
         |w: &String| ["≡", "≢", "≤", "<", "↔", "⊥", "→", "×"].iter().any(|r| w.contains(r)) || w.ends_with("Path") || w.ends_with("So");
     expected.is_some_and(|said| said.first().is_some_and(|w| data.contains(&w.as_str())) && !said.iter().any(relates))
 }
 
-/// Why an edit was refused, from the log of its check: the first error that is not a mere consequence of another. An
-/// error says that it is none that counts.
-pub fn reason(log: &str) -> Result<String, String> {
-    if log.lines().last() != Some("logic=not-proved") {
-        return Err("its log does not end in a refusal".into());
+/// Why an edit was refused, from what `rt ci` says of it after its name: the first error of its check that is not a mere
+/// consequence of another. An error says that it is none that counts.
+pub fn reason(said: &str) -> Result<String, String> {
+    // one that was refused for a name that it took away, or by a limit of the prover, says so in brackets before the colon
+    let error = said.strip_prefix("refused, as it must be: ").ok_or(said)?;
+    let place = error.trim_start_matches("note: ").trim_start_matches("./");
+    if error.contains(": error[") || (place.starts_with("specs/") && place.contains(".antt:")) {
+        return Err(format!("the compiler's, or in the definitions: {error}"));
     }
-    let mut errors: Vec<String> = Vec::new();
-    let mut goes_on = false;
-    for line in log.lines() {
-        let begins = line.contains(": error") || (line.starts_with("note: ") && line.contains(": it is not proved that "));
-        if begins {
-            errors.push(line.to_string());
-        } else if goes_on && line.starts_with("  ") {
-            errors.last_mut().into_iter().for_each(|e| *e += line);
-        }
-        goes_on = begins || (goes_on && line.starts_with("  "));
-    }
-    if let Some(bad) = errors.iter().find(|e| e.contains(": error[") || (e.contains("/specs/") && e.contains(".antt:"))) {
-        return Err(format!("the compiler's, or in the definitions: {bad}"));
-    }
-    let first = errors.into_iter().find(|e| !e.contains("was not admitted (") || !e.contains("so this cannot be checked"));
-    match first {
-        Some(e) if FACTS.iter().any(|f| e.contains(f)) && !of_values(&e) => Ok(e),
-        Some(e) => Err(e),
-        None => Err("its log has no error".into()),
-    }
+    let consequence = error.contains("was not admitted (");
+    if !consequence && FACTS.iter().any(|f| error.contains(f)) && !of_values(error) { Ok(error.into()) } else { Err(error.into()) }
 }
 
-/// Each edit was tried on this tree, and refused because a fact no longer holds.
-pub fn check_refused(tree: &Tree, edits: &[Edit], report: &mut Report) {
+/// What a log of `rt ci` or `rt must-fail` says last of each edit, by crate and name.
+pub fn told(log: &str) -> BTreeMap<(String, String), String> {
+    let line = |l: &str| {
+        let (name, said) = l.strip_prefix("rt: must-fail ")?.split_once(".edit: ")?;
+        let (krate, name) = name.split_once('/')?;
+        Some(((krate.to_string(), name.to_string()), said.to_string()))
+    };
+    log.lines().filter_map(line).collect()
+}
+
+/// Each edit was tried on this tree, and refused because a fact no longer holds. The log's own time is when it was begun.
+pub fn check_refused(tree: &Tree, edits: &[Edit], log: &Path, report: &mut Report) -> std::io::Result<()> {
+    let of_log = |e: std::io::Error| std::io::Error::new(e.kind(), format!("{}: {e}", log.display()));
+    let said = told(&String::from_utf8_lossy(&std::fs::read(log).map_err(of_log)?));
+    let after = std::fs::metadata(log).and_then(|m| m.modified()).map_err(of_log)?;
     let changed = |path: &str| std::fs::metadata(tree.root.join(path)).and_then(|m| m.modified()).unwrap_or(SystemTime::now());
     for e in edits {
-        let place = format!("must-fail/{}/{}/.log", e.krate, e.name);
-        let said = tree.made(&place).ok_or("no log, it was not tried".to_string()).and_then(|log| reason(&log));
-        let after = changed(&format!("target/{place}"));
+        let said = said.get(&(e.krate.clone(), e.name.clone())).ok_or("it was not tried".to_string()).and_then(|s| reason(s));
         let late = ["src", "specs", "proofs"].iter().flat_map(|f| tree.under(&format!("crates/{}/{f}", e.krate), ""));
         let late = late.chain([e.path.clone()]).find(|f| changed(f) > after);
         report.expect(said.is_ok() && late.is_none(), || {
@@ -297,4 +297,5 @@ pub fn check_refused(tree: &Tree, edits: &[Edit], report: &mut Report) {
             format!("{}: {}", e.path, why.chars().take(300).collect::<String>())
         });
     }
+    Ok(())
 }

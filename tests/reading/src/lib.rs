@@ -122,6 +122,6 @@ impl Reading {
             let same = marks.len() == mine.len() && marks.iter().all(|m| mine.contains(m));
             report.expect(same, || format!("{document} marks the parts {}, and {} are written", marks.join(", "), mine.join(", ")));
         }
-        report.none("no report of their check in target/log (rt check)", &without);
+        report.none("no report of their check in target/log (tools/build report)", &without);
     }
 }

@@ -28,7 +28,7 @@ impl Declaration {
     }
 }
 
-const BEFORE_A_NAME: [&str; 7] = ["pub", "unfoldable", "abbrev", "record", "data", "module", "axiom"];
+const BEFORE_A_NAME: [&str; 9] = ["pub", "unfoldable", "abbrev", "opaque", "mutual", "record", "data", "module", "axiom"];
 
 /// Whether a word opens a block of declarations.
 fn opens(word: &str) -> bool {
@@ -89,9 +89,9 @@ impl Logic {
         Logic { declarations: files.iter().flat_map(|f| declarations(f, tree.bare(f))).collect() }
     }
 
-    /// The public theorems named `..-unique`.
+    /// The public theorems named `.._unique`.
     pub fn unique(&self) -> impl Iterator<Item = &Declaration> {
-        self.theorems().filter(|d| d.name.ends_with("-unique"))
+        self.theorems().filter(|d| d.name.ends_with("_unique") || d.name.ends_with("-unique"))
     }
 
     pub fn theorems(&self) -> impl Iterator<Item = &Declaration> {
@@ -141,18 +141,22 @@ pub fn unwrapped(mut said: &[String]) -> &[String] {
     said
 }
 
+/// What is read off a reference: what it refers to, and where that stands.
+const NOW: &str = ".now";
+const PLACE: &str = ".ref_ptr";
+
 /// The places at which two lists of arguments are said to be equal: as two values, or as two references, of which it is said
 /// what they refer to and where that stands.
 fn told(first: &[Vec<String>], second: &[Vec<String>], conclusion: &[String]) -> Result<BTreeSet<usize>, String> {
     let (mut equal, mut seen) = (BTreeSet::new(), Vec::new());
     for equation in cut(conclusion, "×") {
         let sides: Vec<Vec<String>> = cut(unwrapped(equation), "≡").iter().map(|s| unwrapped(s).to_vec()).collect();
-        let of = |word: &str, side: &[String]| if word.is_empty() { side.to_vec() } else { [&[word.to_string()], side].concat() };
+        let of = |word: &str, side: &[String]| if word.is_empty() { side.to_vec() } else { [side, &[word.to_string()]].concat() };
         let says = |word: &str, i: usize| sides == [of(word, &first[i]), of(word, &second[i])] && first[i] != second[i];
-        let found = (1..first.len()).find_map(|i| ["", "now", "ptr"].into_iter().find(|w| says(w, i)).map(|w| (i - 1, w)));
+        let found = (1..first.len()).find_map(|i| ["", NOW, PLACE].into_iter().find(|w| says(w, i)).map(|w| (i - 1, w)));
         let Some((place, word)) = found else { return Err(format!("it ends in {}", equation.join(" "))) };
         seen.push((place, word));
-        if word.is_empty() || (seen.contains(&(place, "now")) && seen.contains(&(place, "ptr"))) {
+        if word.is_empty() || (seen.contains(&(place, NOW)) && seen.contains(&(place, PLACE))) {
             equal.insert(place);
         }
     }

@@ -1,4 +1,4 @@
-//! Usage: reading ROOT [write | mend | refused | pin]. Last line but of `pin`: 'N passed, M failed'.
+//! Usage: reading ROOT [write | mend | pin], or reading ROOT refused LOG. Last line but of `pin`: 'N passed, M failed'.
 
 use reading::Reading;
 use reading::tree::{Report, Tree};
@@ -6,7 +6,7 @@ use std::path::Path;
 use std::process::ExitCode;
 
 /// Reads the tree, does what the command says, and gives the reports of its checks by theme.
-fn run(root: &str, command: &str) -> std::io::Result<Vec<(&'static str, Report)>> {
+fn run(root: &str, command: &str, log: &str) -> std::io::Result<Vec<(&'static str, Report)>> {
     let mut reading = Reading::of(Tree::read(Path::new(root))?);
     if command == "mend" {
         reading.mend()?.iter().for_each(|moved| println!("{moved}"));
@@ -21,7 +21,7 @@ fn run(root: &str, command: &str) -> std::io::Result<Vec<(&'static str, Report)>
         }
         "refused" => {
             let mut report = Report::default();
-            reading::edits::check_refused(&reading.tree, &reading.edits, &mut report);
+            reading::edits::check_refused(&reading.tree, &reading.edits, Path::new(log), &mut report)?;
             vec![("why each edit was refused", report)]
         }
         _ => reading.check(),
@@ -31,15 +31,16 @@ fn run(root: &str, command: &str) -> std::io::Result<Vec<(&'static str, Report)>
 fn main() -> ExitCode {
     let words: Vec<String> = std::env::args().skip(1).collect();
     let words: Vec<&str> = words.iter().map(String::as_str).collect();
-    let (root, command) = match words[..] {
-        [root] => (root, ""),
-        [root, command @ ("write" | "mend" | "refused" | "pin")] => (root, command),
+    let (root, command, log) = match words[..] {
+        [root] => (root, "", ""),
+        [root, command @ ("write" | "mend" | "pin")] => (root, command, ""),
+        [root, "refused", log] => (root, "refused", log),
         _ => {
-            eprintln!("usage: reading ROOT [write | mend | refused | pin]");
+            eprintln!("usage: reading ROOT [write | mend | pin], or reading ROOT refused LOG");
             return ExitCode::from(2);
         }
     };
-    let reports = match run(root, command) {
+    let reports = match run(root, command, log) {
         Ok(reports) => reports,
         Err(e) => {
             eprintln!("reading: {root}: {e}");

@@ -32,49 +32,46 @@ impl Clause {
     }
 }
 
-/// The name of a parameter at its exit: `now (p .exit)` or `p .exit`.
+/// What a clause calls the value that the function returns, and what it reads off a lent parameter once that has returned.
+const RESULT: &str = "result";
+const LEFT: &str = ".new";
+
+/// The name of a parameter whose value at the end this is: `p.new`.
 fn exit(said: &[String]) -> Option<&str> {
     let said = unwrapped(said);
-    let said = if said.first().is_some_and(|w| w == "now") { unwrapped(&said[1..]) } else { said };
-    (said.len() == 2 && said[1] == ".exit").then(|| said[0].as_str())
+    (said.len() == 2 && said[1] == LEFT).then(|| said[0].as_str())
 }
 
-/// Reads an `ensures`: `λ r. ⌜ .. ⌝`, or `λ r. do ⌜ .. ⌝` with lines `n ← ⟦SLOTS⟧ .entry` before the fact.
-pub fn clause(text: &str) -> (String, Clause) {
-    let mut said = words(text);
-    if said.get(3).is_some_and(|w| w == "do") {
-        said.remove(3);
-        let is_line = |w: &[String]| w.len() > 4 && w[1] == "←" && w[2].starts_with('⟦') && w[3] == ".entry";
-        while said.len() > 8 && said[3] != said[1] && is_line(&said[3..]) {
-            said.drain(3..if said[7] == ";" { 8 } else { 7 });
-        }
+/// Reads an `ensures`: one fact of the parameters, of `result`, and of what is left in lent ones.
+pub fn clause(text: &str) -> Clause {
+    let said = words(text);
+    // what a separate part of memory holds, a name for a part, or a clause that binds its result otherwise is not read
+    let other = ["⌜", "⌝", "∗", "λ", "do", "let", "←", "in"];
+    if said.is_empty() || said.iter().any(|w| other.contains(&w.as_str())) {
+        return Clause::Other("not one plain fact".into());
     }
-    let marks = said.iter().filter(|w| ["⌜", "⌝"].contains(&w.as_str())).count();
-    let whole = said.len() > 5 && said[0] == "λ" && said[2] == "." && said[3] == "⌜" && said[said.len() - 1] == "⌝";
-    if !whole || marks != 2 {
-        return (String::new(), Clause::Other("not of the form λ r. ⌜ .. ⌝".into()));
-    }
-    let result = said[1].clone();
-    let fact = unwrapped(&said[4..said.len() - 1]);
+    let fact = unwrapped(&said);
     let mentions = |part: &[String], word: &str| part.iter().any(|w| w == word);
-    let clause = if mentions(fact, "→") {
-        Clause::Other("a promise under a condition".into())
-    } else if let [left, right] = &cut(fact, "≡")[..] {
+    if mentions(fact, "→") {
+        return Clause::Other("a promise under a condition".into());
+    }
+    if ["×", "⊎", "∧", "∨"].iter().any(|w| cut(fact, w).len() > 1) {
+        return Clause::Other("more than one fact".into());
+    }
+    if let [left, right] = &cut(fact, "≡")[..] {
         let head = right.iter().find(|w| *w != "(").cloned().unwrap_or_default();
-        match exit(left) {
-            Some(_) if mentions(right, ".exit") => Clause::Other("its right side mentions what is left".into()),
+        return match exit(left) {
+            Some(_) if mentions(right, LEFT) => Clause::Other("its right side mentions what is left".into()),
             Some(p) => Clause::Left(p.to_string(), head),
-            None if *left != [result.clone()] => Clause::Other("an equation of something else than the result".into()),
-            None if mentions(right, &result) => Clause::Other("its right side mentions the result".into()),
-            None if mentions(right, ".exit") => Clause::Other("its right side mentions what is left".into()),
+            None if *left != [RESULT] => Clause::Other("an equation of something else than the result".into()),
+            None if mentions(right, RESULT) => Clause::Other("its right side mentions the result".into()),
+            None if mentions(right, LEFT) => Clause::Other("its right side mentions what is left".into()),
             None => Clause::Result(head),
-        }
-    } else {
-        let mut parts = atoms(fact);
-        let name = if parts.is_empty() { String::new() } else { parts.remove(0).concat() };
-        Clause::Predicate(name, parts)
-    };
-    (result, clause)
+        };
+    }
+    let mut parts = atoms(fact);
+    let name = if parts.is_empty() { String::new() } else { parts.remove(0).concat() };
+    Clause::Predicate(name, parts)
 }
 
 /// How a public function's promise is unique: by equations alone, or by this theorem about this predicate.
@@ -93,9 +90,9 @@ fn written<'a>(code: &Code, f: &'a Function) -> Vec<&'a str> {
 /// The crate and the module of definitions from which a file takes a name.
 fn origin(tree: &Tree, file: &str, name: &str) -> Option<(String, String)> {
     tree.bare(file).lines().find_map(|l| {
-        let line = l.trim_end().trim_end_matches(';').trim_start_matches("ghost ").strip_prefix("use Rattle·")?;
+        let line = l.trim_end().trim_end_matches(';').trim_start_matches("ghost ").strip_prefix("use Rattle.")?;
         let (path, list) = line.strip_suffix('}')?.split_once(".{")?;
-        let (of, module) = (path.split(['·', '.']).next()?, path.rsplit('.').next()?);
+        let (of, module) = (path.split('.').next()?, path.rsplit('.').next()?);
         list.split(',').any(|n| n.trim() == name).then(|| (of.to_string(), module.to_string()))
     })
 }
@@ -115,25 +112,24 @@ fn theorem<'a>(tree: &Tree, logic: &'a Logic, file: &str, name: &str) -> Result<
 }
 
 pub fn judge<'a>(tree: &Tree, code: &Code, logic: &'a Logic, f: &Function) -> Result<Judged<'a>, String> {
-    const RESULT: &str = "its result";
+    const ITS: &str = "its result";
     let mut missing: BTreeSet<&str> = written(code, f).into_iter().collect();
-    missing.extend([RESULT].iter().filter(|_| !["", "()"].contains(&f.result.as_str())));
+    missing.extend([ITS].iter().filter(|_| !["", "()"].contains(&f.result.as_str())));
     let mut by = Judged::Equations;
     for text in &f.ensures {
-        let (result, said) = clause(text);
-        match said {
-            Clause::Result(_) => drop(missing.remove(RESULT)),
-            Clause::Left(p, _) if missing.contains(RESULT) && words(text).iter().skip(2).any(|w| *w == result) => {
+        match clause(text) {
+            Clause::Result(_) => drop(missing.remove(ITS)),
+            Clause::Left(p, _) if missing.contains(ITS) && words(text).iter().any(|w| *w == RESULT) => {
                 return Err(format!("what is left in {p} is said by the result, which is not said before"));
             }
             Clause::Left(p, _) => drop(missing.remove(p.as_str())),
             Clause::Predicate(predicate, arguments) => {
                 let (theorem, equal) = theorem(tree, logic, &f.file, &predicate)?;
                 for (place, argument) in arguments.iter().enumerate() {
-                    let what = if *argument == [result.clone()] { Some(RESULT) } else { exit(argument) };
+                    let what = if *argument == [RESULT] { Some(ITS) } else { exit(argument) };
                     match what.filter(|_| equal.contains(&place)) {
                         Some(what) => drop(missing.remove(what)),
-                        None if !argument.iter().any(|w| *w == result || w == ".exit") => {}
+                        None if !argument.iter().any(|w| *w == RESULT || w == LEFT) => {}
                         None => return Err(format!("{} does not tell {}", theorem.name, argument.join(" "))),
                     }
                 }

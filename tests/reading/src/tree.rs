@@ -7,11 +7,11 @@ use std::path::{Path, PathBuf};
 #[derive(Default)]
 pub struct Tree {
     pub root: PathBuf,
-    /// Every file but those of `target` and `.git`, by its path from the top.
+    /// Every file but those of `target`, `.git` and what checks keep in `crates/*/out`, by its path from the top.
     pub files: BTreeMap<String, Vec<u8>>,
     /// Code, definitions and proofs without their comments.
     bare: BTreeMap<String, String>,
-    /// The crates in the order of crates.txt, and what each stands on.
+    /// The crates in the order of crates.txt, and what each stands on. `NAME staticlib:` lists a static library.
     pub crates: Vec<(String, Vec<String>)>,
 }
 
@@ -23,7 +23,8 @@ impl Tree {
             for entry in std::fs::read_dir(folder)? {
                 let path = entry?.path();
                 let name = path.strip_prefix(root).unwrap_or(&path).to_string_lossy().into_owned();
-                if name == "target" || name == ".git" {
+                let kept = name.starts_with("crates/") && name.ends_with("/out") && name.matches('/').count() == 2;
+                if name == "target" || name == ".git" || kept {
                 } else if path.is_dir() {
                     folders.push(path);
                 } else {
@@ -41,7 +42,8 @@ impl Tree {
         }
         let list = tree.text("crates.txt");
         let crates = list.lines().filter(|l| !l.starts_with('#')).filter_map(|l| l.split_once(':'));
-        tree.crates = crates.map(|(c, on)| (c.into(), on.split_whitespace().map(String::from).collect())).collect();
+        let name = |c: &str| c.trim_end().strip_suffix(" staticlib").unwrap_or(c).trim().to_string();
+        tree.crates = crates.map(|(c, on)| (name(c), on.split_whitespace().map(String::from).collect())).collect();
         tree
     }
 

@@ -21,12 +21,12 @@ pub struct Trust<'a> {
 type Step = (String, String, String);
 
 impl Trust<'_> {
-    /// Lines that are neither blank nor only a comment; of definitions also no import, of code no contract.
+    /// Lines that are neither blank nor only a comment; of definitions also no import, of code no contract and no word to its proof.
     fn lines(&self, file: &str) -> usize {
         let text = self.tree.bare(file);
         let skipped: &[&str] = match () {
             _ if file.contains("/specs/") => &["use ", "mod ", "pub mod "],
-            _ if file.ends_with(".rt") => &["ghost use "],
+            _ if file.ends_with(".rt") => &["ghost use ", "#![tactic(", "#[tactic("],
             _ => &[],
         };
         let clauses: Vec<usize> = self.code.functions.iter().filter(|f| f.file == file).flat_map(|f| f.clauses.clone()).collect();
@@ -96,16 +96,17 @@ impl Trust<'_> {
     pub fn programs(&self, said: &str, without: &mut Vec<String>) -> String {
         let mut out = "| program | axioms | how many | foreign functions of its own |\n|---|---|---|---|\n".to_string();
         for krate in self.programs_of() {
-            let log = [".say", ".out"].map(|e| self.tree.made(&format!("log/{krate}{e}")).unwrap_or_default()).concat();
+            let log = self.tree.made(&format!("log/{krate}")).unwrap_or_default();
             let Some(proved) = log.lines().find(|l| l.starts_with("logic=proved")) else {
                 out += &said.lines().filter(|l| l.starts_with(&format!("| {krate} |"))).map(|l| format!("{l}\n")).collect::<String>();
                 without.push(krate);
                 continue;
             };
-            let named = log.lines().filter(|l| l.starts_with("axioms ")).filter_map(|l| l.split_once(": "));
-            let named: BTreeSet<&str> = named.map(|(_, a)| a.split(" (").next().unwrap_or(a)).collect();
-            let quoted = named.iter().map(|a| a.split(", ").map(|n| format!("`{n}`")).collect::<Vec<_>>().join(", "));
-            let axioms = if named.is_empty() { "none".to_string() } else { quoted.collect::<Vec<_>>().join(";") };
+            // below `axioms CRATE: ..` each function that the crate declares has a line, which says so where the check rests on it
+            let named = log.lines().filter_map(|l| l.strip_prefix("  ")?.strip_suffix(" reached"));
+            let named: BTreeSet<&str> = named.map(str::trim).collect();
+            let quoted: Vec<String> = named.iter().map(|n| format!("`{n}`")).collect();
+            let axioms = if named.is_empty() { "none".to_string() } else { quoted.join(", ") };
             let value = |key: &str| proved.split(' ').find_map(|w| w.strip_prefix(key));
             let (count, foreign) = (value("axioms=").unwrap_or("0"), value("foreign=").unwrap_or("none"));
             out += &format!("| {krate} | {axioms} | {count} | {foreign} |\n");
@@ -124,7 +125,7 @@ impl Trust<'_> {
 
     fn promises(&self) -> String {
         let row = |f: &Function| {
-            let said: Vec<String> = f.ensures.iter().map(|e| format!("`{}`", clause(e).1.said())).collect();
+            let said: Vec<String> = f.ensures.iter().map(|e| format!("`{}`", clause(e).said())).collect();
             let said = if said.is_empty() { "safety and an end, no more".to_string() } else { said.join(", ") };
             let says = f.says.replace('|', "\\|");
             format!("| {} | [{}](../{}) | {said} | {says} |\n", f.krate, f.name, f.file)
@@ -176,7 +177,8 @@ impl Trust<'_> {
                 let line = line.trim_end().trim_end_matches(';');
                 let line = line.strip_prefix("ghost use ").or(line.strip_prefix("use ").filter(|_| file.ends_with(".antt")));
                 let Some((module, list)) = line.and_then(|l| l.strip_suffix('}')?.split_once(".{")) else { continue };
-                if module.is_ascii() {
+                let of = module.strip_prefix("Rattle.").and_then(|m| m.split('.').next());
+                if !of.is_some_and(|c| self.tree.crates.iter().any(|(name, _)| name == c)) {
                     taken.entry(module.into()).or_default().extend(list.split(',').map(|w| w.trim().replace('|', "\\|")));
                 }
             }
@@ -288,8 +290,13 @@ impl Trust<'_> {
         self.having(&["lem", "ac", "axiom"], assumes)
     }
 
+    /// In the logic, and in what code says in it; elsewhere in code a `?` hands an error on.
     fn holes(&self) -> Vec<String> {
-        self.having(&["?", "{!"], |l| l.contains("{!") || words(l).iter().any(|w| w.starts_with('?')))
+        let hole = |l: &str| l.contains("{!") || words(l).iter().any(|w| w.starts_with('?'));
+        let mut found: Vec<String> = self.having(&["?", "{!"], hole).into_iter().filter(|p| p.contains(".antt ")).collect();
+        let clauses = |f: &Function| f.requires.iter().chain(&f.ensures).any(|c| hole(c));
+        found.extend(self.code.functions.iter().filter(|f| clauses(f)).map(|f| format!("{} {}", f.file, f.line)));
+        found
     }
 
     fn foreign(&self) -> Vec<String> {

@@ -1,7 +1,7 @@
 use crate::{crate_a, fails, failures, read};
 use reading::Reading;
 
-const ASKS: &str = "pub fn f(x: u64) -> u64\n    requires { ⌜ x < 2 ⌝ }\n{\n    x\n}\n";
+const ASKS: &str = "pub fn f(x: u64) -> u64\n    requires { x < 2 }\n{\n    x\n}\n";
 
 fn public(reading: &Reading) -> Vec<String> {
     reading.code.public().map(|f| f.path()).collect()
@@ -47,7 +47,7 @@ fn what_nobody_outside_can_reach_is_inner() {
 #[test]
 fn methods_and_exported_functions_are_public() {
     let lib = "pub struct S(pub u64);\nimpl S {\n    pub fn f(self) -> u64 {\n        1\n    }\n    fn g() {\n    }\n}\n\
-               #[no_mangle]\nextern \"C\" fn h() {\n}\nimpl Clone for S {\n    fn clone(&self) -> S {\n        1\n    }\n}\n";
+               #[unsafe(no_mangle)]\nextern \"C\" fn h() {\n}\nimpl Clone for S {\n    fn clone(&self) -> S {\n        1\n    }\n}\n";
     assert_eq!(public(&crate_a(lib, &[])), ["a::f", "a::h", "a::clone"]);
 }
 
@@ -73,7 +73,8 @@ fn what_can_not_be_read_fails() {
         "#[trusted]\npub fn f() {\n}\n",
         "const A: &[u8] = br\"\\\";\npub fn f() {\n}\n// \"\n",
         "pub fn f() {\n    use m::g;\n}\n",
-        "pub fn f() -> u64\n    ensures { λ r. {- ⌜ r ≡ g ⌝ -} ⌜ h ⌝ }\n{\n    1\n}\n",
+        "pub fn f() -> u64\n    ensures { {- result ≡ g -} h }\n{\n    1\n}\n",
+        "pub fn f() -> u64\n    ensures* { result ≡ g }\n{\n    1\n}\n",
         "extern \"C\" {\n    fn f();\n}\n",
     ] {
         assert!(fails(&crate_a(lib, &[]), "promises and exceptions", "the reading"), "{lib}");
@@ -111,12 +112,13 @@ fn what_a_program_runs_is_followed_through_every_use() {
 #[test]
 fn a_contract_of_several_lines_is_read_whole() {
     let lib = concat!(
-        "// Why.\n#[inline]\npub fn f<'a>(\n    x: &'a [u8],\n    mut y: [u64; 3],\n) -> [u64; 3]\n    ensures {\n",
-        "        λ r.\n        ⌜ r ≡ g (now (x .entry)) y ⌝\n    }\n{\n    y\n}\n",
+        "#![tactic(auto)]\n\n// Why.\n#[inline]\n#[tactic(\n    auto,\n    using(crate::proofs::P),\n)]\n",
+        "pub fn f<'a>(\n    x: &'a [u8],\n    mut y: [u64; 3],\n) -> [u64; 3]\n    ensures value {\n",
+        "        result\n            ≡ g x.now y'\n    }\n{\n    y\n}\n",
     );
     let reading = crate_a(lib, &[]);
     let f = &reading.code.functions[0];
-    assert_eq!(f.contract(), "fn f(x: &'a [u8], y: [u64; 3]) -> [u64; 3] ensures { λ r. ⌜ r ≡ g (now (x .entry)) y ⌝ }");
-    assert_eq!((f.line, f.body, f.last, f.says.as_str()), (3, 11, 13, "Why."));
+    assert_eq!(f.contract(), "fn f(x: &'a [u8], y: [u64; 3]) -> [u64; 3] ensures { result ≡ g x.now y' }");
+    assert_eq!((f.line, f.body, f.last, f.says.as_str()), (9, 17, 19, "Why."));
     assert_eq!(failures(&reading, "promises and exceptions"), Vec::<String>::new());
 }

@@ -24,6 +24,23 @@ fn names_files_and_links_are_there() {
 }
 
 #[test]
+fn a_name_of_several_words_is_declared_or_stands_in_code() {
+    let files = [
+        ("crates/a/proofs/P.antt", "-- P.\npub so_it-is : So\n"),
+        ("host/src/it.rs", "fn on_abort() {}\n"),
+        ("docs/CONTRACTS.md", "| `live_owner`, 2 atoms | I:9 | none | D1 |\n| L.take_it.E1 | L:9 | it is so | `a::f` | **same** |\n"),
+    ];
+    let said = |page: &str, text: &str| failures(&crate_a("pub fn f() {\n}\n", &[&files[..], &[(page, text)]].concat()), "documents");
+    for good in ["`so_it-is`", "`on_abort(f)`", "`live_owner`", "`take_it`", "`f`"] {
+        assert_eq!(said("docs/D.md", good), Vec::<String>::new(), "{good}");
+    }
+    for bad in ["`so_it_is`", "`on_aborts`", "`dead_owner`", "`take_them x`"] {
+        assert_eq!(said("docs/D.md", bad).len(), 1, "{bad}");
+        assert_eq!(said("docs/PORT.md", bad), Vec::<String>::new(), "{bad}: what it was called before");
+    }
+}
+
+#[test]
 fn a_link_into_a_page_finds_its_heading() {
     let text = |link: &str| page(&format!("# The rules, `all` of them\n\n## 1.2 Ids\n\n```\n# No heading\n```\n\n[x]({link})\n"));
     for good in ["#the-rules-all-of-them", "#12-ids", "D.md#12-ids", "D.md"] {

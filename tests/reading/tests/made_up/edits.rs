@@ -1,9 +1,9 @@
 use crate::{crate_a, fails, failures};
-use reading::edits::reason;
+use reading::edits::{reason, told};
 
 const LIB: &str = concat!(
     "pub const N: u64 = 7;\n\nfn help(x: u64) -> u64 {\n    x + N\n}\n\n// old words\npub fn f(x: u64) -> u64\n",
-    "    ensures { λ r. ⌜ r ≡ g x ⌝ }\n{\n    help(x)\n}\n\npub fn k(x: u64) -> u64\n    ensures { λ r. ⌜ r ≡ x ⌝ }\n",
+    "    ensures { result ≡ g x }\n{\n    help(x)\n}\n\npub fn k(x: u64) -> u64\n    ensures { result ≡ x }\n",
     "{\n    x\n}\n",
 );
 const SPECS: &str = "-- Words.\nuse lib.{x}\n\nunfoldable pub g : ℕ → ℕ\ng x = x + 7\n";
@@ -24,7 +24,7 @@ fn with(edit: &str) -> Vec<String> {
 fn an_edit_changes_code_contract_or_definition() {
     let none = Vec::<String>::new();
     assert_eq!(with("# why\nfile: src/lib.rt\nold:     x + N\nnew:     x + 1\n"), none);
-    assert_eq!(with("file: src/lib.rt\nold:     ensures { λ r. ⌜ r ≡ g x ⌝ }\nnew:     ensures { λ r. ⌜ r ≡ g 0 ⌝ }\n"), none);
+    assert_eq!(with("file: src/lib.rt\nold:     ensures { result ≡ g x }\nnew:     ensures { result ≡ g 0 }\n"), none);
     assert_eq!(with("file: specs/S.antt\nold: g x = x + 7\nnew: g x = x + 8\n"), none);
 }
 
@@ -79,32 +79,33 @@ fn an_edit_counts_for_a_function_that_uses_it() {
     assert!(with(wrong)[0].contains("which does not use `help`"));
 }
 
-const PLACE: &str = "/t/must-fail/a/e/proofs/f/Proof.antt:9:13: error: `returns`: ";
+const PLACE: &str = "./proofs/f/Answers.antt:9:13: error: `returns`: ";
 
-fn log(error: &str) -> String {
-    format!("fn a::g: proved\n{PLACE}{error}\nfn a::f: not proved\nlogic=not-proved\n")
+/// What `rt ci` says of an edit whose check says this first.
+fn refused(error: &str) -> String {
+    format!("refused, as it must be: {error}")
 }
 
 #[test]
 fn a_fact_that_fails_counts() {
     for error in [
-        "`omega`: the goal does not follow from what it read.",
+        "`omega`: the goal does not follow from what it read. All of that holds, and the goal fails, at `x`",
         "`omega`: the part `.0` of the goal does not follow from what it read.",
         "as printed, the two types first differ where one has `1` (expected)",
-        "expected type `x < t .line`, but this has type `x ≤ lineAfter n cs`",
-        "computed as far as they go, the two types are `Path (List ℕ) a b` (expected) and\n  expected type `List.f a ≡ b`, but",
-        "`search`: no proof of `x ≡ y`\n  was found.",
-        "give a proof of that\n  `rw` has no last argument, so what it leaves must be a path whose two ends are equal, and",
+        "expected type `x < t.line`, but this has type `x ≤ line_after n cs`",
+        "expected type `mathlib.Core.Bool.true ≡ differ xs`, but this has",
+        "expected type `ℕ → So (x <",
+        "computed as far as they go, the two types are `Path (List ℕ) a b` (expected) and",
+        "`search`: no proof of `x ≡ y`",
+        "computed as a goal is, one side reads `Scanned (take n xs) 0` and the other",
+        "give a proof of that as the last argument, `rw L t` (`rw L ?` shows it as a hole's goal), or add what is missing",
+        "list the missing equation with its arguments, or rewrite by `rw` or `simp`",
         "`rw`: no occurrence of the path's left endpoint in the goal",
     ] {
-        assert!(reason(&log(error)).is_ok(), "{error}");
+        assert!(reason(&refused(&format!("{PLACE}{error}"))).is_ok(), "{error}");
     }
-    assert!(
-        reason(
-            "note: /t/src/lib.rt:9:1: it is not proved that what the function ensures holds when it returns (`returns`)\nlogic=not-proved\n"
-        )
-        .is_ok()
-    );
+    let ensures = "it is not proved that what the function ensures holds when it returns (`returns`)";
+    assert!(reason(&refused(&format!("note: src/lib.rt:9:1: {ensures}"))).is_ok());
 }
 
 #[test]
@@ -112,28 +113,46 @@ fn nothing_else_counts() {
     for error in [
         "`g` is not in scope",
         "the record has no field `x`",
-        "`tie` has no `Need-returns-2`",
+        "`goal.returns-2`: module `Rattle.a.proofs.f.Goals` has no `returns-2`",
         "clause 2 of `x` has 1 explicit argument pattern but clause 1 has 2; every clause of one function takes the same arguments",
         "this pattern needs a function (or path) type to bind, but the signature at this point is `ℕ`",
         "this λ is checked against `ℕ`, which is not a function or extension (path) type",
         "missing field(s) of `R`: b",
+        "record `Rattle.a.proofs.f.Lts.View.In-Then` has no part `if-x`",
         "too many arguments for this constructor",
-        "`x` has no clause for 1 case; the missing clause is:\n  x (suc _) = ?",
+        "`x` has no clause for 1 case; the missing clause is:",
         "the `(` at 11:5 is never closed (reached end of file)",
         "expected type `List ℕ`, but this has type `ℕ`",
-        "the two types are `ℕ` (expected) and `Bool` (found)\n  expected type `ℕ`, but this has type `Bool`",
+        "expected type `List ℕ",
         "out of memory",
         "the kernel's limit of 50000000 steps was reached",
     ] {
-        assert!(reason(&log(error)).is_err(), "{error}");
+        assert!(reason(&refused(&format!("{PLACE}{error}"))).is_err(), "{error}");
     }
+    let fact = format!("{PLACE}`omega`: the goal does not follow from what it read.");
+    assert!(reason(&refused(&fact)).is_ok());
     let consequence = "`close` was not admitted (it has holes or undetermined implicits, or was rejected), so this cannot be checked";
-    assert!(reason(&log(consequence)).is_err());
-    assert!(reason("").is_err());
-    assert!(reason("logic=not-proved\n").is_err());
-    assert!(reason("memory allocation of 8192 bytes failed\n").is_err());
-    let fact = "`omega`: the goal does not follow from what it read.";
-    assert!(reason(&log(fact).replace("logic=not-proved\n", "Killed\n")).is_err());
-    assert!(reason(&format!("/t/src/lib.rt:3:5: error[E0308]: mismatched types\n{}", log(fact))).is_err());
-    assert!(reason(&log(fact).replace("/proofs/f/Proof", "/specs/S")).is_err());
+    assert!(reason(&refused(&format!("{PLACE}{consequence}"))).is_err());
+    for other in [
+        "",
+        "refused, as it must be",
+        &format!("NOT REFUSED: {fact}"),
+        &format!("BAD EDIT: the prover cannot read the edited text, so no contract was tried: {fact}"),
+        &format!("NOT TRIED: its check was killed, most likely for memory: {fact}"),
+        &format!(
+            "refused, as it must be (only because a proof file names what the edit took away, so this says little of the contract): {fact}"
+        ),
+        &format!("refused, as it must be (only by a limit of the prover, which gave no verdict): {fact}"),
+        &refused("src/lib.rt:3:5: error[E0308]: mismatched types, so it is not proved that it ends"),
+        &refused(&fact.replace("proofs/f/Answers", "specs/S")),
+    ] {
+        assert!(reason(other).is_err(), "{other}");
+    }
+}
+
+#[test]
+fn a_log_says_of_each_edit_what_it_said_last() {
+    let log = "rt: a proved\nrt: must-fail a/e.edit: NOT TRIED: x\nrt: must-fail a/e.edit: refused, as it must be: y: z\nrt: ok\n";
+    let said: Vec<_> = told(log).into_iter().collect();
+    assert_eq!(said, [(("a".to_string(), "e".to_string()), "refused, as it must be: y: z".to_string())]);
 }

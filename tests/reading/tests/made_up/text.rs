@@ -17,7 +17,7 @@ fn quoted_texts_hold_no_comment() {
 
 #[test]
 fn words_of_the_logic() {
-    assert_eq!(words("now (buf .exit) ≡ f·g x.«b c» \"d e\""), ["now", "(", "buf", ".exit", ")", "≡", "f·g", "x", ".«b c»", "\"d e\""]);
+    assert_eq!(words("buf.new ≡ (f g').«b c» \"d e\""), ["buf", ".new", "≡", "(", "f", "g'", ")", ".«b c»", "\"d e\""]);
 }
 
 #[test]
