@@ -26,8 +26,8 @@ build() {
         return 1
     fi
     # cargo does not see that a linked library is another one: what was built with the former goes
-    cmp -s target/staticlib/libexports_c.a "$built/libsockhurdle.a" ||
-        { rm -rf "$built/cargo" && cp target/staticlib/libexports_c.a "$built/new.a" && mv "$built/new.a" "$built/libsockhurdle.a"; } ||
+    cmp -s target/staticlib/libexports.a "$built/libsockhurdle.a" ||
+        { rm -rf "$built/cargo" && cp target/staticlib/libexports.a "$built/new.a" && mv "$built/new.a" "$built/libsockhurdle.a"; } ||
         return 1
     CARGO_TARGET_DIR=$built/cargo RUSTFLAGS="-L native=$built" \
         cargo build --quiet --release --offline --locked --manifest-path operator/Cargo.toml </dev/null >&2 || return 1

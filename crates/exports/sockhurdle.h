@@ -1,4 +1,5 @@
-/* The replay and the check of a wait, for a host in C. Link target/operator/libsockhurdle.a, which operator/build.sh makes of the crate exports_c.
+/* The replay and the check of a wait, for a host in C. Link target/operator/libsockhurdle.a, which operator/build.sh makes of the crate exports_c,
+   and the C library's -lm: a read that fails is told by errno, which a call of the mathematics sets aside before.
    Each function is proved: it ends and keeps to the memory that it is lent. */
 #ifndef SOCKHURDLE_H
 #define SOCKHURDLE_H

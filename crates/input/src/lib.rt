@@ -12,42 +12,31 @@ pub enum Input {
     Failed,
 }
 
-// The number of the thread's last call that failed, 0 where none has. A read that fails sets it; one that doesn't leaves it.
+// The number of the thread's last call that failed, 0 where none has.
 fn last_failure() -> i32 {
     let error = std_io::io::last_error();
     error.raw_os_error().unwrap_or(0)
 }
 
-// Whether a reading that ended early ended with a read that failed; `before` was the last failure before it. Where that is
-// still the last one, it may have come again: another one is put in its place, that of a bad descriptor, and what is left is
-// read again. Where it was that one already, a descriptor that can't be read from is not told from an empty input.
-fn has_failed(from: i32, before: i32, rest: &mut [u8]) -> bool {
-    if last_failure() != before {
-        return true;
-    }
-    if before == 0 {
-        return false;
-    }
-    io::write_all(-1, b".");
-    let other = last_failure();
-    if other == before {
-        return false;
-    }
-    let more = io::read_full(from, rest);
-    more > 0 || last_failure() != other
+// Makes the thread's last failure one that no read has: the logarithm of a negative number is outside its domain. A read that
+// fails sets another, and one that doesn't leaves it.
+fn fail_unlike_a_read(from: i32) -> i32 {
+    let number = f64::from(from);
+    let negative = -1.0 - number * number;
+    let _none = negative.ln();
+    last_failure()
 }
 
 // Reads until the input ends or the buffer is full.
 pub fn read_all(from: i32, buf: &mut [u8]) -> Input
     ensures { InputFits (length buf.old) result }
 {
-    let before = last_failure();
+    let before = fail_unlike_a_read(from);
     let done = io::read_full(from, buf);
     if done < buf.len() {
-        if !has_failed(from, before, &mut buf[done..]) {
-            return Input::All(done);
+        if last_failure() != before {
+            return Input::Failed;
         }
-        return Input::Failed;
     }
     Input::All(done)
 }

@@ -1,6 +1,6 @@
 //! The program's replay and its check of a wait as linked functions, for comparisons and races inside one process.
 //!
-//! Off unless the feature `linked` is on. To turn it on, put `target/staticlib/libexports_c.a`, which
+//! Off unless the feature `linked` is on. To turn it on, put `target/staticlib/libexports.a`, which
 //! `tools/build library exports_c` makes, into DIR as `libsockhurdle.a` and build with `RUSTFLAGS="-L native=DIR" cargo build --release --offline --features linked`.
 
 use crate::waits::check::Wait;
