@@ -397,7 +397,8 @@ impl Border {
         }
     }
 
-    /// A reader that leaves after some bytes. The signal ends the others; the command sees a write that fails.
+    /// A reader that leaves after some bytes. The signal ends the shortest host; the program, whose start ignores the signal as
+    /// Rust's does, and the command see a write that fails.
     fn reader_leaves(&mut self, who: Who, text: &[u8], all: &[u8], some: usize) {
         let mut child = spawned(self.call(who).stdin(Stdio::piped()));
         let mut pipe = child.stdout.take().expect("stdout is piped");
@@ -417,7 +418,8 @@ impl Border {
         }
         let ran = taken(child);
         let good = match who {
-            Who::Program | Who::Bare => ran.signal == Some(SIGPIPE),
+            Who::Bare => ran.signal == Some(SIGPIPE),
+            Who::Program => ran.status == Some(0) && ran.err.contains(End::Unwritten.word()),
             Who::Command => ran.status == Some(1) && ran.err.contains(End::Unwritten.word()),
         };
         let otherwise = format!(
