@@ -34,9 +34,10 @@ pub fn read_all(from: i32, buf: &mut [u8]) -> Input
     let before = fail_unlike_a_read(from);
     let done = io::read_full(from, buf);
     if done < buf.len() {
-        if last_failure() != before {
-            return Input::Failed;
+        if last_failure() == before {
+            return Input::All(done);
         }
+        return Input::Failed;
     }
     Input::All(done)
 }
