@@ -69,7 +69,7 @@ impl<'a> Names<'a> {
         let files = last.flat_map(|n| [n.split('.').next().unwrap_or("").to_string(), n]).collect();
         let listed = |c: &String| tree.crates.iter().any(|(name, _)| name == c);
         let mut foreign: BTreeSet<String> = tree.crates.iter().flat_map(|(_, on)| on.clone()).filter(|c| !listed(c)).collect();
-        foreign.extend(["std", "u64"].map(String::from));
+        foreign.extend(["std", "libc", "os", "u64"].map(String::from));
         let code = tree.files.keys().filter(|f| [".rt", ".rs", ".c", ".h"].iter().any(|e| f.ends_with(e)));
         let mut others: BTreeSet<String> = BTreeSet::new();
         for file in code {

@@ -3,7 +3,7 @@
 use crate::code::Code;
 use crate::logic::Logic;
 use crate::promises::excepted;
-use crate::text::{bare, squeezed, words};
+use crate::text::{bare, line_of, squeezed, words};
 use crate::tree::{Report, Tree, crate_of};
 use std::collections::{BTreeMap, BTreeSet};
 use std::path::Path;
@@ -120,18 +120,20 @@ fn capitals(text: &str) -> Vec<String> {
     parts.filter(|w| w.starts_with(|c: char| c.is_ascii_uppercase())).map(String::from).collect()
 }
 
-/// Finds what an edit changes: its first change of something that has a name.
+/// Finds what an edit changes: its first change of something that has a name. Each change applies to what those before it made.
 fn place(tree: &Tree, units: &Units, edit: &mut Edit, wrong: &mut Vec<String>) {
+    let mut texts: BTreeMap<String, String> = BTreeMap::new();
     for (file, old, new) in edit.changes.clone() {
         let is_code = file.ends_with(".rt");
         let inside = ["src", "specs"].iter().any(|f| file.starts_with(&format!("crates/{}/{f}/", edit.krate)));
-        let text = tree.text(&file);
-        let places: Vec<usize> = text.lines().enumerate().filter(|(_, l)| l.contains(&old)).map(|(i, _)| i + 1).collect();
+        let text = texts.entry(file.clone()).or_insert_with(|| tree.text(&file));
+        let places: Vec<usize> = text.match_indices(&old).map(|(at, _)| line_of(text, at)).collect();
         let same = squeezed(&bare(&old, is_code)) == squeezed(&bare(&new, is_code));
         if places.len() != 1 || !inside || same {
             let why = if same { "changes no more than a comment" } else { "is of no one line of code or definitions" };
             wrong.push(format!("{}: its old text '{old}' in {file} {why}", edit.path));
         }
+        *text = text.replacen(&old, &new, 1);
         let place = places.first().copied().unwrap_or(0);
         let commented = tree.bare(&file).lines().nth(place.max(1) - 1).is_none_or(|l| l.trim().is_empty());
         let found = units.at.get(&(file.clone(), place)).filter(|_| !commented && edit.unit.is_empty());

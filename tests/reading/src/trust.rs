@@ -97,7 +97,8 @@ impl Trust<'_> {
         let mut out = "| program | axioms | how many | foreign functions of its own |\n|---|---|---|---|\n".to_string();
         for krate in self.programs_of() {
             let log = self.tree.made(&format!("log/{krate}")).unwrap_or_default();
-            let Some(proved) = log.lines().find(|l| l.starts_with("logic=proved")) else {
+            // (a library below it that was checked before has such a line too)
+            let Some(proved) = log.lines().rfind(|l| l.starts_with("logic=proved")) else {
                 out += &said.lines().filter(|l| l.starts_with(&format!("| {krate} |"))).map(|l| format!("{l}\n")).collect::<String>();
                 without.push(krate);
                 continue;

@@ -46,6 +46,13 @@ fn an_edit_of_nothing_or_of_two_places_is_none() {
 }
 
 #[test]
+fn a_change_applies_to_what_those_before_it_made() {
+    let one = "file: src/lib.rt\nold: x + N\nnew: y + N\nold:     x\nnew:     1\n";
+    assert_eq!(with(one), Vec::<String>::new(), "only then does the text stand there once");
+    assert!(with("file: src/lib.rt\nold:     x\nnew:     1\nold: x + N\nnew: y + N\n")[0].contains("no one line"));
+}
+
+#[test]
 fn an_edit_may_change_an_import_beside_what_it_changes() {
     let both = "file: specs/S.antt\nold: use lib.{x}\nnew: use lib.{y}\nold: g x = x + 7\nnew: g x = y + 7\n";
     assert_eq!(with(both), Vec::<String>::new());
