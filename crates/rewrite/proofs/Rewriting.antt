@@ -2,23 +2,20 @@
 use Prim.Native.Nat.{ℕ, ◌≤◌}
 use native.Mathlib.Omega.{arith}
 use mathlib.Core.Path.{◌≡◌, refl, sym, ap, ◌∙◌}
-use mathlib.Core.Bool.{cond}
-use mathlib.Core.List.{List, [], ◌∷◌, ◌++◌}
-use lib.Dec.{leb}
+use mathlib.Core.List.{List}
 use lib.ListN.{length, take, drop, length-append, length-drop}
 use lib.Seq.{take_at}
 use borrow.Author.Tests.{le-leb}
 use Rattle.kinds.specs.declared.refusal.Refusal.{Refusal}
-use Rattle.kinds.specs.declared.refusal.Refusal.TheVariants.{BadTrace, NoRoom}
+use Rattle.kinds.specs.declared.refusal.Refusal.TheVariants.{BadTrace}
 use Rattle.grammar.specs.Texts.{Read, Whole, Broken}
 use Rattle.trace.specs.Trace.{trace_of}
 use Rattle.trace.specs.declared.Version.{Version}
 use Rattle.trace.specs.declared.Record.{Record}
 use Rattle.trace_writer.specs.Writing.{wrote_of, left_of}
-use Rattle.rows_reader.specs.Reading.{rows_of, in_front, read_by, read_of, rows_left}
+use Rattle.rows_reader.specs.Reading.{rows_of, in_front, read_of, rows_left}
 use Rattle.trace_writer.specs.declared.Wrote.{Wrote}
 use Rattle.trace_writer.specs.declared.Wrote.TheVariants as wrote
-use Rattle.rows_reader.specs.declared.RowsRead.{RowsRead}
 use Rattle.rows_reader.specs.declared.RowsRead.TheVariants.{Rows, Refused}
 use Rattle.rows_reader.proofs.Filling.{rows_many}
 use Rattle.trace_writer.proofs.Laws.{again_wrote, again_left_lem, most-records}

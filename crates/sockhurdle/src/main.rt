@@ -1,5 +1,5 @@
-// Replays a captured trace: standard input in, standard output out. The language gives a program no exit status, so
-// what went wrong is said in words on standard error; the command operator/replay has a status.
+// Replays a captured trace: standard input in, standard output out. It exits with 0, and says in words on standard error
+// what went wrong; the command operator/replay has a status.
 #![tactic(auto)]
 
 // The standard descriptors.
