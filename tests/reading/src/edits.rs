@@ -235,12 +235,13 @@ pub fn check(tree: &Tree, code: &Code, edits: &[Edit], wrong: &[String], report:
 }
 
 /// What a check says where a fact does not hold. Nothing else counts. `rt ci` prints the first line of it, cut short.
-const FACTS: [&str; 14] = [
+const FACTS: [&str; 15] = [
     "it is not proved that ",
     "the two types ",
     "the two values ",
     "computed as a goal is, one side reads `",
     "expected type `",
+    "` lands at index `",
     "`cc` met a bound of its own before the equations had joined `",
     "list the missing equation with its arguments, or rewrite by `rw` or `simp`",
     "`omega`: the goal does not follow",

@@ -103,6 +103,7 @@ fn a_fact_that_fails_counts() {
         "expected type `mathlib.Core.Bool.true ≡ differ xs`, but this has",
         "expected type `ℕ → So (x <",
         "computed as far as they go, the two types are `Path (List ℕ) a b` (expected) and",
+        "this `refused` lands at index `lib.IntN.pos 3` (position 1) but the expected type has `lib.IntN.pos 0`",
         "`search`: no proof of `x ≡ y`",
         "computed as a goal is, one side reads `Scanned (take n xs) 0` and the other",
         "give a proof of that as the last argument, `rw L t` (`rw L ?` shows it as a hole's goal), or add what is missing",
