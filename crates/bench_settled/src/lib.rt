@@ -6,10 +6,9 @@ mod lent_usable;
 
 ghost use Rattle.std.specs.Prelude.{◌≡◌};
 
-use kinds::{SLOTS, Txid};
+use kinds::{Refusal, SLOTS, Txid};
 pub use lent_usable::bench_usable_lent;
-use settled::{Settled, Snapshot};
-use std::num::wrapping_add_u64;
+use settled::Snapshot;
 
 // How many slots the measured snapshots have.
 #[unsafe(no_mangle)]
@@ -20,15 +19,15 @@ pub extern "C" fn bench_settled_slots() -> u64
 }
 
 // What a round adds to the checksum.
-fn marked(sum: u64, round: u64, answer: Settled) -> u64 {
+pub(crate) fn marked(sum: u64, round: u64, answer: Result<bool, Refusal>) -> u64 {
     match answer {
-        Settled::Yes => wrapping_add_u64(sum, round),
-        Settled::No => wrapping_add_u64(sum, 1),
-        Settled::Refused(_) => sum,
+        Ok(true) => sum.wrapping_add(round),
+        Ok(false) => sum.wrapping_add(1),
+        Err(_) => sum,
     }
 }
 
-// Each round asks for one id; the ids to ask for go round.
+// Each round asks for one id; the ids to ask for go round, and a round in which there is none asks for nothing.
 #[unsafe(no_mangle)]
 pub extern "C" fn bench_settled_lent(
     ids: &[u64],
@@ -39,16 +38,14 @@ pub extern "C" fn bench_settled_lent(
 ) -> u64 {
     let mut sum: u64 = 0;
     let mut at: usize = 0;
-    let mut i: u64 = 0;
-    while i < rounds {
-        i += 1;
-        if asked.len() <= at {
+    for round in 0..rounds {
+        let Some(&id) = asked.get(at) else {
             at = 0;
             continue;
-        }
-        let answer = settled::is_settled_among(ids, count, xmax, Txid(asked[at]));
+        };
         at += 1;
-        sum = marked(sum, i, answer);
+        let answer = settled::is_settled_among(ids, count, xmax, Txid(id));
+        sum = marked(sum, round.wrapping_add(1), answer);
     }
     sum
 }
@@ -56,13 +53,8 @@ pub extern "C" fn bench_settled_lent(
 // The snapshot with these ids in its first places.
 fn gathered(ids: &[u64], count: usize, xmax: u64) -> Snapshot {
     let mut places = kinds::zeros();
-    let mut i: usize = 0;
-    while i < SLOTS {
-        if ids.len() <= i {
-            break;
-        }
-        places[i] = ids[i];
-        i += 1;
+    for (place, id) in places.iter_mut().zip(ids) {
+        *place = *id;
     }
     Snapshot {
         xmin: 1,
@@ -84,16 +76,14 @@ pub extern "C" fn bench_settled_by_value(
     let shown = gathered(ids, count, xmax);
     let mut sum: u64 = 0;
     let mut at: usize = 0;
-    let mut i: u64 = 0;
-    while i < rounds {
-        i += 1;
-        if asked.len() <= at {
+    for round in 0..rounds {
+        let Some(&id) = asked.get(at) else {
             at = 0;
             continue;
-        }
-        let answer = settled::is_settled(shown, Txid(asked[at]));
+        };
         at += 1;
-        sum = marked(sum, i, answer);
+        let answer = settled::is_settled(shown, Txid(id));
+        sum = marked(sum, round.wrapping_add(1), answer);
     }
     sum
 }

@@ -13,12 +13,11 @@ use Rattle.events.specs.Event.{event_form, event_at}
 use Rattle.events.specs.Wait.{Header, Wait1, wait_format, reading}
 use Rattle.events.specs.declared.Kind.{Kind}
 use Rattle.events.specs.declared.Event.{Event}
-use Rattle.events.specs.declared.EventAt.{EventAt}
-use Rattle.events.specs.declared.EventAt.TheVariants.{Is, Broken}
-use Rattle.events.specs.declared.Reading.{Reading}
-use Rattle.events.specs.declared.Reading.TheVariants as reading
-use Rattle.events.specs.declared.names.KindAt.{KindAt}
-use Rattle.events.specs.declared.names.KindAt.TheVariants as kind
+use Rattle.events.specs.EventAt.{EventAt, Is, Broken}
+use Rattle.events.specs.Reading.{Reading}
+use Rattle.events.specs.Reading as reading
+use Rattle.events.specs.KindAt.{KindAt}
+use Rattle.events.specs.KindAt as kind
 
 abbrev pub kind_meant : KindAt → NameAt Kind
 kind_meant (kind.Is k e) = Named k e

@@ -9,8 +9,7 @@ use Rattle.grammar.specs.Grammar.{every_kind}
 use Rattle.events.specs.Kind.{reads_of, kind_names}
 use Rattle.events.specs.declared.Kind.{Kind}
 use Rattle.events.specs.declared.Event.{Event}
-use Rattle.events.specs.declared.EventAt.{EventAt}
-use Rattle.events.specs.declared.EventAt.TheVariants.{Is, Broken}
+use Rattle.events.specs.EventAt.{EventAt, Is, Broken}
 
 -- the five numbers of an event, and the event of a kind and five numbers
 abbrev pub values_of : Event → Values

@@ -5,8 +5,8 @@ use Rattle.text.specs.declared.Reads.{Reads}
 use Rattle.grammar.specs.Names.{Names, name_at, say_name}
 use Rattle.events.specs.declared.Kind.{Kind}
 use Rattle.events.specs.declared.Kind.TheVariants.{Register, End, Horizon, Reserve, Observe}
-use Rattle.events.specs.declared.names.KindAt.{KindAt}
-use Rattle.events.specs.declared.names.KindAt.TheVariants as kind
+use Rattle.events.specs.KindAt.{KindAt}
+use Rattle.events.specs.KindAt as kind
 
 -- the fields that an event reads; the fourth is `xmin`, and clock is `clock` and `sample`
 abbrev pub reads_of : Kind → Reads

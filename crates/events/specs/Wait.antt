@@ -10,8 +10,7 @@ use Rattle.grammar.specs.Grammar.{Grammar, format_of}
 use Rattle.events.specs.Event.{event_shape, event_form}
 use Rattle.events.specs.declared.Kind.{Kind}
 use Rattle.events.specs.declared.Event.{Event}
-use Rattle.events.specs.declared.Reading.{Reading}
-use Rattle.events.specs.declared.Reading.TheVariants.{Whole, Broken}
+use Rattle.events.specs.Reading.{Reading, Whole, Broken}
 
 -- the one first line that is known, `wait=proc-1`
 pub data Header : Type 0 where

@@ -28,19 +28,3 @@ pub struct Event {
     pub clock: u64,
     pub sample: u64,
 }
-
-// What stands at a place: an event, with the place past it, or the first of its six lines, from 1,
-// that breaks a rule.
-#[derive(Clone, Copy)]
-pub enum EventAt {
-    Is(Event, usize),
-    Broken(usize),
-}
-
-// What a whole text is: so many events, or a wait that breaks a rule first at this line. Line 0
-// stands for an input that is too long.
-#[derive(Clone, Copy)]
-pub enum Reading {
-    Whole(usize),
-    Broken(usize),
-}

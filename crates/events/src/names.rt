@@ -1,18 +1,11 @@
 // The line that names an event, and which fields an event reads.
 ghost use Rattle.std.specs.Prelude.{◌+◌, ◌<◌, ◌≡◌, length};
 ghost use Rattle.grammar.specs.Names.{first_named, if_named, say_name};
-ghost use Rattle.events.specs.declared.names.KindAt.TheVariants.{Is, Unknown};
+ghost use Rattle.events.specs.KindAt.{Is, Unknown};
 ghost use Rattle.events.specs.Kind.{reads_of, kind_name, kinds, kind_at};
 
 use crate::Kind;
 use text::Reads;
-
-// A kind of event, with the place past its line, or none.
-#[derive(Clone, Copy)]
-pub enum KindAt {
-    Is(Kind, usize),
-    Unknown,
-}
 
 fn reads(slot: bool, id: bool, xmin: bool, clock: bool) -> Reads
     ensures { result ≡ record { slot = slot; id = id; fourth = xmin; clock = clock } }
@@ -39,22 +32,28 @@ pub fn reads_of(kind: Kind) -> Reads
 }
 
 // `kind` and the place past its name, where the name stands at `at`, and `other` where it doesn't.
-fn try_name(s: &[u8], at: usize, name: &[u8], kind: Kind, other: KindAt) -> KindAt
+fn try_name(
+    s: &[u8],
+    at: usize,
+    name: &[u8],
+    kind: Kind,
+    other: Option<(Kind, usize)>,
+) -> Option<(Kind, usize)>
     requires { 0 < length name.now }
     ensures { result ≡ if_named s.now at name.now (Is kind (at + length name.now)) other }
 {
     if text::bytes_at(s, at, name) {
-        return KindAt::Is(kind, at + name.len());
+        return Some((kind, at + name.len()));
     }
     other
 }
 
 // The kind whose name, with its newline, stands at `at`. All five are compared; no two can stand at
 // one place.
-fn name_at(s: &[u8], at: usize) -> KindAt
+fn name_at(s: &[u8], at: usize) -> Option<(Kind, usize)>
     ensures { result ≡ say_name Is Unknown (first_named kind_name kinds s.now at) }
 {
-    let observe = try_name(s, at, b"observe\n", Kind::Observe, KindAt::Unknown);
+    let observe = try_name(s, at, b"observe\n", Kind::Observe, None);
     let reserve = try_name(s, at, b"reserve\n", Kind::Reserve, observe);
     let horizon = try_name(s, at, b"horizon\n", Kind::Horizon, reserve);
     let end = try_name(s, at, b"end\n", Kind::End, horizon);
@@ -62,11 +61,11 @@ fn name_at(s: &[u8], at: usize) -> KindAt
 }
 
 // The kind whose line stands at `at`.
-pub fn kind_at(s: &[u8], at: usize) -> KindAt
+pub fn kind_at(s: &[u8], at: usize) -> Option<(Kind, usize)>
     ensures { result ≡ kind_at s.now at }
 {
     if text::bytes_at(s, at, b"event=") {
         return name_at(s, at + 6);
     }
-    KindAt::Unknown
+    None
 }

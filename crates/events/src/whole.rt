@@ -2,8 +2,6 @@
 ghost use Rattle.std.specs.Prelude.{◌≡◌};
 ghost use Rattle.events.specs.Wait.{first_event, reading};
 
-use crate::{EventAt, Reading};
-
 // The most bytes that a wait may have.
 pub const LONGEST: usize = 65536;
 
@@ -15,28 +13,28 @@ pub fn first_event() -> usize
 }
 
 // The number of the events of the text s, or the first line that breaks a rule.
-pub fn read_wait(s: &[u8]) -> Reading
+pub fn read_wait(s: &[u8]) -> Result<usize, usize>
     ensures { result ≡ reading s.now }
 {
     if LONGEST < s.len() {
-        return Reading::Broken(0);
+        return Err(0);
     }
     if !text::bytes_at(s, 0, b"wait=proc-1\n") {
-        return Reading::Broken(1);
+        return Err(1);
     }
     let mut at = first_event();
     let mut n: usize = 0;
     while at != s.len() {
         let r = crate::lines::event_at(s, at);
         match r {
-            EventAt::Is(_, e) => {
+            Ok((_, e)) => {
                 at = e;
                 n += 1;
             }
-            EventAt::Broken(line) => {
-                return Reading::Broken(1 + 6 * n + line);
+            Err(line) => {
+                return Err(1 + 6 * n + line);
             }
         }
     }
-    Reading::Whole(n)
+    Ok(n)
 }

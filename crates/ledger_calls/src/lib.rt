@@ -11,15 +11,18 @@ mod views;
 pub use asked::one_call;
 use model::{Counters, Numbers};
 
-// What a call leaves: the slot at `place` holds (txid, xmin) now, the pin holds `held`, and the counters are these. A place that no
-// slot has says that no slot moves, and so for the pins.
+// What a call moves: one slot, which holds (txid, xmin) now, or one pin, which holds `held`.
+#[derive(Clone, Copy)]
+pub enum Moved {
+    Nothing,
+    Slot { place: usize, txid: u64, xmin: u64 },
+    Pin { pin: usize, held: u64 },
+}
+
+// .. with the counters that it leaves.
 #[derive(Clone, Copy)]
 pub struct Deed {
-    pub place: usize,
-    pub txid: u64,
-    pub xmin: u64,
-    pub pin: usize,
-    pub held: u64,
+    pub moved: Moved,
     pub counters: Counters,
 }
 

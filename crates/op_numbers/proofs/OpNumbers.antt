@@ -10,7 +10,7 @@ use Rattle.trace.specs.Op.{ops}
 use Rattle.trace.specs.declared.Op.{Op}
 use Rattle.trace.specs.declared.Op.TheVariants.{Begin, End, Snap, Own, Oldest, Vacuum, Stamp, Finish, Pin, Unpin}
 use Rattle.op_numbers.specs.Numbers.{op_number, try_number, first_numbered, op_numbered}
-use Rattle.op_numbers.specs.declared.OpNumbered.TheVariants.{Is, Unknown}
+use Rattle.op_numbers.specs.OpNumbered.{Is, Unknown}
 
 -- the number of an op names that op
 pub op_of_number : (o : Op) → op_numbered (op_number o) ≡ Is o

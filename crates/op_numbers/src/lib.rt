@@ -6,13 +6,6 @@ ghost use Rattle.op_numbers.specs.Numbers.{op_number, try_number, op_numbered};
 
 use trace::Op;
 
-// The op that a number names.
-#[derive(Clone, Copy)]
-pub enum OpNumbered {
-    Is(Op),
-    Unknown,
-}
-
 // The number of an op.
 pub fn op_number(op: Op) -> u64
     ensures { result ≡ op_number op }
@@ -32,20 +25,20 @@ pub fn op_number(op: Op) -> u64
 }
 
 // `op` where n is `number`, and `other` where it isn't.
-fn try_number(n: u64, number: u64, op: Op, other: OpNumbered) -> OpNumbered
+fn try_number(n: u64, number: u64, op: Op, other: Option<Op>) -> Option<Op>
     ensures { result ≡ try_number n number op other }
 {
     if n == number {
-        return OpNumbered::Is(op);
+        return Some(op);
     }
     other
 }
 
 // The op of a number.
-pub fn op_of(n: u64) -> OpNumbered
+pub fn op_of(n: u64) -> Option<Op>
     ensures { result ≡ op_numbered n }
 {
-    let unpin = try_number(n, 10, Op::Unpin, OpNumbered::Unknown);
+    let unpin = try_number(n, 10, Op::Unpin, None);
     let pin = try_number(n, 9, Op::Pin, unpin);
     let finish = try_number(n, 8, Op::Finish, pin);
     let stamp = try_number(n, 7, Op::Stamp, finish);

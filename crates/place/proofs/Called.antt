@@ -10,8 +10,7 @@ use lib.ListN.{length, take}
 use lib.Seq.{sets}
 use borrow.Author.Tests.{eqb-true, eqb-false, ltb-false, eq-eqb, ne_eqb, le-ltb}
 use Rattle.kinds.specs.declared.refusal.Refusal.TheVariants.{BadImage, NoRoom}
-use Rattle.kinds.specs.declared.refusal.Verdict.{Verdict}
-use Rattle.kinds.specs.declared.refusal.Verdict.TheVariants.{Pass, Refuse}
+use Rattle.kinds.specs.Verdicts.{Verdict, Pass, Refuse}
 use Rattle.kinds.specs.Refusals.{told}
 use Rattle.settled.specs.Snapshots.{no_snapshot}
 use Rattle.model.specs.declared.Counters.{Counters}
@@ -61,6 +60,10 @@ pub lent_words :
     decision n (lent_txids (take n ws) was) c ≡ decision n (table_of n ws) c
 unfolding table_of
 lent_words n ws c e b = rw e (lent_decides n (table_of n ws) c b)
+
+-- .. and so is what is decided on any columns that are that table
+pub decided_on : (n : ℕ) (c : Call) {t u : Table} {d : Decision} → t ≡ u → d ≡ decision n t c → d ≡ decision n u c
+decided_on n c e d = d ∙ ap (λ (t : Table). decision n t c) e
 
 -- what is told of a call that shows nothing
 pub plain-said :

@@ -2,6 +2,7 @@
 use Rattle.std.specs.Prelude.{ℕ, cond, List, [], ◌∷◌, eqb, ltb, length}
 use Rattle.std.proofs.lemmas.List.Edits.{sets}
 use Rattle.kinds.specs.declared.refusal.Refusal.TheVariants.{BadImage, NoRoom}
+use Rattle.kinds.specs.Verdicts.{Verdict, Pass, Refuse, then}
 use Rattle.kinds.specs.Refusals.{told}
 use Rattle.model.specs.declared.answer.Decision.{Decision}
 use Rattle.model.specs.declared.answer.Numbers.{Numbers}
@@ -32,3 +33,10 @@ shape_of n table out = cond (eqb table (size_of n)) (cond (ltb out head) (told N
 unfoldable pub list_shape : ℕ → ℕ → ℕ → ℕ → ℕ
 list_shape n table out ids =
     cond (eqb (shape_of n table out) 0) (cond (ltb ids n) (told NoRoom).number 0) (shape_of n table out)
+
+-- the same as verdicts, in the same order
+unfoldable pub shape_verdict : ℕ → ℕ → ℕ → Verdict
+shape_verdict n table out = cond (eqb table (size_of n)) (cond (ltb out head) (Refuse NoRoom) Pass) (Refuse BadImage)
+
+unfoldable pub list_verdict : ℕ → ℕ → ℕ → ℕ → Verdict
+list_verdict n table out ids = then (shape_verdict n table out) (cond (ltb ids n) (Refuse NoRoom) Pass)

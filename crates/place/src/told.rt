@@ -30,8 +30,9 @@ pub fn tell_plain(out: &mut [u64], decided: Decision) -> u64
     ensures value { result ≡ (plain_numbers decided).told.number }
     ensures out_after { out.new ≡ told_in out.old (plain_numbers decided) }
 {
-    let change = decided.change;
-    let answer = decided.answer;
-    let numbers = answer_numbers::numbers_of(answer, 0, 0, 0, change.counters.vacuum_line);
-    tell(out, numbers)
+    let line = decided.change.counters.vacuum_line;
+    tell(
+        out,
+        answer_numbers::numbers_of(decided.answer, 0, 0, 0, line),
+    )
 }

@@ -1,9 +1,10 @@
 // The words of a table: the txids, the snapshot_xmins, the pins, then clock, sample and line.
 ghost use Rattle.std.specs.Prelude.{◌≡◌, ◌+◌, ◌≤◌, length, get_or};
+ghost use Rattle.model.specs.Tables.{lent_by};
 ghost use Rattle.place.specs.Words.{size_of, table_of, put_at, slot_put, stored_words};
 
 use kinds::{PINS, SLOTS};
-use model::{Change, Counters, SlotChange};
+use model::{Change, Columns, Counters, SlotChange};
 
 pub const PINS_FROM: usize = 2 * SLOTS;
 
@@ -20,23 +21,30 @@ pub const WORDS: usize = CLOCK + 3;
 fn word_at(words: &[u64], i: usize) -> u64
     ensures { result ≡ get_or words.now i 0 }
 {
-    if i < words.len() {
-        return words[i];
-    }
-    0
+    words.get(i).copied().unwrap_or(0)
 }
 
 // The three numbers beside the slots and the pins.
 pub fn counters_in(words: &[u64]) -> Counters
     ensures { result ≡ (table_of SLOTS words.now).counters }
 {
-    let clock = word_at(words, CLOCK);
-    let sampled_clock = word_at(words, SAMPLE);
-    let vacuum_line = word_at(words, LINE);
     Counters {
-        clock,
-        sampled_clock,
-        vacuum_line,
+        clock: word_at(words, CLOCK),
+        sampled_clock: word_at(words, SAMPLE),
+        vacuum_line: word_at(words, LINE),
+    }
+}
+
+// A table's columns where they lie.
+pub(crate) fn columns_in(words: &[u64]) -> Columns<'_>
+    requires { length words.now ≡ size_of SLOTS }
+    ensures { lent_by result ≡ table_of SLOTS words.now }
+{
+    Columns {
+        txids: &words[..SLOTS],
+        snapshot_xmins: &words[SLOTS..PINS_FROM],
+        pins: &words[PINS_FROM..CLOCK],
+        counters: counters_in(words),
     }
 }
 
@@ -77,10 +85,8 @@ pub fn store(words: &mut [u64], change: Change)
     if words.len() != WORDS {
         return;
     }
-    let counters = change.counters;
-    words[CLOCK] = counters.clock;
-    words[SAMPLE] = counters.sampled_clock;
-    words[LINE] = counters.vacuum_line;
-    let slot = change.slot;
-    store_slot(words, slot);
+    words[CLOCK] = change.counters.clock;
+    words[SAMPLE] = change.counters.sampled_clock;
+    words[LINE] = change.counters.vacuum_line;
+    store_slot(words, change.slot);
 }

@@ -9,7 +9,7 @@ use lib.ListN.{length, take, replicate, length-take}
 use lib.Seq.{sets, take_all, take-append_seam}
 use borrow.Author.Tests.{eq-eqb}
 use Rattle.kinds.specs.declared.refusal.Refusal.{Refusal}
-use Rattle.kinds.specs.declared.refusal.Verdict.TheVariants.{Pass, Refuse}
+use Rattle.kinds.specs.Verdicts.{Pass, Refuse}
 use Rattle.settled.specs.Snapshots.{no_snapshot}
 use Rattle.model.specs.declared.Counters.{Counters}
 use Rattle.model.specs.declared.Table.{Table}

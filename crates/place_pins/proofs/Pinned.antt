@@ -6,12 +6,12 @@ use lib.ListN.{length, take, drop}
 use borrow.Author.Tests.{lt-leb, le-leb}
 use Rattle.kinds.specs.declared.refusal.Refusal.{Refusal}
 use Rattle.kinds.specs.declared.refusal.Refusal.TheVariants.{NoFreePin}
-use Rattle.kinds.specs.declared.refusal.Verdict.TheVariants.{Pass, Refuse}
+use Rattle.kinds.specs.Verdicts.{Pass, Refuse}
 use Rattle.kinds.specs.Kinds.{pin_count, pin_no}
 use Rattle.model.specs.declared.Counters.{Counters}
 use Rattle.model.specs.declared.Table.{Table}
 use Rattle.model.specs.declared.change.SlotChange.TheVariants.{Pins}
-use Rattle.model.specs.declared.answer.Answer.TheVariants.{Pinned}
+use Rattle.model.specs.Answer.{Pinned}
 use Rattle.model.specs.Tally.{lowest_empty, snapshot_of}
 use Rattle.model.specs.Tables.{clock_of, line_of}
 use Rattle.model.specs.Changes.{change, observed}

@@ -7,11 +7,10 @@ use lib.ListN.{length, take, length-take}
 use lib.Seq.{take_all}
 use Rattle.kinds.specs.declared.SlotNo.{SlotNo}
 use Rattle.kinds.specs.declared.Txid.{Txid}
-use Rattle.kinds.specs.declared.refusal.Verdict.{Verdict}
-use Rattle.kinds.specs.declared.refusal.Verdict.TheVariants.{Pass, Refuse}
+use Rattle.kinds.specs.Verdicts.{Verdict, Pass, Refuse}
 use Rattle.model.specs.declared.Counters.{Counters}
 use Rattle.model.specs.declared.change.SlotChange.TheVariants.{Stays, Retains}
-use Rattle.model.specs.declared.answer.Answer.TheVariants.{Done}
+use Rattle.model.specs.Answer.{Done}
 use Rattle.model.specs.Tally.{snapshot_of}
 use Rattle.model.specs.Tables.{lent_slots}
 use Rattle.model.specs.Changes.{change, observed}

@@ -11,6 +11,9 @@ use Rattle.model.specs.Check.{table_passes}
 use Rattle.model.specs.Tables.{lent}
 use Rattle.place.specs.Words.{pins_from, size_of, table_of}
 use Rattle.place_tables.specs.Tables.{check_number}
+use mathlib.Core.Bool.{true, false}
+use mir.Val.{bool_byte}
+use mathlib.Core.Path.{refl}
 
 pub checks :
     (n : ℕ) (ws : List ℕ) → length ws ≡ size_of n → {was : Counters} → was ≡ (table_of n ws).counters → {b : Bool} →
@@ -18,3 +21,8 @@ pub checks :
     cond {A = ℕ} b 1 0 ≡ check_number n ws
 unfolding check_number table_of
 checks n ws size e p = rw (eq-eqb _ _ size, p, e)
+
+-- a yes is 1
+pub yes_is_1 : (b : Bool) → bool_byte b ≡ cond {A = ℕ} b 1 0
+yes_is_1 true = refl
+yes_is_1 false = refl

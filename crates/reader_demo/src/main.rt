@@ -6,7 +6,7 @@ ghost use Rattle.std.specs.Prelude.{◌≡◌};
 ghost use Rattle.reader.specs.Reader.{step_of};
 
 use reader::Reader;
-use trace::{Op, Record, RecordAt};
+use trace::{Op, Record};
 
 // An op's line; the answer, whether it was written, is not used.
 fn op_line(op: Op) -> bool {
@@ -41,13 +41,13 @@ fn record(r: Record) {
 }
 
 // Shows what was found: the record and the place past it, or the line that breaks a rule.
-fn show(found: RecordAt) {
+fn show(found: Result<(Record, usize), usize>) {
     match found {
-        RecordAt::Is(r, past) => {
+        Ok((r, past)) => {
             record(r);
             line(b"place=", past as u64);
         }
-        RecordAt::Broken(k) => line(b"broken=", k as u64),
+        Err(k) => line(b"broken=", k as u64),
     }
 }
 

@@ -2,8 +2,7 @@
 ghost use Rattle.std.specs.Prelude.{◌≡◌};
 ghost use Rattle.record_rows.specs.Rows.{row_of, may_be, allowed_by, of_op, record_row};
 
-use crate::RowIs;
-use op_numbers::OpNumbered;
+use crate::NoRecord;
 use text::Reads;
 use trace::{Op, Record};
 
@@ -42,15 +41,22 @@ fn allowed_by(reads: Reads, slot: u64, id: u64, stamp: u64, clock: u64, sample: 
 }
 
 // The record of an op and five numbers.
-fn of_op(op: Op, slot: u64, id: u64, stamp: u64, clock: u64, sample: u64) -> RowIs
+fn of_op(
+    op: Op,
+    slot: u64,
+    id: u64,
+    stamp: u64,
+    clock: u64,
+    sample: u64,
+) -> Result<Record, NoRecord>
     ensures { result ≡ of_op op slot id stamp clock sample }
 {
     if MOST_SLOT < slot {
-        return RowIs::SlotTooLarge;
+        return Err(NoRecord::SlotTooLarge);
     }
     if allowed_by(trace::reads_of(op), slot, id, stamp, clock, sample) {
         let slot_no = slot as u16;
-        return RowIs::Record(Record {
+        return Ok(Record {
             op,
             slot: slot_no,
             id,
@@ -59,16 +65,16 @@ fn of_op(op: Op, slot: u64, id: u64, stamp: u64, clock: u64, sample: u64) -> Row
             sample,
         });
     }
-    RowIs::UnreadNumber
+    Err(NoRecord::UnreadNumber)
 }
 
 // The record that a row is, or the first reason why it is none.
-pub fn record_of(row: [u64; 6]) -> RowIs
+pub fn record_of(row: [u64; 6]) -> Result<Record, NoRecord>
     ensures { result ≡ record_row row }
 {
     let numbered = op_numbers::op_of(row[0]);
     match numbered {
-        OpNumbered::Is(op) => of_op(op, row[1], row[2], row[3], row[4], row[5]),
-        OpNumbered::Unknown => RowIs::UnknownOp,
+        Some(op) => of_op(op, row[1], row[2], row[3], row[4], row[5]),
+        None => Err(NoRecord::UnknownOp),
     }
 }

@@ -6,17 +6,12 @@ ghost use Rattle.table_text.specs.TableText.{header, lines_under};
 ghost use Rattle.table_measure.specs.Lines.{slot_lines, counter_lines, pin_lines};
 
 use model::Counters;
-use text::Put;
 
 fn line(buf: &mut [u8], at: usize, key: &[u8], n: u64) -> usize
     requires { at + length (line_text key.now n) ≤ length buf.old }
     ensures { Placed buf.old at (line_text key.now n) buf.new result }
 {
-    let put = text_writer::put_line(buf, at, key, n);
-    match put {
-        Put::Past(end) => end,
-        Put::NoRoom => at,
-    }
+    text_writer::line(buf, at, key, n)
 }
 
 // Line 1 is a key and a number too.

@@ -15,7 +15,7 @@ use Rattle.kinds.specs.Kinds.{saturating_next}
 use Rattle.settled.specs.declared.Snapshot.{Snapshot}
 use Rattle.model.specs.Tally.{active, minimum, maximum, places, snapshot_of}
 use Rattle.model.proofs.Tally.{active-length}
-use Rattle.turns.proofs.Turns.{past-eight}
+use Rattle.taken_scans.proofs.Turns.{past-eight}
 use Rattle.taken_scans.specs.declared.snapshot.Taken.{Taken}
 use Rattle.taken_scans.specs.Empty.{all_empty}
 use Rattle.taken_scans.specs.Taken.{taken_of}

@@ -9,7 +9,7 @@ use lib.Dec.{ltb}
 use borrow.Author.Tests.{eq-eqb, ne_eqb, eqb-true, ltb-true, ltb-false}
 use Rattle.kinds.proofs.Lists.{from}
 use Rattle.model.specs.Tally.{active, retained, minimum, oldest_of}
-use Rattle.turns.proofs.Turns.{past-eight}
+use Rattle.taken_scans.proofs.Turns.{past-eight}
 use Rattle.taken_scans.specs.Empty.{all_empty}
 
 module _ (txids : List ℕ) (i : ℕ) where

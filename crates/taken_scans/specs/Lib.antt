@@ -1,2 +1,3 @@
+pub mod Eight
 pub mod Empty
 pub mod Taken

@@ -3,15 +3,12 @@ use Rattle.std.specs.Prelude.{ℕ, ◌≡◌, List, Bool, true, false, cond, ◌
 use Rattle.std.specs.Borrow.{Bor}
 use Rattle.kinds.specs.declared.Txid.{Txid}
 use Rattle.kinds.specs.declared.refusal.Refusal.TheVariants.{BadLength}
-use Rattle.kinds.specs.declared.refusal.Verdict.{Verdict}
-use Rattle.kinds.specs.declared.refusal.Verdict.TheVariants.{Pass, Refuse}
+use Rattle.kinds.specs.Verdicts.{Verdict, Pass, Refuse, then, zero_test}
 use Rattle.kinds.specs.Refusals.{told}
-use Rattle.kinds.specs.Verdicts.{then, zero_test}
 use Rattle.settled.specs.declared.Snapshot.{Snapshot}
 use Rattle.settled.specs.Settled.{count_test}
 use Rattle.usable.specs.Usable.{usable_in}
-use Rattle.tiles.specs.declared.Choice.{Choice}
-use Rattle.tiles.specs.declared.Choice.TheVariants.{Newer, Older, Refused}
+use Rattle.tiles.specs.Choice.{Choice, Newer, Older, Refused}
 
 -- 11: a used length is beyond its run, whichever run would be chosen
 abbrev pub length_test : ℕ → ℕ → ℕ → ℕ → Verdict

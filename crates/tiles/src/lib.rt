@@ -6,31 +6,26 @@ ghost use Rattle.tiles.specs.Tiles.{choice, fitted, length_test, NumberFits, Par
 
 use kinds::{Refusal, SLOTS, Txid};
 use settled::Snapshot;
-use usable::Usable;
 
-// Which coding is handed out, or why none.
+// A coding of a tile.
 #[derive(Clone, Copy)]
-pub enum Choice {
+enum Coding {
     Newer,
     Older,
-    Refused(Refusal),
 }
 
 // The wanted coding where both used lengths are within their runs, else refusal 11.
 fn fitting(
-    wanted: Choice,
+    wanted: Result<Coding, Refusal>,
     older: usize,
     older_used: usize,
     newer: usize,
     newer_used: usize,
-) -> Choice
+) -> Result<Coding, Refusal>
     ensures { result ≡ fitted (length_test older older_used newer newer_used) wanted }
 {
-    if older < older_used {
-        return Choice::Refused(Refusal::BadLength);
-    }
-    if newer < newer_used {
-        return Choice::Refused(Refusal::BadLength);
+    if older < older_used || newer < newer_used {
+        return Err(Refusal::BadLength);
     }
     wanted
 }
@@ -44,15 +39,13 @@ fn choose(
     older_used: usize,
     newer: usize,
     newer_used: usize,
-) -> Choice
+) -> Result<Coding, Refusal>
     ensures { result ≡ choice SLOTS shown own maker older older_used newer newer_used }
 {
-    let said = usable::is_usable(shown, own, maker);
-    match said {
-        Usable::Yes => fitting(Choice::Newer, older, older_used, newer, newer_used),
-        Usable::No => fitting(Choice::Older, older, older_used, newer, newer_used),
-        Usable::Refused(refusal) => Choice::Refused(refusal),
+    if usable::is_usable(shown, own, maker)? {
+        return fitting(Ok(Coding::Newer), older, older_used, newer, newer_used);
     }
+    fitting(Ok(Coding::Older), older, older_used, newer, newer_used)
 }
 
 // The used part of the newer coding if the reader, whose id is `own` or 0 for none, may use it, else of the older; an empty
@@ -77,17 +70,12 @@ pub fn used_part<'a>(
         newer.len(),
         newer_used,
     );
-    match choice {
-        Choice::Newer => {
-            return &newer[..newer_used];
-        }
-        Choice::Older => {
-            return &older[..older_used];
-        }
-        Choice::Refused(_) => {
-            let none = &older[..0];
-            return none;
-        }
+    let Ok(coding) = choice else {
+        return &older[..0];
+    };
+    match coding {
+        Coding::Newer => &newer[..newer_used],
+        Coding::Older => &older[..older_used],
     }
 }
 
@@ -113,11 +101,7 @@ pub fn used_refusal(
         newer_used,
     );
     match choice {
-        Choice::Newer => 0,
-        Choice::Older => 0,
-        Choice::Refused(refusal) => {
-            let said = kinds::tell(refusal);
-            said.number
-        }
+        Ok(_) => 0,
+        Err(refusal) => kinds::number_of(refusal),
     }
 }

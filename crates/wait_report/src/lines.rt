@@ -1,22 +1,10 @@
 // The five lines of a verdict, written where the caller has seen that they have room.
 ghost use Rattle.std.specs.Prelude.{◌+◌, ◌≤◌, length};
-ghost use Rattle.text.specs.Line.{line_text};
 ghost use Rattle.text.specs.Placed.{Placed};
 ghost use Rattle.wait_report.specs.Report.{verdict_lines};
 
 use kinds::Told;
-use text::Put;
-
-fn line(buf: &mut [u8], at: usize, key: &[u8], n: u64) -> usize
-    requires { at + length (line_text key.now n) ≤ length buf.old }
-    ensures { Placed buf.old at (line_text key.now n) buf.new result }
-{
-    let put = text_writer::put_line(buf, at, key, n);
-    match put {
-        Put::Past(end) => end,
-        Put::NoRoom => at,
-    }
-}
+use text_writer::line;
 
 pub fn verdict_lines(buf: &mut [u8], told: Told) -> usize
     requires { 0 + length (verdict_lines told) ≤ length buf.old }

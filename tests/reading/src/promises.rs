@@ -42,15 +42,36 @@ fn exit(said: &[String]) -> Option<&str> {
     (said.len() == 2 && said[1] == LEFT).then(|| said[0].as_str())
 }
 
+/// Past the names that a clause gives to values of its parameters: `let t = .. in`.
+fn named(said: &[String]) -> Option<&[String]> {
+    let mut rest = said;
+    while rest.first().is_some_and(|w| w == "let") {
+        let end = rest.iter().position(|w| w == "in")?;
+        if rest[1..end].iter().any(|w| w == RESULT || w == LEFT) {
+            return None;
+        }
+        rest = &rest[end + 1..];
+    }
+    Some(rest)
+}
+
+/// Whether a λ stands anywhere but on the right side of an equation, or binds the result.
+fn binds(said: &[String]) -> bool {
+    let right = said.iter().position(|w| w == "≡").unwrap_or(said.len());
+    let bound = |at: usize| said[at..].iter().take_while(|w| !w.ends_with('.')).any(|w| w == RESULT);
+    said.iter().enumerate().any(|(at, w)| w == "λ" && (at < right || bound(at)))
+}
+
 /// Reads an `ensures`: one fact of the parameters, of `result`, and of what is left in lent ones.
 pub fn clause(text: &str) -> Clause {
-    let said = words(text);
-    // what a separate part of memory holds, a name for a part, or a clause that binds its result otherwise is not read
-    let other = ["⌜", "⌝", "∗", "λ", "do", "let", "←", "in"];
-    if said.is_empty() || said.iter().any(|w| other.contains(&w.as_str())) {
-        return Clause::Other("not one plain fact".into());
-    }
-    let fact = unwrapped(&said);
+    let all = words(text);
+    // what a separate part of memory holds, or a clause that binds its result otherwise is not read
+    let other = ["⌜", "⌝", "∗", "do", "let", "←", "in"];
+    let said = match named(&all) {
+        Some(said) if !said.is_empty() && !said.iter().any(|w| other.contains(&w.as_str())) && !binds(said) => said,
+        _ => return Clause::Other("not one plain fact".into()),
+    };
+    let fact = unwrapped(said);
     let mentions = |part: &[String], word: &str| part.iter().any(|w| w == word);
     if mentions(fact, "→") {
         return Clause::Other("a promise under a condition".into());
@@ -84,7 +105,8 @@ pub enum Judged<'a> {
 fn written<'a>(code: &Code, f: &'a Function) -> Vec<&'a str> {
     let mutable = |t: &str| words(&t.replace(['&', '[', '<', '>'], " ")).iter().any(|w| w == "mut");
     let holds = |t: &str| code.items.iter().any(|i| mutable(&i.text) && words(&t.replace(['<', '>', '&'], " ")).contains(&i.name));
-    f.parameters.iter().filter(|(n, t)| mutable(t) || holds(t) || n.contains("mut self")).map(|(n, _)| n.as_str()).collect()
+    let lent = f.parameters.iter().filter(|(n, t)| mutable(t) || holds(t) || n.contains("mut self"));
+    lent.map(|(n, _)| if n.contains("self") { "self" } else { n.as_str() }).collect()
 }
 
 /// The crate and the module of definitions from which a file takes a name.
@@ -124,7 +146,13 @@ pub fn judge<'a>(tree: &Tree, code: &Code, logic: &'a Logic, f: &Function) -> Re
             }
             Clause::Left(p, _) => drop(missing.remove(p.as_str())),
             Clause::Predicate(predicate, arguments) => {
-                let (theorem, equal) = theorem(tree, logic, &f.file, &predicate)?;
+                // what is said of a result that an equation gives can but be more
+                let told = f.ensures.iter().any(|e| matches!(clause(e), Clause::Result(_)));
+                let further = told && !arguments.iter().flatten().any(|w| *w == LEFT);
+                let (theorem, equal) = match theorem(tree, logic, &f.file, &predicate) {
+                    Err(_) if further => continue,
+                    told => told?,
+                };
                 for (place, argument) in arguments.iter().enumerate() {
                     let what = if *argument == [RESULT] { Some(ITS) } else { exit(argument) };
                     match what.filter(|_| equal.contains(&place)) {

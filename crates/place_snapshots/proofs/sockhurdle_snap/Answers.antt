@@ -2,41 +2,44 @@
 use mathlib.Core.Path.{refl, sym, ◌∙◌}
 use native.Mathlib.Omega.{arith}
 use lib.Seq.{length-take-le}
+use Rattle.place.proofs.Shaping.{list_fits, list_refused, not_zero}
 use Rattle.place.proofs.Called.{listing_shaped, unfit, unfit_ids}
 use Rattle.place_answers.proofs.Listed.{refused, accepted}
 use Rattle.place_snapshots.proofs.Decided.{snap_test, snap_decided, snap-shown}
 use Rattle.place_snapshots.proofs.sockhurdle_snap.Goals as goal
 
-pub returns-then-shape-ne0 : goal.returns-then-shape-ne0
-returns-then-shape-ne0 c =
+pub returns-in-Err : goal.returns-in-Err
+returns-in-Err c =
     let a = c.args in
-    let e = c.list_shape-shape.ensures in
-    let same = unfit _ _ a.table.now _ e c.if-shape-ne0.true a.out.now in
-    record { result_value = same.result_value; table_after = same.table_after; out_after = same.out_after; ids_after = unfit_ids _ _ a.table.now _ e c.if-shape-ne0.true a.ids.now }
+    let e = list_refused _ _ _ _ c.list_shape.ensures c.in-Err.is c.number_of.ensures in
+    let some = not_zero c.in-Err.refusal c.number_of.ensures in
+    let same = unfit _ _ a.table.now _ e some a.out.now in
+    record { result_value = same.result_value; table_after = same.table_after; out_after = same.out_after; ids_after = unfit_ids _ _ a.table.now _ e some a.ids.now }
 
-pub returns-in-Refuse : goal.returns-in-Refuse
-returns-in-Refuse c =
+pub returns-in-Err-observation_test : goal.returns-in-Err-observation_test
+returns-in-Err-observation_test c =
     let a = c.args in
-    let fit = sym c.list_shape-shape.ensures ∙ c.if-shape-ne0.false in
+    let fit = list_fits _ _ _ _ c.list_shape.ensures c.in_default.is in
     let was = c.counters_in-was.ensures in
     let told = c.refuse.ensures in
-    let tested = snap_test _ a.table.now _ _ was c.observation_test-verdict.ensures ∙ c.in-Refuse.is in
+    let tested = snap_test _ a.table.now _ _ was c.observation_test.ensures ∙ c.in-Err-observation_test.is in
     refused _ _ a.table.now _ a.out.now a.ids.now fit (listing_shaped _ _ _ _ fit) refl tested was told.value told.table_after told.out_after
 
 pub slice_bounds-take_into-end : goal.slice_bounds-take_into-end
 slice_bounds-take_into-end c =
-    let fit = sym c.list_shape-shape.ensures ∙ c.if-shape-ne0.false in
+    let fit = list_fits _ _ _ _ c.list_shape.ensures c.in_default.is in
     let size = (listing_shaped _ _ _ _ fit).runs.size in
     sym (length-take-le _ c.args.table.now (omega arith))
 
 pub returns : goal.returns
 returns c =
     let a = c.args in
-    let fit = sym c.list_shape-shape.ensures ∙ c.if-shape-ne0.false in
+    let fit = list_fits _ _ _ _ c.list_shape.ensures c.in_default.is in
+    let runs = listing_shaped _ _ _ _ fit in
     let was = c.counters_in-was.ensures in
-    let passed = snap_test _ a.table.now _ _ was c.observation_test-verdict.ensures ∙ c.in-Pass.is in
-    let decided = snap_decided _ a.table.now _ _ was passed c.observed-counters.ensures in
+    let passed = snap_test _ a.table.now _ _ was c.observation_test.ensures ∙ c.in_default-observation_test.is in
+    let decided = snap_decided _ a.table.now _ _ was passed c.observed.ensures in
     let shows = snap-shown _ a.table.now _ _ passed in
     let taken = c.take_into-taken.ensures in
     let told = c.give.ensures in
-    accepted _ _ a.table.now _ a.out.now a.ids.now fit (listing_shaped _ _ _ _ fit) decided _ shows taken.value told.value told.table_after told.out_after taken.ids_after
+    accepted _ _ a.table.now _ a.out.now a.ids.now fit runs decided _ shows taken.value told.value told.table_after told.out_after taken.ids_after

@@ -1,9 +1,14 @@
--- What was read lies inside the buffer.
-use mathlib.Core.Path.{sym}
+-- What is written lies inside the buffer.
+use mathlib.Core.Path.{sym, ◌∙◌}
 use native.Mathlib.Omega.{arith}
 use lib.Seq.{length-take-le}
-use borrow.Author.Rules.{rules}
+use Rattle.rewrite.proofs.Rewriting.{inside}
 use Rattle.rewrite.proofs.main.Goals as goal
 
-pub slice_bounds-send-end : goal.slice_bounds-send-end
-slice_bounds-send-end c = sym (length-take-le _ _ (omega (arith, c.if-size-le-ROOM.true)))
+pub slice_bounds-out-end : goal.slice_bounds-out-end
+slice_bounds-out-end c =
+    omega (arith, inside _ _ (sym c.rewrite.ensures.value ∙ c.in-Ok.is))
+
+pub slice_bounds-write_all-end : goal.slice_bounds-write_all-end
+slice_bounds-write_all-end c =
+    sym (length-take-le _ _ (omega (arith, inside _ _ (sym c.rewrite.ensures.value ∙ c.in-Ok.is))))

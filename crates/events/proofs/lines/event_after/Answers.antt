@@ -2,10 +2,10 @@
 use mathlib.Core.Path.{sym, ◌∙◌}
 use Rattle.events.proofs.lines.event_after.Goals as goal
 
-pub returns-in-Are : goal.returns-in-Are
-returns-in-Are c =
-    rw (← c.reads_of.ensures, sym c.fields_at-fields.ensures ∙ c.in-Are.is)
+pub returns-in-Ok : goal.returns-in-Ok
+returns-in-Ok c =
+    rw (← c.reads_of.ensures, sym c.fields_at-fields.ensures ∙ c.in-Ok.is)
 
-pub returns-in-Broken : goal.returns-in-Broken
-returns-in-Broken c =
-    rw (← c.reads_of.ensures, sym c.fields_at-fields.ensures ∙ c.in-Broken.is)
+pub returns-in-Err : goal.returns-in-Err
+returns-in-Err c =
+    rw (← c.reads_of.ensures, sym c.fields_at-fields.ensures ∙ c.in-Err.is)

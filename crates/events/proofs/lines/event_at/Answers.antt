@@ -15,5 +15,5 @@ returns-in_default c =
 pub returns : goal.returns
 unfolding event_at
 returns c =
-    let named = kind_is _ _ (sym c.kind_at.ensures ∙ c.in-Is.is) in
+    let named = kind_is _ _ (sym c.kind_at.ensures ∙ c.in-Some.is) in
     rw (item_named event_shape every_kind _ _ named refl) c.event_after.ensures

@@ -1,7 +1,7 @@
 -- `name_at` meets its contract: the calls, last first, are the definition's list of names.
 use Rattle.grammar.proofs.Said.{first_tried}
 use Rattle.events.specs.Kind.{kind_name, kinds}
-use Rattle.events.specs.declared.names.KindAt.TheVariants.{Is, Unknown}
+use Rattle.events.specs.KindAt.{Is, Unknown}
 use Rattle.events.proofs.names.name_at.Goals as goal
 
 pub returns : goal.returns

@@ -48,13 +48,13 @@ overflow_add-n c = omega arith
 
 pub loop-at-smaller : goal.loop-at-smaller
 loop-at-smaller c =
-    let read = event_is _ _ (sym c.event_at-r.ensures ∙ c.in-Is.is) in
+    let read = event_is _ _ (sym c.event_at-r.ensures ∙ c.in-Ok.is) in
     let m = (under_facts wait_grammar wait_grammar_lem Wait1).moves _ _ _ _ read in
     omega (arith, m.0, m.1)
 
 pub loop-at-preserved : goal.loop-at-preserved
 loop-at-preserved c =
-    let read = event_is _ _ (sym c.event_at-r.ensures ∙ c.in-Is.is) in
+    let read = event_is _ _ (sym c.event_at-r.ensures ∙ c.in-Ok.is) in
     stands_next wait_grammar wait_grammar_lem _ _ _ _ _ _ c.loop-at.invariant read
 
 pub overflow_mul-result : goal.overflow_mul-result
@@ -63,16 +63,16 @@ overflow_mul-result c = omega arith
 pub overflow_add-result : goal.overflow_add-result
 overflow_add-result c = omega arith
 
-pub overflow_add-result-in-Broken : goal.overflow_add-result-in-Broken
-overflow_add-result-in-Broken c =
-    let read = event_is _ _ (sym c.event_at-r.ensures ∙ c.in-Broken.is) in
+pub overflow_add-result-in-Err : goal.overflow_add-result-in-Err
+overflow_add-result-in-Err c =
+    let read = event_is _ _ (sym c.event_at-r.ensures ∙ c.in-Err.is) in
     let small = stands_small wait_grammar wait_grammar_lem _ _ _ _ _ c.loop-at.invariant read in
     omega (arith, small)
 
-pub returns-in-Broken : goal.returns-in-Broken
+pub returns-in-Err : goal.returns-in-Err
 unfolding reading
-returns-in-Broken c =
-    let read = event_is _ _ (sym c.event_at-r.ensures ∙ c.in-Broken.is) in
+returns-in-Err c =
+    let read = event_is _ _ (sym c.event_at-r.ensures ∙ c.in-Err.is) in
     rw (stands_broken wait_grammar wait_grammar_lem _ _ _ _ _ c.loop-at.invariant c.loop-at-test.true read)
 
 pub returns : goal.returns

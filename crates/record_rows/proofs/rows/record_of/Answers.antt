@@ -3,11 +3,11 @@ use mathlib.Core.Path.{sym, ◌∙◌}
 use Rattle.record_rows.specs.Rows.{record_row}
 use Rattle.record_rows.proofs.rows.record_of.Goals as goal
 
-pub returns-in-Is : goal.returns-in-Is
+pub returns-in-Some : goal.returns-in-Some
 unfolding record_row
-returns-in-Is c =
-    rw (sym c.op_of-numbered.ensures ∙ c.in-Is.is) c.of_op.ensures
+returns-in-Some c =
+    rw (sym c.op_of-numbered.ensures ∙ c.in-Some.is) c.of_op.ensures
 
-pub returns-in-Unknown : goal.returns-in-Unknown
+pub returns-in-None : goal.returns-in-None
 unfolding record_row
-returns-in-Unknown c = rw (sym c.op_of-numbered.ensures ∙ c.in-Unknown.is)
+returns-in-None c = rw (sym c.op_of-numbered.ensures ∙ c.in-None.is)

@@ -1,14 +1,9 @@
--- Where there is room, the line is put: `put_line` can't say otherwise (proofs/Placed.antt of crate text).
-use Rattle.text.proofs.Placed.{line_placed, line_there}
+-- There is room, so the line is put (proofs/Placed.antt of crate text).
+use mathlib.Core.Path.{refl}
+use Rattle.text.proofs.Placed.{line_with_room}
 use Rattle.table_writer.proofs.lines.line.Goals as goal
 
-pub returns-in-Past : goal.returns-in-Past
-returns-in-Past c =
+pub returns : goal.returns
+returns c =
     let a = c.args in
-    let p = c.put_line-put.ensures in
-    line_placed a.buf.now a.at a.key.now a.n c.requires p.value p.buf_after c.in-Past.is
-
-pub returns-in-NoRoom : goal.returns-in-NoRoom
-returns-in-NoRoom c =
-    let a = c.args in
-    absurd (line_there a.buf.now a.at a.key.now a.n c.requires c.put_line-put.ensures.value c.in-NoRoom.is)
+    line_with_room a.buf.now a.at a.key.now a.n refl c.line.ensures.buf_after c.line.ensures.value c.requires

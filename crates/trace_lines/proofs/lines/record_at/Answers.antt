@@ -15,5 +15,5 @@ returns-in_default c =
 pub returns : goal.returns
 unfolding record_at
 returns c =
-    let named = op_is _ _ (sym c.op_at.ensures ∙ c.in-Is.is) in
+    let named = op_is _ _ (sym c.op_at.ensures ∙ c.in-Some.is) in
     rw (item_named record_shape every_kind _ _ named refl) c.record_after.ensures

@@ -1,7 +1,7 @@
 -- `name_at` meets its contract: the calls, last first, are the definition's list of names.
 use Rattle.grammar.proofs.Said.{first_tried}
 use Rattle.trace.specs.Op.{op_name, ops}
-use Rattle.trace.specs.declared.ops.OpAt.TheVariants.{Is, Unknown}
+use Rattle.trace.specs.OpAt.{Is, Unknown}
 use Rattle.trace_lines.proofs.ops.name_at.Goals as goal
 
 pub returns : goal.returns

@@ -24,7 +24,7 @@ returns-in_default c =
 
 pub loop-at-init : goal.loop-at-init
 loop-at-init c =
-    let head = header_is _ (sym c.header_at.ensures ∙ c.in-Is.is) in
+    let head = header_is _ (sym c.header_at.ensures ∙ c.in-Some.is) in
     stands_start trace_grammar trace_grammar_lem _ _ _ c.if-s-gt-LONGEST.false head
 
 pub record_under-r-requires : goal.record_under-r-requires
@@ -35,13 +35,13 @@ overflow_add-n c = omega arith
 
 pub loop-at-smaller : goal.loop-at-smaller
 loop-at-smaller c =
-    let read = under_is _ _ _ (sym c.record_under-r.ensures ∙ c.in-Is-r.is) in
+    let read = under_is _ _ _ (sym c.record_under-r.ensures ∙ c.in-Ok.is) in
     let m = (under_facts trace_grammar trace_grammar_lem _).moves _ _ _ _ read in
     omega (arith, m.0, m.1)
 
 pub loop-at-preserved : goal.loop-at-preserved
 loop-at-preserved c =
-    let read = under_is _ _ _ (sym c.record_under-r.ensures ∙ c.in-Is-r.is) in
+    let read = under_is _ _ _ (sym c.record_under-r.ensures ∙ c.in-Ok.is) in
     stands_next trace_grammar trace_grammar_lem _ _ _ _ _ _ c.loop-at.invariant read
 
 pub overflow_mul-result : goal.overflow_mul-result
@@ -50,16 +50,16 @@ overflow_mul-result c = omega arith
 pub overflow_add-result : goal.overflow_add-result
 overflow_add-result c = omega arith
 
-pub overflow_add-result-in-Broken : goal.overflow_add-result-in-Broken
-overflow_add-result-in-Broken c =
-    let read = under_is _ _ _ (sym c.record_under-r.ensures ∙ c.in-Broken.is) in
+pub overflow_add-result-in-Err : goal.overflow_add-result-in-Err
+overflow_add-result-in-Err c =
+    let read = under_is _ _ _ (sym c.record_under-r.ensures ∙ c.in-Err.is) in
     let small = stands_small trace_grammar trace_grammar_lem _ _ _ _ _ c.loop-at.invariant read in
     omega (arith, small)
 
-pub returns-in-Broken : goal.returns-in-Broken
+pub returns-in-Err : goal.returns-in-Err
 unfolding reading
-returns-in-Broken c =
-    let read = under_is _ _ _ (sym c.record_under-r.ensures ∙ c.in-Broken.is) in
+returns-in-Err c =
+    let read = under_is _ _ _ (sym c.record_under-r.ensures ∙ c.in-Err.is) in
     rw (stands_broken trace_grammar trace_grammar_lem _ _ _ _ _ c.loop-at.invariant c.loop-at-test.true read)
 
 pub returns : goal.returns
