@@ -81,6 +81,8 @@ pub struct Item {
 #[derive(Default)]
 pub struct Code {
     pub functions: Vec<Function>,
+    /// What the traits of this repository declare: each impl of it promises the same.
+    pub declared: Vec<Function>,
     /// The modules of each crate by their paths.
     pub modules: BTreeMap<(String, Vec<String>), Module>,
     pub items: Vec<Item>,
@@ -346,18 +348,15 @@ impl<'a> Reader<'a> {
         self.code.items.push(Item { kind, name, open, file, lines, text });
     }
 
-    /// A trait of this repository: each of its functions promises something and asks for nothing, and an impl promises the same.
+    /// A trait of this repository: what its functions promise is judged where they are declared, and an impl promises the same.
     fn a_trait(&mut self, module: &[String], start: usize, open: bool) {
         let name = self.look(1).to_string();
         self.up_to(&["{"]);
         self.at += 1;
         let first = self.code.functions.len();
         self.items_inside(module, true);
-        for f in self.code.functions.split_off(first) {
-            if f.ensures.is_empty() || !f.requires.is_empty() {
-                self.unknown(&format!("{} of {name}, which promises nothing or asks for something", f.name));
-            }
-        }
+        let declared = self.code.functions.split_off(first);
+        self.code.declared.extend(declared.into_iter().map(|f| Function { of_trait: name.clone(), ..f }));
         let lines = self.line(start)..=self.line(self.at - 1);
         let (kind, file, text) = ("trait".to_string(), self.file.to_string(), self.between(start..self.at));
         self.code.items.push(Item { kind, name, open, file, lines, text });

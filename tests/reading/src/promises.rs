@@ -13,6 +13,8 @@ pub enum Clause {
     Result(String),
     /// So does what is left in this parameter.
     Left(String, String),
+    /// The result is at most, or less than, what this says: more of what an equation tells, and no promise without one.
+    Bound(String),
     /// A predicate of the definitions with its arguments.
     Predicate(String, Vec<Vec<String>>),
     /// None of these, and why.
@@ -27,6 +29,7 @@ impl Clause {
             Clause::Result(x) if plain(x) => format!("= {x}"),
             Clause::Left(p, x) if plain(x) => format!("{p} = {x}"),
             Clause::Predicate(p, _) => p.clone(),
+            Clause::Bound(said) => said.clone(),
             _ => "= ..".to_string(),
         }
     }
@@ -90,6 +93,14 @@ pub fn clause(text: &str) -> Clause {
             None => Clause::Result(head),
         };
     }
+    for order in ["≤", "<"] {
+        match &cut(fact, order)[..] {
+            [left, right] if *left == [RESULT] && ![RESULT, LEFT].iter().any(|w| mentions(right, w)) => {
+                return Clause::Bound(format!("{order} {}", right.join(" ")));
+            }
+            _ => {}
+        }
+    }
     let mut parts = atoms(fact);
     let name = if parts.is_empty() { String::new() } else { parts.remove(0).concat() };
     Clause::Predicate(name, parts)
@@ -145,14 +156,9 @@ pub fn judge<'a>(tree: &Tree, code: &Code, logic: &'a Logic, f: &Function) -> Re
                 return Err(format!("what is left in {p} is said by the result, which is not said before"));
             }
             Clause::Left(p, _) => drop(missing.remove(p.as_str())),
+            Clause::Bound(_) => {}
             Clause::Predicate(predicate, arguments) => {
-                // what is said of a result that an equation gives can but be more
-                let told = f.ensures.iter().any(|e| matches!(clause(e), Clause::Result(_)));
-                let further = told && !arguments.iter().flatten().any(|w| *w == LEFT);
-                let (theorem, equal) = match theorem(tree, logic, &f.file, &predicate) {
-                    Err(_) if further => continue,
-                    told => told?,
-                };
+                let (theorem, equal) = theorem(tree, logic, &f.file, &predicate)?;
                 for (place, argument) in arguments.iter().enumerate() {
                     let what = if *argument == [RESULT] { Some(ITS) } else { exit(argument) };
                     match what.filter(|_| equal.contains(&place)) {
@@ -222,6 +228,12 @@ pub fn check(tree: &Tree, code: &Code, logic: &Logic, report: &mut Report) {
             (None, true) => report.expect(false, || format!("docs/EXCEPTIONS.md: {id} needs no grounds")),
             _ => report.expect(true, String::new),
         }
+    }
+    for f in &code.declared {
+        let id = format!("{}::{}::{}", f.krate, f.of_trait, f.name);
+        report.expect(f.requires.is_empty(), || format!("{id}: a trait's function with a requires"));
+        let why = judge(tree, code, logic, f).err();
+        report.expect(why.is_none(), || format!("{id}: {}", why.unwrap_or_default()));
     }
     report.none("docs/EXCEPTIONS.md: no public function", &named.difference(&ids).cloned().collect::<Vec<_>>());
     for theorem in logic.unique() {
