@@ -11,6 +11,8 @@ use std::collections::BTreeSet;
 pub enum Clause {
     /// The result equals what begins with this word.
     Result(String),
+    /// What the result refers to does.
+    Held(String),
     /// So does what is left in this parameter.
     Left(String, String),
     /// The result is at most, or less than, what this says: more of what an equation tells, and no promise without one.
@@ -38,6 +40,8 @@ impl Clause {
 /// What a clause calls the value that the function returns, and what it reads off a lent parameter once that has returned.
 const RESULT: &str = "result";
 const LEFT: &str = ".new";
+/// What it reads off a reference: what that refers to.
+const NOW: &str = ".now";
 
 /// The name of a parameter whose value at the end this is: `p.new`.
 fn exit(said: &[String]) -> Option<&str> {
@@ -87,9 +91,10 @@ pub fn clause(text: &str) -> Clause {
         return match exit(left) {
             Some(_) if mentions(right, LEFT) => Clause::Other("its right side mentions what is left".into()),
             Some(p) => Clause::Left(p.to_string(), head),
-            None if *left != [RESULT] => Clause::Other("an equation of something else than the result".into()),
+            None if *left != [RESULT] && *left != [RESULT, NOW] => Clause::Other("an equation of something else than the result".into()),
             None if mentions(right, RESULT) => Clause::Other("its right side mentions the result".into()),
             None if mentions(right, LEFT) => Clause::Other("its right side mentions what is left".into()),
+            None if left.len() == 2 => Clause::Held(head),
             None => Clause::Result(head),
         };
     }
@@ -157,6 +162,9 @@ pub fn judge<'a>(tree: &Tree, code: &Code, logic: &'a Logic, f: &Function) -> Re
             }
             Clause::Left(p, _) => drop(missing.remove(p.as_str())),
             Clause::Bound(_) => {}
+            // of a trait's own function that is enough: no caller outside sees where it lies
+            Clause::Held(_) if !f.of_trait.is_empty() => drop(missing.remove(ITS)),
+            Clause::Held(_) => return Err("it says what its result holds, and not where that lies".into()),
             Clause::Predicate(predicate, arguments) => {
                 let (theorem, equal) = theorem(tree, logic, &f.file, &predicate)?;
                 for (place, argument) in arguments.iter().enumerate() {

@@ -70,6 +70,12 @@ fn a_bound_says_more_of_what_an_equation_tells() {
 }
 
 #[test]
+fn what_a_result_refers_to_is_not_all_of_it() {
+    assert!(open("x: u64", " -> &'static [u8]", &["result.now ≡ g x"])[0].contains("and not where that lies"));
+    assert!(open("x: u64", " -> &'static [u8]", &["result.now ≡ result.now"])[0].contains("mentions the result"));
+}
+
+#[test]
 fn a_name_for_what_a_parameter_holds_is_read_through() {
     let none = Vec::<String>::new();
     assert_eq!(open("x: T", " -> u64", &["let t = h x.entry in result ≡ g t.a t.b"]), none);
@@ -109,6 +115,7 @@ fn what_a_trait_declares_is_judged_where_it_is_declared() {
         failures(&crate_a(&lib, &[]), THEME)
     };
     assert_eq!(of("        ensures { result ≡ g (m self) x }"), Vec::<String>::new());
+    assert_eq!(of("        ensures { result.now ≡ g (m self) x }"), Vec::<String>::new());
     assert!(of("        ensures { result ≡ result }")[0].contains("a::T::f: its right side mentions the result"));
     assert!(of("        ensures { P x result }")[0].contains("no theorem says"));
     assert!(of("        requires { x < 2 }\n        ensures { result ≡ g x }")[0].contains("a trait's function with a requires"));
