@@ -1,51 +1,80 @@
-// The line of an op.
-ghost use Rattle.std.specs.Prelude.{◌+◌, ◌<◌, ◌≡◌, length};
-ghost use Rattle.grammar.specs.Names.{first_named, if_named, say_name};
-ghost use Rattle.trace.specs.OpAt.{Is, Unknown};
-ghost use Rattle.trace.specs.Op.{op_name, ops, op_at};
+// What the items of a trace are: records, each named by its op.
+ghost use Rattle.std.specs.Prelude.{◌≡◌};
+ghost use Rattle.trace.specs.Op.{op_at};
+ghost use Rattle.trace.specs.Record.{record_shape};
 
-use trace::Op;
+use items::Items;
+use text::{Reads, Values};
+use trace::{Op, Record};
 
-// `op` and the place past its name, where the name stands at `at`, and `other` where it doesn't.
-fn try_name(
-    s: &[u8],
-    at: usize,
-    name: &[u8],
-    op: Op,
-    other: Option<(Op, usize)>,
-) -> Option<(Op, usize)>
-    requires { 0 < length name.now }
-    ensures { result ≡ if_named s.now at name.now (Is op (at + length name.now)) other }
-{
-    if text::bytes_at(s, at, name) {
-        return Some((op, at + name.len()));
+const OPS: [Op; 10] = [
+    Op::Begin,
+    Op::End,
+    Op::Snap,
+    Op::Own,
+    Op::Oldest,
+    Op::Vacuum,
+    Op::Stamp,
+    Op::Finish,
+    Op::Pin,
+    Op::Unpin,
+];
+
+pub struct Records;
+
+impl Items for Records {
+    type Kind = Op;
+    type Item = Record;
+
+    ghost shape = { record_shape };
+
+    fn key() -> &'static [u8] {
+        b"op="
     }
-    other
-}
 
-// The op whose name, with its newline, stands at `at`. All ten are compared; no two can stand at
-// one place.
-fn name_at(s: &[u8], at: usize) -> Option<(Op, usize)>
-    ensures { result ≡ say_name Is Unknown (first_named op_name ops s.now at) }
-{
-    let unpin = try_name(s, at, b"unpin\n", Op::Unpin, None);
-    let pin = try_name(s, at, b"pin\n", Op::Pin, unpin);
-    let finish = try_name(s, at, b"finish\n", Op::Finish, pin);
-    let stamp = try_name(s, at, b"stamp\n", Op::Stamp, finish);
-    let vacuum = try_name(s, at, b"vacuum\n", Op::Vacuum, stamp);
-    let oldest = try_name(s, at, b"oldest\n", Op::Oldest, vacuum);
-    let own = try_name(s, at, b"own\n", Op::Own, oldest);
-    let snap = try_name(s, at, b"snap\n", Op::Snap, own);
-    let end = try_name(s, at, b"end\n", Op::End, snap);
-    try_name(s, at, b"begin\n", Op::Begin, end)
+    fn fourth() -> &'static [u8] {
+        b"stamp="
+    }
+
+    fn kinds() -> &'static [Op] {
+        &OPS
+    }
+
+    fn name(op: Op) -> &'static [u8] {
+        match op {
+            Op::Begin => b"begin\n",
+            Op::End => b"end\n",
+            Op::Snap => b"snap\n",
+            Op::Own => b"own\n",
+            Op::Oldest => b"oldest\n",
+            Op::Vacuum => b"vacuum\n",
+            Op::Stamp => b"stamp\n",
+            Op::Finish => b"finish\n",
+            Op::Pin => b"pin\n",
+            Op::Unpin => b"unpin\n",
+        }
+    }
+
+    fn reads(op: Op) -> Reads {
+        trace::reads_of(op)
+    }
+
+    fn item(op: Op, values: Values) -> Record {
+        Record {
+            op,
+            slot: values.slot,
+            id: values.id,
+            stamp: values.fourth,
+            clock: values.clock,
+            sample: values.sample,
+        }
+    }
 }
 
 // The op whose line stands at `at`.
+#[tactic(auto, unfolding(trace::specs::Op::op_at))]
 pub fn op_at(s: &[u8], at: usize) -> Option<(Op, usize)>
     ensures { result ≡ op_at s.now at }
 {
-    if text::bytes_at(s, at, b"op=") {
-        return name_at(s, at + 3);
-    }
-    None
+    items::kind_at::<Records>(s, at)
 }
