@@ -6,7 +6,7 @@ ghost use Rattle.op_numbers.specs.Numbers.{op_number, op_numbered};
 
 use trace::Op;
 
-// The number of an op.
+// The number of an op. No `From` and `TryFrom`: those would stand in the crate of `Op`, and the order is stated here, once.
 pub fn op_number(op: Op) -> u64
     ensures { result ≡ op_number op }
 {

@@ -2,7 +2,7 @@
 ghost use Rattle.std.specs.Prelude.{◌≡◌};
 ghost use Rattle.trace.specs.Record.{record_at, record_under};
 
-use crate::ops::{Records, op_at};
+use crate::records::{Records, op_at};
 use trace::{Record, Version};
 
 // The record at `at` under some header that is known, or the first of its six lines that breaks a rule.
