@@ -49,6 +49,7 @@ pub struct Events;
 
 impl Items for Events {
     type Kind = Kind;
+
     type Item = Event;
 
     ghost shape = { event_shape };

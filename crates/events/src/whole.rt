@@ -14,7 +14,9 @@ struct Wait;
 #[tactic(auto, unfolding(crate::specs::Event::event_at))]
 impl Format for Wait {
     type Head = Header;
+
     type Kind = Kind;
+
     type Item = Event;
 
     ghost grammar = { wait_grammar };

@@ -6,9 +6,9 @@ use mathlib.Core.List.{List, ◌∷◌}
 use mathlib.Core.Bool.{Bool, true, false, cond}
 use lib.ListN.{length, get_or, drop}
 use Rattle.std.proofs.Math.Seq.{drop-cons}
-use Rattle.std.specs.Prelude.{Option, Some, None}
+use Rattle.std.specs.Prelude.{Some, None}
 use Rattle.text.specs.Bytes.{starts}
-use Rattle.grammar.specs.Names.{NameAt, Named, first_named}
+use Rattle.grammar.specs.Names.{Named, first_named}
 
 pub past_some : (b : Bool) (n : ℕ) {p : ℕ} → cond b (Some n) None ≡ Some p → (b ≡ true) × (n ≡ p)
 past_some true n h = (refl, cc)

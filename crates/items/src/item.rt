@@ -8,6 +8,7 @@ use text::{Reads, Values};
 // What the items of a text are.
 pub trait Items {
     type Kind: Copy + 'static;
+
     type Item: Copy;
 
     ghost shape: { Shape Self.Kind Self.Item };

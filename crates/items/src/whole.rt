@@ -11,7 +11,9 @@ pub const LONGEST: usize = 65536;
 pub trait Format {
     // Which first line a text has, what an item's own first line names, and an item.
     type Head: Copy;
+
     type Kind;
+
     type Item: Copy;
 
     ghost grammar: { Grammar Self.Head Self.Kind Self.Item };

@@ -24,6 +24,7 @@ pub struct Records;
 
 impl Items for Records {
     type Kind = Op;
+
     type Item = Record;
 
     ghost shape = { record_shape };

@@ -13,7 +13,9 @@ struct Trace;
 #[tactic(auto, unfolding(trace::specs::Version::header_at, trace::specs::Record::record_under))]
 impl Format for Trace {
     type Head = Version;
+
     type Kind = Op;
+
     type Item = Record;
 
     ghost grammar = { trace_grammar };

@@ -1,8 +1,5 @@
-use mathlib.Core.Path.{◌≡◌, sym, ◌∙◌}
-use mathlib.Core.List.{◌∷◌}
-use lib.ListN.{drop}
+use mathlib.Core.Path.{sym, ◌∙◌}
 use native.Mathlib.Omega.{arith}
-use Prim.Native.Nat.{◌+◌}
 use Rattle.std.proofs.lemmas.List.{drop_all}
 use Rattle.grammar.specs.Names.{first_named}
 use Rattle.items.proofs.Names.{past_some, past_none, left_at, first_here, first_later}
