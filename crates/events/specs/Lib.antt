@@ -1,6 +1,6 @@
 pub mod Event
 pub mod EventAt
 pub mod Kind
-pub mod KindAt
+pub mod Laws
 pub mod Reading
 pub mod Wait

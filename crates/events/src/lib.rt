@@ -1,12 +1,18 @@
 // What others did to the table while one waited, as text: a header and events of six lines, read and judged line by line.
 #![tactic(auto)]
 
+mod kinds;
 mod lines;
-mod names;
 mod whole;
 
 pub use lines::event_at;
 pub use whole::{LONGEST, first_event, read_wait};
+
+// The one first line that is known, `wait=proc-1`.
+#[derive(Clone, Copy)]
+pub enum Header {
+    Wait1,
+}
 
 // The events that a wait can name.
 #[derive(Clone, Copy)]

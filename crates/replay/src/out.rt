@@ -50,6 +50,7 @@ fn run_to(s: &[u8], version: Version, count: usize, to: i32) -> Result<Gone, Sto
     let mut table = table::fresh();
     let mut at = trace::first_record();
     let mut gone = nothing(to);
+    // No `for`: the next part starts where this one stopped for want of room.
     while at != s.len() {
         let part = run_part(version, s, at, table, &mut buf);
         gone = hand_on(s, gone, &buf[..part.filled])?;

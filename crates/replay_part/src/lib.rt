@@ -28,6 +28,7 @@ pub fn run_part(version: Version, s: &[u8], from: usize, table: Table, buf: &mut
         at: from,
         filled: 0,
     };
+    // No `for`: where the next record stands is known only once this one was read.
     while run.at != s.len() {
         let Ok((record, next)) = reader::next_record(s, run.at) else {
             return run;

@@ -15,6 +15,7 @@ pub fn run_steps(table: Table, owner: Option<Registration>, s: &[u8]) -> Result<
     let mut now = table;
     let mut at = events::first_event();
     let mut step: u64 = 1;
+    // No `for`: where the next event stands is known only once this one was read.
     while let Ok((event, next)) = events::event_at(s, at) {
         if !wait_rules::keeps_rule(&now.txids, now.counters, owner, event) {
             return Err(Refusal::BadStep(step));
