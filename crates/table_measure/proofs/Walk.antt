@@ -4,9 +4,14 @@ use Prim.Native.Nat.{ℕ, ◌+◌, ◌≤◌, ◌<◌}
 use native.Mathlib.Omega.{arith}
 use native.Mathlib.Numerals.{add-one}
 use mathlib.Core.Path.{◌≡◌, refl, sym, ap, ◌∙◌}
+use mathlib.Core.Logic.{inl, inr}
 use mathlib.Core.List.{List, [], ◌∷◌, ◌++◌, append_assoc, append-nil}
 use lib.ListN.{length, drop, get_or, drop_of_length-le, length-append}
 use lib.Seq.{drop-cons}
+use Rattle.std.proofs.Common.{Iter, None}
+use Rattle.std.specs.declared.iter.Zip.{Zip}
+use Rattle.std.specs.Iterator.Adapters.{zip_first, zip_second, zip_steps}
+use Rattle.std.specs.Slice.Iter.{iter_rest, iter_steps}
 use Rattle.model.specs.declared.Counters.{Counters}
 use Rattle.model.specs.declared.Table.{Table}
 use Rattle.text.specs.Bytes.{bytes}
@@ -127,10 +132,16 @@ module _ (pins : List ℕ) (c : Counters) {x y : ℕ} {xs ys us vs : List ℕ} (
   pub slot_counted : length (lines_under xs ys pins c) ≡ length (slot_lines x y) + length (lines_under us vs pins c)
   slot_counted = ap length slot_here ∙ length-append (slot_lines x y) (lines_under us vs pins c)
 
-pub slots_over : (pins : List ℕ) (c : Counters) (xs ys : List ℕ) → length xs ≡ 0 → length ys ≡ 0 → lines_under xs ys pins c ≡ pin_lines pins c
-slots_over pins c [] [] h k = under_none pins c
-slots_over pins c [] (y ∷ ys) h k = absurd (omega arith)
-slots_over pins c (x ∷ xs) ys h k = absurd (omega arith)
+no_slot : (pins : List ℕ) (c : Counters) (xs ys : List ℕ) → length xs ≡ 0 → length ys ≡ 0 → lines_under xs ys pins c ≡ pin_lines pins c
+no_slot pins c [] [] h k = under_none pins c
+no_slot pins c [] (y ∷ ys) h k = absurd (omega arith)
+no_slot pins c (x ∷ xs) ys h k = absurd (omega arith)
+
+pub slots_over : (pins : List ℕ) (c : Counters) (s : Zip (Iter ℕ) (Iter ℕ)) → length (iter_rest (zip_second s)) ≡ length (iter_rest (zip_first s))
+    → zip_steps (iter_steps {A = ℕ}) (iter_steps {A = ℕ}) s None s
+    → lines_under (iter_rest (zip_first s)) (iter_rest (zip_second s)) pins c ≡ pin_lines pins c
+slots_over pins c s h (inl e) = no_slot pins c _ _ (omega arith) (omega arith)
+slots_over pins c s h (inr e) = no_slot pins c _ _ (omega arith) (omega arith)
 
 -- a pin and those after it, and no pin
 module _ (pins : List ℕ) (c : Counters) (k : ℕ) where
