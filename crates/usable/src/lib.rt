@@ -25,6 +25,7 @@ pub fn is_usable_among(
 ) -> Result<bool, Refusal>
     ensures { UsableFits SLOTS xmax ids.now count own id result }
 {
+    // The parts stay parameters: DECISIONS and SPEED name this call too, and the settled test takes them so.
     let below = asked_below(xmax, own, id);
     let settled = settled::is_settled_among(ids, count, below, id)?;
     if own == id {
