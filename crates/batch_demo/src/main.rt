@@ -5,8 +5,12 @@
 
 use batch::BadVersion;
 use numbers_in::Numbers;
-use std::io;
-use std::io::Read;
+use std::fmt;
+
+const STDIN_FILENO: i32 = 0;
+
+// The most bytes of input that are read. They stand in an array, as the run does: with no heap, no memory can run out.
+const INPUT: usize = 131072;
 
 // The most places of a run, and the most versions.
 const ROOM: usize = 2048;
@@ -27,8 +31,8 @@ fn spell(run: &mut [u8]) {
 }
 
 // A place of the run as it is printed; what is neither a decision nor a letter is told by a question mark.
-fn mark(place: &u8) -> char {
-    match *place {
+fn mark(place: u8) -> char {
+    match place {
         0 => '0',
         1 => '1',
         letter @ b'a'..=b'z' => char::from(letter),
@@ -36,10 +40,21 @@ fn mark(place: &u8) -> char {
     }
 }
 
-fn main(rt: HostRuntime) -> io::Result<()> {
-    let mut input = Vec::new(rt.alloc());
-    rt.reader().read_to_end(&mut input)?;
-    let mut numbers = Numbers::new(&input);
+// A run as it is printed.
+#[derive(Clone, Copy)]
+struct Marked<'a>(&'a [u8]);
+
+impl fmt::Display for Marked<'_> {
+    fn fmt<W: fmt::Write>(&self, f: &mut fmt::Formatter<W>) -> fmt::Result {
+        for place in self.0 {
+            f.write_char(mark(*place))?;
+        }
+        Ok(())
+    }
+}
+
+fn decide(rt: &impl Print, input: &[u8]) -> std::io::Result<()> {
+    let mut numbers = Numbers::new(input);
     let line = numbers.next_number();
     let room = numbers.next_number() as usize;
     let many = numbers.next_number() as usize;
@@ -58,9 +73,13 @@ fn main(rt: HostRuntime) -> io::Result<()> {
             }
         }
     }
-    if room <= run.len() {
-        let shown: String = run[..room].iter().map(mark).collect(rt.alloc())?;
-        print!(rt; "{shown}")?;
-    }
-    println!(rt; "")
+    let shown = if room <= run.len() { room } else { 0 };
+    println!(rt; "{}", Marked(&run[..shown]))
+}
+
+fn main(rt: HostRuntime) {
+    let mut input = [0; INPUT];
+    let size = io::read_full(STDIN_FILENO, &mut input);
+    // Where a print fails, nobody is left to tell.
+    let _ = decide(&rt, &input[..size]);
 }

@@ -2,8 +2,9 @@
 #![tactic(auto)]
 
 use kinds::Refusal;
-use std::io::{Read, Write};
 use std::{fmt, io};
+
+const STDIN_FILENO: i32 = 0;
 
 // One byte more than a trace may have, to know that there is one; and the most records that one may have.
 const ROOM: usize = trace::LONGEST + 1;
@@ -43,25 +44,24 @@ fn cut<'a>(input: &[u8], out: &'a mut [u8; ROOM]) -> Result<&'a [u8], NoCut> {
     Ok(&out[..length.min(ROOM)])
 }
 
-// A read that fails is not the end of the input.
-fn main(rt: HostRuntime) -> io::Result<()> {
-    let mut input = Vec::new(rt.alloc());
-    if rt
-        .reader()
-        .take(ROOM as u64)
-        .read_to_end(&mut input)
-        .is_err()
-    {
-        return eprintln!(rt; "cut: the input could not be read; nothing was written");
+// Writes the text that was cut, or says why none was.
+fn send(rt: &(impl Print + Eprint), input: &[u8]) -> io::Result<()> {
+    let mut out = [0; ROOM];
+    match cut(input, &mut out) {
+        Ok(text) => rt
+            .write_all(text)
+            .or_else(|_| eprintln!(rt; "cut: the output could not be written")),
+        Err(why) => eprintln!(rt; "cut: {why}"),
     }
-    let mut out = [0u8; ROOM];
-    match cut(&input, &mut out) {
-        Ok(text) => {
-            if io::writer(&rt).write_all(text).is_err() {
-                eprintln!(rt; "cut: the output could not be written")?;
-            }
-        }
-        Err(why) => eprintln!(rt; "cut: {why}")?,
-    }
-    Ok(())
+}
+
+// A read that fails is not the end of the input: its size is then above the buffer's.
+fn main(rt: HostRuntime) {
+    let mut input = [0; ROOM];
+    let size = exports::sockhurdle_read(STDIN_FILENO, &mut input);
+    // Where standard error can't be written either, nobody is left to tell.
+    let _told = match input.get(..size) {
+        Some(text) => send(&rt, text),
+        None => eprintln!(rt; "cut: the input could not be read; nothing was written"),
+    };
 }

@@ -111,10 +111,15 @@ fn pins() -> [(&'static str, bool); 6] {
     ]
 }
 
-fn main(rt: HostRuntime) -> io::Result<()> {
-    tell(&rt, &lengths())?;
-    tell(&rt, &whole_runs())?;
-    tell(&rt, &numbers())?;
-    tell(&rt, &records())?;
-    tell(&rt, &pins())
+fn check_all(rt: &impl Print) -> io::Result<()> {
+    tell(rt, &lengths())?;
+    tell(rt, &whole_runs())?;
+    tell(rt, &numbers())?;
+    tell(rt, &records())?;
+    tell(rt, &pins())
+}
+
+fn main(rt: HostRuntime) {
+    // Where a print fails, nobody is left to tell.
+    let _ = check_all(&rt);
 }

@@ -6,35 +6,35 @@ mod again;
 
 use kinds::Told;
 use std::io;
-use std::io::{Read, Write};
+
+const STDIN_FILENO: i32 = 0;
 
 // One byte more than a trace may have, to know that there is one.
 const ROOM: usize = trace::LONGEST + 1;
 
-// A read that fails is not the end of the input.
-fn main(rt: HostRuntime) -> io::Result<()> {
-    let mut input = Vec::new(rt.alloc());
-    if rt
-        .reader()
-        .take(ROOM as u64)
-        .read_to_end(&mut input)
-        .is_err()
-    {
-        return eprintln!(rt; "rewrite: the input could not be read; nothing was written");
-    }
+// Writes a trace again, or says why not.
+fn send(rt: &(impl Print + Eprint), s: &[u8]) -> io::Result<()> {
     let mut out = [0; ROOM];
-    match again::rewrite(&input, &mut out) {
-        Ok(n) => {
-            if io::writer(&rt).write_all(&out[..n]).is_err() {
-                eprintln!(rt;
-                    "rewrite: the output could not be written; what arrived is a beginning of it"
-                )?;
-            }
-        }
+    match again::rewrite(s, &mut out) {
+        Ok(n) => rt.write_all(&out[..n]).or_else(|_| {
+            eprintln!(rt;
+                "rewrite: the output could not be written; what arrived is a beginning of it"
+            )
+        }),
         Err(refusal) => {
             let Told { number, at, .. } = kinds::tell(refusal);
-            eprintln!(rt; "rewrite: refusal {number} at line {at}; nothing was written")?;
+            eprintln!(rt; "rewrite: refusal {number} at line {at}; nothing was written")
         }
     }
-    Ok(())
+}
+
+// A read that fails is not the end of the input: its size is then above the buffer's.
+fn main(rt: HostRuntime) {
+    let mut input = [0; ROOM];
+    let size = exports::sockhurdle_read(STDIN_FILENO, &mut input);
+    // Where standard error can't be written either, nobody is left to tell.
+    let _told = match input.get(..size) {
+        Some(text) => send(&rt, text),
+        None => eprintln!(rt; "rewrite: the input could not be read; nothing was written"),
+    };
 }

@@ -2,7 +2,7 @@
 #![tactic(auto)]
 
 ghost use Rattle.std.specs.Prelude.{◌≡◌};
-ghost use Rattle.tiles.specs.Tiles.{choice, fitted, length_test, NumberFits, PartFits};
+ghost use Rattle.tiles.specs.Tiles.{choice, fitted, length_test, NumberFits, PartFits, UsedFits};
 
 use kinds::{Refusal, SLOTS, Txid};
 use settled::Snapshot;
@@ -48,8 +48,35 @@ fn choose(
     fitting(Ok(Coding::Older), older, older_used, newer, newer_used)
 }
 
-// The used part of the newer coding if the reader, whose id is `own` or 0 for none, may use it, else of the older; an empty
-// part of the older beside a refusal.
+// The used part of the newer coding if the reader, whose id is `own` or 0 for none, may use it, else of the older; or why
+// none is handed out.
+pub fn used<'a>(
+    shown: Snapshot,
+    own: Txid,
+    maker: Txid,
+    older: &'a [u8],
+    older_used: usize,
+    newer: &'a [u8],
+    newer_used: usize,
+) -> Result<&'a [u8], Refusal>
+    ensures { UsedFits SLOTS shown own maker older.entry older_used newer.entry newer_used result }
+{
+    let coding = choose(
+        shown,
+        own,
+        maker,
+        older.len(),
+        older_used,
+        newer.len(),
+        newer_used,
+    )?;
+    match coding {
+        Coding::Newer => Ok(&newer[..newer_used]),
+        Coding::Older => Ok(&older[..older_used]),
+    }
+}
+
+// What `used` hands out; an empty part of the older run beside a refusal.
 pub fn used_part<'a>(
     shown: Snapshot,
     own: Txid,
@@ -61,21 +88,9 @@ pub fn used_part<'a>(
 ) -> &'a [u8]
     ensures { PartFits SLOTS shown own maker older.entry older_used newer.entry newer_used result }
 {
-    let choice = choose(
-        shown,
-        own,
-        maker,
-        older.len(),
-        older_used,
-        newer.len(),
-        newer_used,
-    );
-    let Ok(coding) = choice else {
-        return &older[..0];
-    };
-    match coding {
-        Coding::Newer => &newer[..newer_used],
-        Coding::Older => &older[..older_used],
+    match used(shown, own, maker, older, older_used, newer, newer_used) {
+        Ok(part) => part,
+        Err(_) => &older[..0],
     }
 }
 
@@ -91,16 +106,7 @@ pub fn used_refusal(
 ) -> u64
     ensures { NumberFits SLOTS shown own maker older.entry older_used newer.entry newer_used result }
 {
-    let choice = choose(
-        shown,
-        own,
-        maker,
-        older.len(),
-        older_used,
-        newer.len(),
-        newer_used,
-    );
-    match choice {
+    match used(shown, own, maker, older, older_used, newer, newer_used) {
         Ok(_) => 0,
         Err(refusal) => kinds::number_of(refusal),
     }
