@@ -3,6 +3,7 @@ ghost use Rattle.std.specs.Prelude.{◌≡◌};
 ghost use Rattle.model.specs.Tally.{oldest_of};
 
 // The smallest of `low` and the snapshot_xmin of those of these slots that are taken.
+#[inline(never)]
 fn lowest_among<'a>(txids: &'a [u64], xmins: &'a [u64], low: u64) -> u64
     ensures { result ≡ oldest_of txids.now xmins.now low }
 {

@@ -32,13 +32,12 @@ fn gather(slots: &[u64], before: Found, ids: &mut [u64]) -> Found
 {
     let mut found = before;
     for &id in slots {
-        if id == 0 {
-            continue;
+        if id != 0 {
+            ids[found.count] = id;
+            found.count += 1;
+            found.low = found.low.min(id);
+            found.high = found.high.max(id);
         }
-        ids[found.count] = id;
-        found.count += 1;
-        found.low = found.low.min(id);
-        found.high = found.high.max(id);
     }
     found
 }
