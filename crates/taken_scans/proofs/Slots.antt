@@ -87,6 +87,10 @@ oldest_cut txids xmins low end e =
     let right : take end xmins ≡ take (length txids) xmins = rw e (take_min (length txids) xmins) in
     ap (minimum low) (rw (left, right) (cut txids xmins))
 
+pub cut_as_long :
+    (txids xmins : List ℕ) (end : ℕ) → end ≡ min (length txids) (length xmins) → length (take end txids) ≡ length (take end xmins)
+cut_as_long txids xmins end e = omega (arith, e, length-take end txids, length-take end xmins)
+
 -- one slot more
 pub take_one : (xs : List ℕ) (i : ℕ) → i < length xs → take (i + 1) xs ≡ take i xs ++ (get_or xs i 0 ∷ [])
 take_one xs i h = take-add i 1 xs ∙ rw (from xs i h)
