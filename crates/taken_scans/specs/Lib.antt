@@ -1,3 +1,2 @@
-pub mod Eight
-pub mod Empty
+pub mod Found
 pub mod Taken
