@@ -6,6 +6,7 @@ ghost use Rattle.record_check.specs.Run.{run_passes};
 
 use kinds::{PINS, SLOTS};
 use model::{Counters, Table};
+use std::array;
 
 // One slot of the segment, laid out as the host lays it out.
 #[repr(C)]
@@ -32,17 +33,10 @@ pub fn check_run(slots: &[Slot], rest: Rest) -> bool
     if slots.len() != SLOTS {
         return false;
     }
-    let mut txids = kinds::zeros();
-    let mut snapshot_xmins = kinds::zeros();
-    for (i, slot) in slots.iter().enumerate() {
-        txids[i] = slot.txid;
-        snapshot_xmins[i] = slot.snapshot_xmin;
-    }
-    let pins = rest.pins;
     table_check::check_table(Table {
-        txids,
-        snapshot_xmins,
-        pins,
+        txids: array::from_fn(|i| slots[i].txid),
+        snapshot_xmins: array::from_fn(|i| slots[i].snapshot_xmin),
+        pins: rest.pins,
         counters: Counters {
             clock: rest.clock,
             sampled_clock: rest.sample,
