@@ -1,8 +1,8 @@
 // The table check over a lent run of slot records: the host's shared segment, read where it lies.
 #![tactic(auto)]
 
-ghost use Rattle.std.specs.Prelude.{◌≡◌};
-ghost use Rattle.record_check.specs.Run.{run_passes};
+ghost use Rattle.std.specs.Prelude.{◌≡◌, length};
+ghost use Rattle.record_check.specs.Run.{run_passes, txids_of, xmins_of};
 
 use kinds::{PINS, SLOTS};
 use model::{Counters, Table};
@@ -26,6 +26,22 @@ pub struct Rest {
     pub line: u64,
 }
 
+// The txids of as many records as a table has slots.
+fn txids_of(slots: &[Slot]) -> [u64; SLOTS]
+    requires { length slots.now ≡ SLOTS }
+    ensures { result ≡ txids_of slots.now }
+{
+    array::from_fn(|i| slots[i].txid)
+}
+
+// Their snapshot_xmins.
+fn xmins_of(slots: &[Slot]) -> [u64; SLOTS]
+    requires { length slots.now ≡ SLOTS }
+    ensures { result ≡ xmins_of slots.now }
+{
+    array::from_fn(|i| slots[i].snapshot_xmin)
+}
+
 // The table check of a lent run of any length. A run of another length than a table's is refused before a record is read.
 pub fn check_run(slots: &[Slot], rest: Rest) -> bool
     ensures { result ≡ run_passes SLOTS slots.now rest }
@@ -33,10 +49,11 @@ pub fn check_run(slots: &[Slot], rest: Rest) -> bool
     if slots.len() != SLOTS {
         return false;
     }
+    let pins = rest.pins;
     table_check::check_table(Table {
-        txids: array::from_fn(|i| slots[i].txid),
-        snapshot_xmins: array::from_fn(|i| slots[i].snapshot_xmin),
-        pins: rest.pins,
+        txids: txids_of(slots),
+        snapshot_xmins: xmins_of(slots),
+        pins,
         counters: Counters {
             clock: rest.clock,
             sampled_clock: rest.sample,
