@@ -28,6 +28,7 @@ fn unread_are_zero(reads: Reads, r: Record) -> bool
 }
 
 // The record that a row is, or the first reason why it is none.
+#[tactic(auto, unfolding(crate::specs::Rows::record_row, crate::specs::Rows::of_op))]
 pub fn record_of(row: [u64; 6]) -> Result<Record, NoRecord>
     ensures { result ≡ record_row row }
 {
