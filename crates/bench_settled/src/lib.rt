@@ -19,7 +19,7 @@ pub extern "C" fn bench_settled_slots() -> u64
 }
 
 // What a round adds to the checksum.
-pub(crate) fn marked(sum: u64, round: u64, answer: Result<bool, Refusal>) -> u64 {
+fn marked(sum: u64, round: u64, answer: Result<bool, Refusal>) -> u64 {
     match answer {
         Ok(true) => sum.wrapping_add(round),
         Ok(false) => sum.wrapping_add(1),
@@ -28,14 +28,13 @@ pub(crate) fn marked(sum: u64, round: u64, answer: Result<bool, Refusal>) -> u64
 }
 
 // Each round asks for one id; the ids to ask for go round, and a round in which there is none asks for nothing.
-#[unsafe(no_mangle)]
-pub extern "C" fn bench_settled_lent(
-    ids: &[u64],
-    count: usize,
-    xmax: u64,
+pub(crate) fn each_asked<F: Fn(Txid) -> Result<bool, Refusal>>(
     asked: &[u64],
     rounds: u64,
-) -> u64 {
+    ask: F,
+) -> u64
+    requires { F.IsAlwaysCallable ask }
+{
     let mut sum: u64 = 0;
     let mut at: usize = 0;
     for round in 0..rounds {
@@ -44,10 +43,23 @@ pub extern "C" fn bench_settled_lent(
             continue;
         };
         at += 1;
-        let answer = settled::is_settled_among(ids, count, xmax, Txid(id));
-        sum = marked(sum, round.wrapping_add(1), answer);
+        sum = marked(sum, round.wrapping_add(1), ask(Txid(id)));
     }
     sum
+}
+
+// The settled test, on a snapshot's parts, lent.
+#[unsafe(no_mangle)]
+pub extern "C" fn bench_settled_lent(
+    ids: &[u64],
+    count: usize,
+    xmax: u64,
+    asked: &[u64],
+    rounds: u64,
+) -> u64 {
+    each_asked(asked, rounds, |id| {
+        settled::is_settled_among(ids, count, xmax, id)
+    })
 }
 
 // The snapshot with these ids in its first places.
@@ -74,16 +86,5 @@ pub extern "C" fn bench_settled_by_value(
     rounds: u64,
 ) -> u64 {
     let shown = gathered(ids, count, xmax);
-    let mut sum: u64 = 0;
-    let mut at: usize = 0;
-    for round in 0..rounds {
-        let Some(&id) = asked.get(at) else {
-            at = 0;
-            continue;
-        };
-        at += 1;
-        let answer = settled::is_settled(shown, Txid(id));
-        sum = marked(sum, round.wrapping_add(1), answer);
-    }
-    sum
+    each_asked(asked, rounds, |id| settled::is_settled(shown, id))
 }

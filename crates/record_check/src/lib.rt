@@ -1,11 +1,12 @@
 // The table check over a lent run of slot records: the host's shared segment, read where it lies.
 #![tactic(auto)]
 
-ghost use Rattle.std.specs.Prelude.{◌≡◌};
-ghost use Rattle.record_check.specs.Run.{run_passes};
+ghost use Rattle.std.specs.Prelude.{◌≡◌, length};
+ghost use Rattle.record_check.specs.Run.{run_passes, txids_of, xmins_of};
 
 use kinds::{PINS, SLOTS};
 use model::{Counters, Table};
+use std::array;
 
 // One slot of the segment, laid out as the host lays it out.
 #[repr(C)]
@@ -25,6 +26,22 @@ pub struct Rest {
     pub line: u64,
 }
 
+// The txids of as many records as a table has slots.
+fn txids_of(slots: &[Slot]) -> [u64; SLOTS]
+    requires { length slots.now ≡ SLOTS }
+    ensures { result ≡ txids_of slots.now }
+{
+    array::from_fn(|i| slots[i].txid)
+}
+
+// Their snapshot_xmins.
+fn xmins_of(slots: &[Slot]) -> [u64; SLOTS]
+    requires { length slots.now ≡ SLOTS }
+    ensures { result ≡ xmins_of slots.now }
+{
+    array::from_fn(|i| slots[i].snapshot_xmin)
+}
+
 // The table check of a lent run of any length. A run of another length than a table's is refused before a record is read.
 pub fn check_run(slots: &[Slot], rest: Rest) -> bool
     ensures { result ≡ run_passes SLOTS slots.now rest }
@@ -32,16 +49,10 @@ pub fn check_run(slots: &[Slot], rest: Rest) -> bool
     if slots.len() != SLOTS {
         return false;
     }
-    let mut txids = kinds::zeros();
-    let mut snapshot_xmins = kinds::zeros();
-    for (i, slot) in slots.iter().enumerate() {
-        txids[i] = slot.txid;
-        snapshot_xmins[i] = slot.snapshot_xmin;
-    }
     let pins = rest.pins;
     table_check::check_table(Table {
-        txids,
-        snapshot_xmins,
+        txids: txids_of(slots),
+        snapshot_xmins: xmins_of(slots),
         pins,
         counters: Counters {
             clock: rest.clock,

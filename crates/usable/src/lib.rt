@@ -16,6 +16,7 @@ fn asked_below(xmax: u64, own: Txid, id: Txid) -> u64
 }
 
 // The test on a snapshot's parts, lent. `own` is the reader's id, 0 for none. Refusals 10 and 4 are the settled test's.
+// The list, its count and xmax stay three parameters, as there: a count above the places is an answer.
 pub fn is_usable_among(
     ids: &[u64],
     count: usize,
@@ -28,17 +29,12 @@ pub fn is_usable_among(
     // The parts stay parameters: DECISIONS and SPEED name this call too, and the settled test takes them so.
     let below = asked_below(xmax, own, id);
     let settled = settled::is_settled_among(ids, count, below, id)?;
-    if own == id {
-        return Ok(true);
-    }
-    Ok(settled)
+    Ok(own == id || settled)
 }
 
 // An id is usable exactly when it is settled or the reader's own.
 pub fn is_usable(snapshot: Snapshot, own: Txid, id: Txid) -> Result<bool, Refusal>
     ensures { UsableFits SLOTS snapshot.xmax snapshot.ids snapshot.count own id result }
 {
-    let count = snapshot.count;
-    let xmax = snapshot.xmax;
-    is_usable_among(&snapshot.ids, count, xmax, own, id)
+    is_usable_among(&snapshot.ids, snapshot.count, snapshot.xmax, own, id)
 }

@@ -12,6 +12,7 @@ pub fn change_of(was: Counters, e: Event) -> Change
 {
     let slot = SlotNo(e.slot);
     let number = Stamp(e.id);
+    // What moves goes by the kind, and so do the counters: two matches, since other kinds share an arm in each.
     let moved = match e.kind {
         Kind::Register => SlotChange::Enters {
             slot,

@@ -1,5 +1,5 @@
 // When an event may happen: the rule of each, on lent txids.
-ghost use Rattle.std.specs.Prelude.{◌≡◌, get_or};
+ghost use Rattle.std.specs.Prelude.{◌≡◌};
 ghost use Rattle.kinds.specs.Kinds.{number};
 ghost use Rattle.model.specs.Tables.{lent_txids};
 ghost use Rattle.model.specs.Tests.{reservation_test, observation_test};
@@ -17,13 +17,6 @@ fn may_name(owner: Option<Registration>, slot: u16) -> bool
     usize::from(slot) < SLOTS && owner.is_none_or(|own| own.slot.0 != slot)
 }
 
-// What a slot holds, or 0 past the end.
-fn txid_at(txids: &[u64], slot: u16) -> u64
-    ensures { result ≡ get_or txids.now slot 0 }
-{
-    txids.get(usize::from(slot)).copied().unwrap_or(0)
-}
-
 fn may_reserve(clock: u64, id: u64) -> bool
     ensures { result ≡ passed (reservation_test clock (number id)) }
 {
@@ -37,40 +30,42 @@ fn may_observe(former: u64, clock: u64, sample: u64) -> bool
 }
 
 #[tactic(auto, unfolding(crate::specs::Steps::register_rule))]
-fn may_register(txids: &[u64], clock: u64, owner: Option<Registration>, slot: u16, id: u64) -> bool
-    ensures { result ≡ register_rule SLOTS txids.now clock owner slot id }
+fn may_register(txids: &[u64], clock: u64, owner: Option<Registration>, e: Event) -> bool
+    ensures { result ≡ register_rule SLOTS txids.now clock owner e.slot e.id }
 {
-    may_name(owner, slot) && txid_at(txids, slot) == 0 && may_reserve(clock, id)
+    let held = txids.get(usize::from(e.slot)).copied().unwrap_or(0);
+    may_name(owner, e.slot) && held == 0 && may_reserve(clock, e.id)
 }
 
 #[tactic(auto, unfolding(crate::specs::Steps::end_rule))]
-fn may_end(txids: &[u64], owner: Option<Registration>, slot: u16) -> bool
-    ensures { result ≡ end_rule SLOTS txids.now owner slot }
+fn may_end(txids: &[u64], owner: Option<Registration>, e: Event) -> bool
+    ensures { result ≡ end_rule SLOTS txids.now owner e.slot }
 {
-    may_name(owner, slot) && txid_at(txids, slot) != 0
+    let held = txids.get(usize::from(e.slot)).copied().unwrap_or(0);
+    may_name(owner, e.slot) && held != 0
 }
 
 // The least active id is found as oldest finds the smallest xmin, with the txids for the xmins.
 #[tactic(auto, using(model::proofs::Tally::retained_self), unfolding(crate::specs::Steps::horizon_rule))]
-fn may_set_horizon(txids: &[u64], owner: Option<Registration>, slot: u16, xmin: u64) -> bool
-    ensures { result ≡ horizon_rule SLOTS txids.now owner slot xmin }
+fn may_set_horizon(txids: &[u64], owner: Option<Registration>, e: Event) -> bool
+    ensures { result ≡ horizon_rule SLOTS txids.now owner e.slot e.xmin }
 {
-    let id = txid_at(txids, slot);
-    may_name(owner, slot)
-        && id != 0
-        && 1 <= xmin
-        && xmin <= taken_scans::oldest_retained(txids, txids, id)
+    let held = txids.get(usize::from(e.slot)).copied().unwrap_or(0);
+    may_name(owner, e.slot)
+        && held != 0
+        && 1 <= e.xmin
+        && e.xmin <= taken_scans::oldest_retained(txids, txids, held)
 }
 
-// Whether an event keeps its rule.
+// Whether an event keeps its rule. The kinds stand in one `match`: each rule looks at other parts of the event and of the table.
 #[tactic(auto, unfolding(crate::specs::Steps::event_test, crate::specs::Steps::rule_of))]
 pub fn keeps_rule(txids: &[u64], was: Counters, owner: Option<Registration>, e: Event) -> bool
     ensures { result ≡ event_test SLOTS (lent_txids txids.now was) owner e }
 {
     match e.kind {
-        Kind::Register => may_register(txids, was.clock, owner, e.slot, e.id),
-        Kind::End => may_end(txids, owner, e.slot),
-        Kind::Horizon => may_set_horizon(txids, owner, e.slot, e.xmin),
+        Kind::Register => may_register(txids, was.clock, owner, e),
+        Kind::End => may_end(txids, owner, e),
+        Kind::Horizon => may_set_horizon(txids, owner, e),
         Kind::Reserve => may_reserve(was.clock, e.id),
         Kind::Observe => may_observe(was.clock, e.clock, e.sample),
     }

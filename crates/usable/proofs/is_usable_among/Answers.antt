@@ -14,9 +14,10 @@ returns-in_err-settled c =
 pub returns-then-eq : goal.returns-then-eq
 returns-then-eq c =
     let said = c.in_ok-settled.ensures in
-    usable_own _ _ _ _ _ _ _ said (sym c.if-eq.ensures) ∙ usable_within _ _ _ _ _ _ c.asked_below-below.ensures
+    let own = usable_own _ _ _ _ _ _ _ said (sym c.eq.ensures ∙ c.if-eq.true) ∙ usable_within _ _ _ _ _ _ c.asked_below-below.ensures in
+    rw (c.if-eq.true) own
 
-pub returns : goal.returns
-returns c =
+pub returns-else-eq : goal.returns-else-eq
+returns-else-eq c =
     let said = c.in_ok-settled.ensures in
-    usable_other _ _ _ _ _ _ _ said (sym c.if-eq.ensures) ∙ usable_within _ _ _ _ _ _ c.asked_below-below.ensures
+    usable_other _ _ _ _ _ _ _ said (sym c.eq.ensures ∙ c.if-eq.false) ∙ usable_within _ _ _ _ _ _ c.asked_below-below.ensures
