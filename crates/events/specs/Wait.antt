@@ -8,13 +8,20 @@ use Rattle.grammar.specs.Texts.{Format, Read, whole_text, read_text, count_text,
 use Rattle.grammar.specs.Texts as texts
 use Rattle.grammar.specs.Grammar.{Grammar, format_of}
 use Rattle.events.specs.Event.{event_shape, event_form}
-pub use Rattle.events.specs.declared.Header.{Header}
-pub use Rattle.events.specs.declared.Header.TheVariants.{Wait1}
+use Rattle.events.specs.declared.Header as first
+use Rattle.events.specs.declared.Header.TheVariants as first_line
 use Rattle.events.specs.declared.Kind.{Kind}
 use Rattle.events.specs.declared.Event.{Event}
 use Rattle.events.specs.Reading.{Reading, Whole, Broken}
 
--- what stands after `wait=` in the one first line that is known, with its newline
+-- the one first line that is known, `wait=proc-1`
+abbrev pub Header : Type 0
+Header = first.Header
+
+pattern abbrev pub Wait1 : Header
+Wait1 = first_line.Wait1
+
+-- what stands after `wait=` in it, with its newline
 abbrev pub header_name : Header → List ℕ
 header_name Wait1 = bytes "proc-1\n"
 
