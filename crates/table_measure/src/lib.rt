@@ -30,6 +30,7 @@ fn counter_length(counters: Counters) -> usize
 }
 
 // A pin's key with its `=` and its newline are 5.
+#[tactic(auto, using(crate::proofs::Walk::pin_counted, crate::proofs::Walk::pins_over))]
 fn pins_length(table: &Table) -> usize
     ensures value { result ≡ length (pin_lines table.now.pins table.now.counters) }
     ensures upper_bound { result ≤ 25 * PINS + 81 }
