@@ -1,16 +1,16 @@
 -- The tallies of some slots, and of the slots after them. No law names a number of slots.
 use mathlib.Core.Path.{◌≡◌, refl, sym, ap, ◌∙◌}
-use mathlib.Core.Bool.{Bool, true, false, ◌&&◌, true≢false}
+use mathlib.Core.Bool.{Bool, true, false, true≢false}
 use mathlib.Core.List.{List, [], ◌∷◌, ◌++◌}
-use Prim.Native.Nat.{ℕ, zero, suc, ◌+◌, ◌*◌, ◌/◌, ◌<◌, ◌≤◌, min, max}
+use Prim.Native.Nat.{ℕ, ◌+◌, ◌*◌, ◌/◌, ◌<◌, min, max}
 use native.Mathlib.Omega.{arith}
 use lib.ListN.{length, take, drop, get_or, length-take, take-append-drop}
 use lib.Seq.{take-add}
 use Rattle.std.proofs.Common.{add-one}
-use Rattle.std.proofs.Math.Nat.{mul_comm, mul-suc, mul-le-mul_left, mul-div-le}
+use Rattle.std.proofs.Math.Nat.{mul_comm, mul-suc}
 use Rattle.std.proofs.lemmas.List.{take_min}
 use lib.Dec.{eqb}
-use borrow.Author.Tests.{eq-eqb, ne_eqb}
+use borrow.Author.Tests.{ne_eqb}
 use Rattle.std.specs.List.{list_all}
 use Rattle.std.specs.Simd.{first_chunks}
 use Rattle.kinds.proofs.Lists.{from}

@@ -1,8 +1,8 @@
 -- One turn more, by `take_turn` in Slots.antt: what is found in it stands after what was found before (`gathered_then` in Scan.antt).
-use Rattle.std.proofs.Common.{◌≡◌, ◌+◌, ◌*◌, arith, [], refl, sym, ap, ◌∙◌, length, take, length-take, min, max}
+use Rattle.std.proofs.Common.{◌≡◌, ◌+◌, ◌*◌, arith, [], refl, sym, ap, ◌∙◌, length, take, length-take, max}
 use Rattle.std.proofs.lemmas.List.{take_min}
 use Rattle.taken_scans.proofs.Slots.{take_turn, take_rest}
-use Rattle.taken_scans.proofs.Scan.{Gathered, gathered_none, gathered_then, gathered_room, gathered_nothing, gathered_some}
+use Rattle.taken_scans.proofs.Scan.{gathered_none, gathered_then, gathered_room, gathered_nothing, gathered_some}
 use Rattle.taken_scans.proofs.snapshot.take_into.Goals as goal
 
 pub loop-eight-init : goal.loop-eight-init
