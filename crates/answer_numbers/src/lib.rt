@@ -3,9 +3,10 @@
 
 ghost use Rattle.std.specs.Prelude.{◌≡◌};
 ghost use Rattle.model.specs.Answers.{accepted_with, tells_of, xmin_told, holder_told, numbers_of};
+ghost use Rattle.answer_numbers.specs.Plain.{plain_numbers};
 
 use kinds::{Refusal, Told};
-use model::{Answer, Numbers};
+use model::{Answer, Decision, Numbers};
 
 fn accepted_with(slot: u64, id: u64) -> Told
     ensures { result ≡ accepted_with slot id }
@@ -73,4 +74,12 @@ pub fn numbers_of(
         count,
         holder: holder_told(answer),
     }
+}
+
+// Of a call that shows no snapshot.
+pub fn plain_numbers(decided: Decision) -> Numbers
+    ensures { result ≡ plain_numbers decided }
+{
+    let line = decided.change.counters.vacuum_line;
+    numbers_of(decided.answer, 0, 0, 0, line)
 }

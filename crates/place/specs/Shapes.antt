@@ -4,9 +4,7 @@ use Rattle.std.proofs.lemmas.List.Edits.{sets}
 use Rattle.kinds.specs.declared.refusal.Refusal.TheVariants.{BadImage, NoRoom}
 use Rattle.kinds.specs.Verdicts.{Verdict, Pass, Refuse, then}
 use Rattle.kinds.specs.Refusals.{told}
-use Rattle.model.specs.declared.answer.Decision.{Decision}
 use Rattle.model.specs.declared.answer.Numbers.{Numbers}
-use Rattle.model.specs.Answers.{numbers_of}
 use Rattle.place.specs.Words.{size_of}
 
 -- the words of an answer but for its number and its ids, and how many they are
@@ -20,10 +18,6 @@ head = 8
 -- they stand in the first places, the others stay; a run that is too short stays whole
 unfoldable pub told_in : List ℕ → Numbers → List ℕ
 told_in out a = cond (ltb (length out) head) out (sets out 0 (answer_words a))
-
--- what is told of a call that shows no snapshot
-abbrev pub plain_numbers : Decision → Numbers
-plain_numbers d = numbers_of d.answer 0 0 0 d.change.counters.vacuum_line
 
 -- 18: the table has another length. 12: `out` is too short. 0 where both fit
 unfoldable pub shape_of : ℕ → ℕ → ℕ → ℕ

@@ -10,4 +10,4 @@ mod words;
 pub use in_place::{InPlace, run};
 pub use shape::{HEAD, list_shape, shape_test};
 pub use told::{tell, tell_plain};
-pub use words::{CLOCK, LINE, PINS_FROM, SAMPLE, WORDS, counters_in, store};
+pub use words::{CLOCK, LINE, PINS_FROM, SAMPLE, WORDS, columns_in, counters_in, store};

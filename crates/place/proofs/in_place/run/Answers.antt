@@ -13,11 +13,6 @@ returns-in-Err g c =
     unfit _ _ a.table.now _ (c.number_of.ensures ∙ said ∙ shape_number _ _ _)
     (λ z. told_positive c.in-Err.refusal (sym c.number_of.ensures ∙ z)) a.out.now
 
-pub columns_in-requires : goal.columns_in-requires
-columns_in-requires g c =
-    let said = ap (λ (v : Verdict). (tells v).number) (sym c.shape_test.ensures ∙ c.in_default.is) in
-    (shaped _ _ _ (sym (shape_number _ _ _) ∙ said)).size
-
 pub returns : goal.returns
 returns g c =
     let a = c.args in
