@@ -197,6 +197,10 @@ fn all_that_is_left_is_told_by_the_theorem() {
     let lent = "(n : ℕ) (r s : B) → Part n r → Part n s → (r.now ≡ s.now) × (r.ref_ptr ≡ s.ref_ptr)";
     assert!(uniqueness(&[], lent).is_ok());
     assert!(uniqueness(&[], &lent.replace(" × (r.ref_ptr ≡ s.ref_ptr)", "")).is_err());
+    let seen = "(n : ℕ) (r s : Result B E) → Used n r → Used n s → seen_as r ≡ seen_as s";
+    assert!(uniqueness(&[], seen).is_ok());
+    assert!(uniqueness(&[], &seen.replace("seen_as s", "seen_as r")).is_err());
+    assert!(uniqueness(&[], &seen.replace("seen_as", "size_of")).is_err());
     let lib = function("b: &mut [u8]", " -> R", &["Fits 1 b.new result"]);
     let proof = format!("{USE}{UNIQUE}");
     assert!(fails(&crate_a(&lib, &[("crates/a/proofs/U.antt", &proof)]), THEME, "does not tell"));
