@@ -7,7 +7,7 @@ use crate::{Event, Header, Kind};
 use items::Format;
 
 // The most bytes that a wait may have.
-pub use items::LONGEST;
+pub const LONGEST: usize = items::LONGEST;
 
 struct Wait;
 
