@@ -4,8 +4,8 @@
 mod runs;
 
 use kinds::{PINS, SLOTS};
-use record_check::{Rest, Slot, check_run};
-use runs::{ROOM, beside, empty, full, good, pinned, put};
+use record_check::{Rest, Slot};
+use runs::{ROOM, beside, check_first, empty, full, good, pinned, put};
 use std::io;
 
 // A line for each case: its name, and the check's answer.
@@ -18,7 +18,7 @@ fn tell(rt: &impl Print, cases: &[(&str, bool)]) -> io::Result<()> {
 
 // The check of a run of as many records as a table has slots.
 fn check(run: [Slot; ROOM], clock: u64, sample: u64, line: u64) -> bool {
-    check_run(&run[..SLOTS], beside(clock, sample, line))
+    check_first(run, SLOTS, beside(clock, sample, line))
 }
 
 // What `good` passes with.
@@ -28,19 +28,19 @@ fn usual() -> Rest {
 
 // The check of a good run where pin k holds x.
 fn with_pin(k: usize, x: u64) -> bool {
-    check_run(&good()[..SLOTS], pinned(usual(), k, x))
+    check_first(good(), SLOTS, pinned(usual(), k, x))
 }
 
 fn lengths() -> [(&'static str, bool); 5] {
     let usual = usual();
     [
-        ("no record", check_run(&[], usual)),
-        ("one record too few", check_run(&good()[..SLOTS - 1], usual)),
+        ("no record", check_first(empty(), 0, usual)),
+        ("one record too few", check_first(good(), SLOTS - 1, usual)),
         (
             "as many records as slots",
-            check_run(&good()[..SLOTS], usual),
+            check_first(good(), SLOTS, usual),
         ),
-        ("one record too many", check_run(&good(), usual)),
+        ("one record too many", check_first(good(), ROOM, usual)),
         (
             "damage past the end",
             check(put(good(), SLOTS, 9, 0), 12, 2, 4),

@@ -1,8 +1,9 @@
-// The runs that the cases start from.
-ghost use Rattle.std.specs.Prelude.{◌<◌, length};
+// The runs that the cases start from, and the check of one.
+ghost use Rattle.std.specs.Prelude.{◌≡◌, ◌<◌, ◌≤◌, length, take};
+ghost use Rattle.record_check.specs.Run.{run_passes};
 
 use kinds::SLOTS;
-use record_check::{Rest, Slot};
+use record_check::{Rest, Slot, check_run};
 use std::array;
 
 // Room for one record more than a table has slots.
@@ -64,4 +65,12 @@ pub fn full() -> [Slot; ROOM] {
             snapshot_xmin: id,
         }
     })
+}
+
+// The check of the first `count` records. It stays: a part of what a call answers, lent straight in an argument, got no proof.
+pub(crate) fn check_first(run: [Slot; ROOM], count: usize, rest: Rest) -> bool
+    requires { count ≤ length run }
+    ensures { result ≡ run_passes SLOTS (take count run) rest }
+{
+    check_run(&run[..count], rest)
 }
