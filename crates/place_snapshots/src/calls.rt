@@ -45,7 +45,14 @@ impl Shows for Own {
 
     fn test(self, columns: Columns<'_>) -> Result<Passed, Refusal> {
         let was = columns.counters;
-        own_call::own_test(columns.txids, was, self.slot, self.id, self.clock, self.sample)?;
+        own_call::own_test(
+            columns.txids,
+            was,
+            self.slot,
+            self.id,
+            self.clock,
+            self.sample,
+        )?;
         Ok(Passed {
             sample: self.sample,
             retainer: Retainer::Slot(self.slot),
