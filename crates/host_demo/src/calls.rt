@@ -13,7 +13,7 @@ pub fn value(called: &Outcome) -> u64 {
     }
 }
 
-// The slot that oldest and vacuum name; else 0.
+// The slot that oldest and vacuum name; else 0. A call by value gives back no decision, so `plain_numbers` isn't asked here.
 pub fn holder(called: &Outcome) -> u64 {
     answer_numbers::numbers_of(called.answer, 0, 0, 0, 0).holder
 }

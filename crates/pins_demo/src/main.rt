@@ -7,7 +7,7 @@ use settled::Snapshot;
 use std::io;
 use table::{Answer, SnapshotOutcome, Table};
 
-// The answer's number, and the pin that it carries.
+// The answer's number, and the pin that it carries. A call by value gives back no decision, so `plain_numbers` isn't asked here.
 fn answered(rt: &impl Print, label: &str, answer: Result<Answer, Refusal>) -> io::Result<()> {
     let told = answer_numbers::numbers_of(answer, 0, 0, 0, 0).told;
     print!(rt; "{label}: answer={} pin={}", told.number, told.slot)

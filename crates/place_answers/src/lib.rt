@@ -1,13 +1,17 @@
 // What a call that lists ids leaves in the host's runs (SPEC 20): its change stored, its answer told beside what was taken.
 #![tactic(auto)]
 
+mod shows;
+
 ghost use Rattle.std.specs.Prelude.{◌≡◌};
 ghost use Rattle.place.specs.Words.{stored_words};
-ghost use Rattle.place.specs.Shapes.{told_in, plain_numbers};
+ghost use Rattle.answer_numbers.specs.Plain.{plain_numbers};
+ghost use Rattle.place.specs.Shapes.{told_in};
 ghost use Rattle.place_answers.specs.Taken.{refused_with, taken_numbers};
 
 use kinds::{Refusal, SLOTS};
 use model::{Counters, Decision};
+pub use shows::{Passed, Retainer, Shows, show};
 use taken_scans::Taken;
 
 // Of an accepted call.

@@ -4,13 +4,15 @@
 // leaves `ids`.
 #![tactic(auto)]
 
+mod calls;
+
 ghost use Rattle.std.specs.Prelude.{◌≡◌};
 ghost use Rattle.kinds.specs.Kinds.{slot as slotNo, txid};
 ghost use Rattle.model.specs.Calls.{snap, own};
 ghost use Rattle.place.specs.Calls.{list_number, list_table, list_out, list_ids};
 
+use calls::{Own, Snap};
 use kinds::{SLOTS, SlotNo, Txid};
-use model::{Answer, Change, Decision, SlotChange};
 
 // A plain snapshot, for a reader that isn't registered: the line doesn't respect it.
 #[unsafe(no_mangle)]
@@ -26,21 +28,7 @@ pub extern "C" fn sockhurdle_snap(
     ensures out_after { out.new ≡ list_out SLOTS table.old out.old ids.old (snap clock sample) }
     ensures ids_after { ids.new ≡ list_ids SLOTS table.old out.old ids.old (snap clock sample) }
 {
-    if let Err(refusal) = place::list_shape(table.len(), out.len(), ids.len()) {
-        return kinds::number_of(refusal);
-    }
-    let words = &table[..];
-    let was = place::counters_in(words);
-    if let Err(refusal) = clock_verdicts::observation_test(was.clock, clock, sample) {
-        return place_answers::refuse(table, out, was, refusal);
-    }
-    let taken = taken_scans::take_into(&words[..SLOTS], sample, ids);
-    let change = Change {
-        slot: SlotChange::Stays,
-        counters: counters::observed(was, clock, sample),
-    };
-    let answer = Ok(Answer::Done);
-    place_answers::give(table, out, Decision { change, answer }, taken)
+    place_answers::show(table, out, ids, Snap { clock, sample })
 }
 
 // A transaction's snapshot; its slot retains the xmin until the transaction's next one, or its end.
@@ -59,23 +47,11 @@ pub extern "C" fn sockhurdle_own(
     ensures out_after { out.new ≡ list_out SLOTS table.old out.old ids.old (own (slotNo slot) (txid id) clock sample) }
     ensures ids_after { ids.new ≡ list_ids SLOTS table.old out.old ids.old (own (slotNo slot) (txid id) clock sample) }
 {
-    if let Err(refusal) = place::list_shape(table.len(), out.len(), ids.len()) {
-        return kinds::number_of(refusal);
-    }
-    let words = &table[..];
-    let was = place::counters_in(words);
-    let slot = SlotNo(slot);
-    if let Err(refusal) = own_call::own_test(&words[..SLOTS], was, slot, Txid(id), clock, sample) {
-        return place_answers::refuse(table, out, was, refusal);
-    }
-    let taken = taken_scans::take_into(&words[..SLOTS], sample, ids);
-    let change = Change {
-        slot: SlotChange::Retains {
-            slot,
-            xmin: taken.xmin,
-        },
-        counters: counters::observed(was, clock, sample),
+    let own = Own {
+        slot: SlotNo(slot),
+        id: Txid(id),
+        clock,
+        sample,
     };
-    let answer = Ok(Answer::Done);
-    place_answers::give(table, out, Decision { change, answer }, taken)
+    place_answers::show(table, out, ids, own)
 }

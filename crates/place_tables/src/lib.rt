@@ -6,8 +6,7 @@ ghost use Rattle.place.specs.Words.{size_of};
 ghost use Rattle.place_tables.specs.Tables.{fresh_number, fresh_after, check_number};
 
 use kinds::{Refusal, SLOTS};
-use model::Columns;
-use place::{CLOCK, LINE, PINS_FROM, SAMPLE, WORDS};
+use place::{CLOCK, LINE, SAMPLE, WORDS};
 
 // How many words a table has.
 #[unsafe(no_mangle)]
@@ -43,11 +42,6 @@ pub extern "C" fn sockhurdle_check(table: &[u64]) -> u64
     if table.len() != WORDS {
         return kinds::number_of(Refusal::BadImage);
     }
-    let passes = table_check::check_columns(Columns {
-        txids: &table[..SLOTS],
-        snapshot_xmins: &table[SLOTS..PINS_FROM],
-        pins: &table[PINS_FROM..CLOCK],
-        counters: place::counters_in(table),
-    });
+    let passes = table_check::check_columns(place::columns_in(table));
     u64::from(passes)
 }
