@@ -240,7 +240,12 @@ pub fn check(tree: &Tree, code: &Code, logic: &Logic, report: &mut Report) {
     for f in &code.declared {
         let id = format!("{}::{}::{}", f.krate, f.of_trait, f.name);
         report.expect(f.requires.is_empty(), || format!("{id}: a trait's function with a requires"));
-        let why = judge(tree, code, logic, f).err();
+        // what calls through a trait promises its own outcome; a step of it may leave some of its own open, by a definition
+        let step = |e: &String| match clause(e) {
+            Clause::Predicate(p, arguments) => arguments.iter().any(|a| *a == [RESULT]) && origin(tree, &f.file, &p).is_some(),
+            _ => false,
+        };
+        let why = judge(tree, code, logic, f).err().filter(|_| f.ensures.is_empty() || !f.ensures.iter().all(step));
         report.expect(why.is_none(), || format!("{id}: {}", why.unwrap_or_default()));
     }
     report.none("docs/EXCEPTIONS.md: no public function", &named.difference(&ids).cloned().collect::<Vec<_>>());

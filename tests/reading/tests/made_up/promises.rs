@@ -109,7 +109,7 @@ fn a_lambda_stands_on_the_right_and_binds_no_result() {
 fn what_a_trait_declares_is_judged_where_it_is_declared() {
     let of = |clauses: &str| {
         let lib = format!(
-            "pub trait T {{\n    ghost m: {{ Self → C }};\n    fn f(self, x: u64) -> u64\n{clauses};\n}}\n\npub struct S;\n\n\
+            "ghost use Rattle.a.specs.S.{{Fits}};\n\npub trait T {{\n    ghost m: {{ Self → C }};\n    fn f(self, x: u64) -> u64\n{clauses};\n}}\n\npub struct S;\n\n\
              impl T for S {{\n    ghost m: {{ λ s. c }};\n    fn f(self, x: u64) -> u64 {{\n        1\n    }}\n}}\n"
         );
         failures(&crate_a(&lib, &[]), THEME)
@@ -117,7 +117,9 @@ fn what_a_trait_declares_is_judged_where_it_is_declared() {
     assert_eq!(of("        ensures { result ≡ g (m self) x }"), Vec::<String>::new());
     assert_eq!(of("        ensures { result.now ≡ g (m self) x }"), Vec::<String>::new());
     assert!(of("        ensures { result ≡ result }")[0].contains("a::T::f: its right side mentions the result"));
-    assert!(of("        ensures { P x result }")[0].contains("no theorem says"));
+    assert_eq!(of("        ensures { Fits x result }"), Vec::<String>::new());
+    assert!(of("        ensures { P x result }")[0].contains("no theorem says"), "P is no definition");
+    assert!(of("        ensures { Fits x x }")[0].contains("no theorem says"), "it says nothing of the result");
     assert!(of("        requires { x < 2 }\n        ensures { result ≡ g x }")[0].contains("a trait's function with a requires"));
     assert!(of("")[0].contains("a::T::f: no equation says its result"));
 }
