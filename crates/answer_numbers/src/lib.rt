@@ -66,6 +66,7 @@ pub fn numbers_of(
 ) -> Numbers
     ensures { result ≡ numbers_of answer xmin xmax count vacuum_line }
 {
+    // xmin, xmax and count come one by one: of a snapshot, of what was taken without its ids, or as zeros.
     Numbers {
         told: tells_of(answer),
         xmin: xmin_told(answer, xmin),

@@ -14,6 +14,7 @@ use model::{Answer, Change, Counters, Decision, Outcome, SlotChange, Table};
 pub fn decide_begin(txids: &[u64], was: Counters, number: Stamp) -> Decision
     ensures { result ≡ decision SLOTS (lent_txids txids.now was) (begin number) }
 {
+    // Not lent as `Columns`: by its parameters the contract says which columns the call can't read.
     if let Err(refusal) = clock_verdicts::reservation_test(was.clock, number) {
         return Decision::refused(was, refusal);
     }

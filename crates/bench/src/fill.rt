@@ -4,6 +4,7 @@ use table::Table;
 
 // Layout 0 takes the lower half of the slots, any other takes every second slot.
 fn is_taken(layout: u64, slot: usize) -> bool {
+    // A number and no enum: C hands it in.
     if layout == 0 {
         return slot < SLOTS / 2;
     }

@@ -87,6 +87,7 @@ pub fn carry_out(table: Table, decided: Decision) -> Outcome
 pub fn carry_out_snapshot(table: Table, decided: SnapshotDecision) -> SnapshotOutcome
     ensures { result ≡ record { table = applied table decided.change; answer = decided.answer; snapshot = decided.snapshot } }
 {
+    // No twin of the other: each is the outcome that README names.
     SnapshotOutcome {
         table: apply(table, decided.change),
         answer: decided.answer,

@@ -13,6 +13,7 @@ use model::{Answer, Change, Counters, Decision, Outcome, SlotChange, Table};
 pub fn decide_end(txids: &[u64], was: Counters, slot: SlotNo, id: Txid) -> Decision
     ensures { result ≡ decision SLOTS (lent_txids txids.now was) (end slot id) }
 {
+    // Not lent as `Columns`: by its parameters the contract says which columns the call can't read.
     if let Err(refusal) = verdicts::owner_test(txids, slot, id) {
         return Decision::refused(was, refusal);
     }

@@ -21,6 +21,7 @@ pub fn sockhurdle_replay(input: &[u8], out: &mut [u8]) -> usize
     ensures result_value { result ≡ answer_of SLOTS input.now out.old }
     ensures out_after { out.new ≡ left_of SLOTS input.now out.old }
 {
+    // A number, and no `Option`: C takes it, here and below.
     replay::replay_into(input, out).unwrap_or(0)
 }
 

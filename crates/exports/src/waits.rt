@@ -14,6 +14,7 @@ pub fn sockhurdle_wait(table: &[u8], wait: &[u8], out: &mut [u8]) -> usize
     ensures result_value { result ≡ reported (put_at out.old 0 (report_of SLOTS table.now Nobody wait.now)) }
     ensures out_after { out.new ≡ written out.old 0 (report_of SLOTS table.now Nobody wait.now) }
 {
+    // A number, and no `Option`: C takes it, here and below.
     wait_report::report(table, None, wait, out).unwrap_or(0)
 }
 

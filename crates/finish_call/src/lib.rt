@@ -35,6 +35,7 @@ pub fn decide_finish(
 ) -> Decision
     ensures { result ≡ decision SLOTS (lent_txids txids.now was) (finish slot id number) }
 {
+    // Not lent as `Columns`: by its parameters the contract says which columns the call can't read.
     if let Err(refusal) = finish_test(txids, was.clock, slot, id, number) {
         return Decision::refused(was, refusal);
     }

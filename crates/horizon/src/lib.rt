@@ -13,6 +13,7 @@ use model::Columns;
 const FIRST_PIN: u64 = 2000;
 
 // What is told where nobody holds what was found, less the first pin's number.
+// (One number for slots, pins and nobody: so it is printed, and so C takes it.)
 const NOBODY_PAST_PINS: u64 = 63535;
 
 // The smallest of the sample, the snapshot_xmin of taken slots, and the taken pins.

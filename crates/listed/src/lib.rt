@@ -8,6 +8,7 @@ ghost use Rattle.listed.specs.Listed.{listed};
 pub fn is_listed(ids: &[u64], count: usize, x: u64) -> bool
     ensures { result ≡ listed x (take count ids.now) }
 {
+    // The count is the snapshot's, and no length of the ids: one above their places is refused by whoever asks.
     let (turns, rest) = ids[..count.min(ids.len())].as_chunks::<8>();
     turns.iter().any(|turn| turns::holds(turn, x)) || rest.contains(&x)
 }

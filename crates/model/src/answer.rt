@@ -19,6 +19,7 @@ pub enum Answer {
     Oldest { xmin: u64, holder: u64 },
     // Vacuum: the line, and the holder that oldest would name.
     Line { line: u64, holder: u64 },
+    // (A holder is one number, as it is printed and as C takes it.)
     // Stamp and finish: the stamp.
     Stamped(Stamp),
 }
@@ -67,6 +68,7 @@ pub struct SnapshotDecision {
 // What comes back from a call on a table by value.
 #[derive(Clone, Copy)]
 pub struct Outcome {
+    // Beside the answer, and not within it: a refused call answers a table too.
     pub table: Table,
     pub answer: Result<Answer, Refusal>,
 }

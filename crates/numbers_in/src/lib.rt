@@ -23,6 +23,7 @@ impl<'a> Numbers<'a> {
         ensures value { result ≡ number_at self.old.text.now self.old.at }
         ensures after { self.new ≡ record { text = self.old.text; at = past_of self.old.text.now self.old.at } }
     {
+        // No `Option`: who asks takes none as 0.
         let Some((number, past)) = text::field_at(self.text, self.at, b"n=", u64::MAX) else {
             return 0;
         };

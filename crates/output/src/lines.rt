@@ -14,6 +14,7 @@ fn line(buf: &mut [u8], at: usize, key: &[u8], n: u64) -> usize
     requires { at + (length key.now + 21) ≤ length buf.old }
     ensures { Wrote buf.old at (line_text key.now n) buf.new result (length key.now + 21) }
 {
+    // A name of its own: it says the bound that the lines below add up, where text_writer's says the digits.
     text_writer::line(buf, at, key, n)
 }
 

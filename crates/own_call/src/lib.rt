@@ -36,6 +36,7 @@ pub fn decide_own(
 ) -> SnapshotDecision
     ensures { result ≡ snapshot_decision SLOTS (lent_slots SLOTS txids.now was) (own slot id clock sample) }
 {
+    // Not lent as `Columns`: by its parameters the contract says which columns the call can't read.
     if let Err(refusal) = own_test(txids, was, slot, id, clock, sample) {
         return refused_snapshot(was, refusal);
     }

@@ -21,6 +21,7 @@ pub fn decide_pin<'a>(
 ) -> SnapshotDecision
     ensures { result ≡ snapshot_decision SLOTS (lent_to_pin SLOTS txids.now pins.now was) (pin clock sample) }
 {
+    // Not lent as `Columns`: by its parameters the contract says which columns the call can't read.
     if let Err(refusal) = clock_verdicts::observation_test(was.clock, clock, sample) {
         return refused_snapshot(was, refusal);
     }

@@ -30,6 +30,7 @@ fn send(rt: &(impl Print + Eprint), s: &[u8]) -> io::Result<()> {
 
 // A read that fails is not the end of the input: its size is then above the buffer's.
 fn main(rt: HostRuntime) {
+    // An array: with no heap, no memory can run out.
     let mut input = [0; ROOM];
     let size = exports::sockhurdle_read(STDIN_FILENO, &mut input);
     // Where standard error can't be written either, nobody is left to tell.

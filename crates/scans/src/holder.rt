@@ -18,6 +18,7 @@ fn holder_among(txids: &[u64], xmins: &[u64], xmin: u64) -> Option<usize>
 pub fn lowest_holder<'a>(txids: &'a [u64], xmins: &'a [u64], xmin: u64, otherwise: u64) -> u64
     ensures { result ≡ holder_of txids.now xmins.now xmin otherwise }
 {
+    // `otherwise` is the caller's: a holder is told as one number, of slots or of pins, and there is one for nobody too.
     let end = turns::shorter(txids.len(), xmins.len());
     let (turns, rest) = xmins[..end].as_chunks::<8>();
     for (turn, eight) in turns.iter().enumerate() {

@@ -6,6 +6,7 @@ ghost use Rattle.model.specs.Tally.{lowest_empty};
 pub fn lowest_empty(txids: &[u64]) -> usize
     ensures { result ≡ lowest_empty txids.now }
 {
+    // The number of slots stands for none: a column that is shorter than a table has an empty slot past its end.
     let (turns, _) = txids.as_chunks::<8>();
     let full = turns.iter().take_while(|turn| !turns::holds(*turn, 0));
     let passed = 8 * full.count();

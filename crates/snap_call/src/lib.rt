@@ -14,6 +14,7 @@ use refused::refused_snapshot;
 pub fn decide_snap(txids: &[u64], was: Counters, clock: u64, sample: u64) -> SnapshotDecision
     ensures { result ≡ snapshot_decision SLOTS (lent_slots SLOTS txids.now was) (snap clock sample) }
 {
+    // Not lent as `Columns`: by its parameters the contract says which columns the call can't read.
     if let Err(refusal) = clock_verdicts::observation_test(was.clock, clock, sample) {
         return refused_snapshot(was, refusal);
     }

@@ -9,6 +9,7 @@ const STDOUT_FILENO: i32 = 1;
 
 fn main(rt: HostRuntime) {
     // Where standard error can't be written either, nobody is left to tell.
+    // The statuses are the export's, which C takes as numbers.
     let _told = match exports::sockhurdle_run(STDIN_FILENO, STDOUT_FILENO) {
         1 => eprintln!(rt;
             "sockhurdle: the output could not be written; what arrived is a beginning of it"

@@ -14,6 +14,7 @@ use table::{Change, Counters, SlotChange};
 // Where the answer's text ends, or that it had no room; and what the call changes.
 #[derive(Clone, Copy)]
 pub struct Ran {
+    // The change stands beside `None` too: on columns of no table it is that nothing changes.
     pub put: Option<usize>,
     pub change: Change,
 }

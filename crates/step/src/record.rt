@@ -35,6 +35,7 @@ pub fn run_record(
     let slot = SlotNo(r.slot);
     let id = Txid(r.id);
     let number = Stamp(r.stamp);
+    // Each arm hands on other fields of the record.
     let decided = match r.op {
         Op::Begin => table::decide_begin(txids, was, number),
         Op::End => table::decide_end(txids, was, slot, id),

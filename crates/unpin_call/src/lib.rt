@@ -13,6 +13,7 @@ use model::{Answer, Change, Counters, Decision, Outcome, SlotChange, Table};
 pub fn decide_unpin(pins: &[u64], was: Counters, pin: PinNo) -> Decision
     ensures { result ≡ decision SLOTS (lent_pins pins.now was) (unpin pin) }
 {
+    // Not lent as `Columns`: by its parameters the contract says which columns the call can't read.
     if let Err(refusal) = verdicts::release_test(pins, pin) {
         return Decision::refused(was, refusal);
     }

@@ -10,6 +10,7 @@ pub fn verdict_lines(buf: &mut [u8], told: Told) -> usize
     requires { 0 + length (verdict_lines told) ≤ length buf.old }
     ensures { Placed buf.old 0 (verdict_lines told) buf.new result }
 {
+    // Not output's four lines and one more: those stand under a bound, these take exactly what they say.
     let a = line(buf, 0, b"answer=", told.number);
     let b = line(buf, a, b"slot=", told.slot);
     let c = line(buf, b, b"id=", told.id);
