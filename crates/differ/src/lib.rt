@@ -13,6 +13,7 @@ pub fn txids_differ(txids: &[u64]) -> bool
     ensures { result ≡ differ txids.now }
 {
     let mut marks = [false; MARKS];
+    // By place: the places after this one are searched from it on, and the invariant speaks of it. With the txid beside it, no less is said.
     for i in (0..txids.len()).rev() {
         let txid = txids[i];
         if txid == 0 {
