@@ -7,7 +7,7 @@ ghost use Rattle.ledger_scans.specs.Held.{held_from, held_of};
 use model::Columns;
 
 // The oldest retained xmin, and its holder.
-#[derive(Clone, Copy)]
+#[derive(Clone, Copy, Debug, PartialEq, Eq)]
 pub struct Held {
     pub xmin: u64,
     pub holder: u64,
