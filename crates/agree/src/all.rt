@@ -34,6 +34,7 @@ fn records_agree(s: &[u8], version: Version) -> bool
     let mut calls = [[0u64; 6]; CALLS];
     let mut used = 0;
     let mut at = trace::first_record();
+    // No `for`: where the next record begins is what this one was read to.
     while at != s.len() {
         let Ok((r, next)) = reader::next_record(s, at) else {
             return false;

@@ -14,7 +14,7 @@ use replay_part::run_part;
 use trace::Version;
 
 // What went: all of a trace's answers; or, of a text that is no trace, all of refusal 9.
-#[derive(Clone, Copy)]
+#[derive(Clone, Copy, Debug, PartialEq, Eq)]
 pub enum Gone {
     All(Handed),
     Refused(Handed),
@@ -50,6 +50,7 @@ fn run_to(s: &[u8], version: Version, count: usize, to: i32) -> Result<Gone, Sto
     let mut table = table::fresh();
     let mut at = trace::first_record();
     let mut gone = nothing(to);
+    // No `for`: where the next part begins is how far this one ran.
     while at != s.len() {
         let part = run_part(version, s, at, table, &mut buf);
         gone = hand_on(s, gone, &buf[..part.filled])?;

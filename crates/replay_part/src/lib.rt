@@ -28,6 +28,7 @@ pub fn run_part(version: Version, s: &[u8], from: usize, table: Table, buf: &mut
         at: from,
         filled: 0,
     };
+    // No `for`: where the next record begins is what this one was read to, and the buffer's room may end the walk before.
     while run.at != s.len() {
         let Ok((record, next)) = reader::next_record(s, run.at) else {
             return run;
