@@ -8,14 +8,14 @@ ghost use Rattle.replay.specs.Sent.{handed, WentFits, PieceNext};
 use kinds::SLOTS;
 
 // So many pieces of the text went to a descriptor, each whole.
-#[derive(Clone, Copy, Debug, PartialEq, Eq)]
+#[derive(Clone, Copy)]
 pub struct Handed {
     to: i32,
     pieces: usize,
 }
 
 // A write failed after so many pieces; of the next one some bytes may have gone.
-#[derive(Clone, Copy, Debug, PartialEq, Eq)]
+#[derive(Clone, Copy)]
 pub struct Stopped {
     to: i32,
     pieces: usize,

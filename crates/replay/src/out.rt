@@ -14,7 +14,7 @@ use replay_part::run_part;
 use trace::Version;
 
 // What went: all of a trace's answers; or, of a text that is no trace, all of refusal 9.
-#[derive(Clone, Copy, Debug, PartialEq, Eq)]
+#[derive(Clone, Copy)]
 pub enum Gone {
     All(Handed),
     Refused(Handed),
