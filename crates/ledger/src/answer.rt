@@ -2,7 +2,7 @@
 ghost use Rattle.std.specs.Prelude.{◌≡◌};
 ghost use Rattle.ledger.specs.Said.{listed_by, worked_out};
 
-use crate::retell::retell;
+use crate::retell::{lent, retell};
 use kinds::SLOTS;
 use model::Numbers;
 
@@ -19,7 +19,7 @@ fn ids_beside(count: usize, txids: [u64; SLOTS]) -> [u64; SLOTS]
     ensures { result ≡ listed_by SLOTS count txids }
 {
     if count == 0 {
-        return kinds::zeros();
+        return [0; SLOTS];
     }
     ledger_scans::listed_ids(txids)
 }
@@ -29,7 +29,7 @@ pub fn answer_to(calls: &[[u64; 6]], row: [u64; 6]) -> Said
     ensures { result ≡ worked_out SLOTS calls.now row }
 {
     let t = retell(calls);
-    let numbers = ledger_calls::one_call(t.lend(), row).numbers;
+    let numbers = ledger_calls::one_call(lent(&t), row).numbers;
     Said {
         numbers,
         ids: ids_beside(numbers.count, t.txids),

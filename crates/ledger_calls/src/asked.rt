@@ -12,7 +12,8 @@ use crate::views::{oldest_found, owned, pinned, snapped, unpinned, vacuumed};
 use kinds::{SLOTS, Told};
 use model::Columns;
 
-// A pin's number stands where a slot's does.
+// A pin's number stands where a slot's does. Each arm reads other numbers of the row, so that a table of ten functions of one shape would
+// hand to each of them what it doesn't read.
 #[tactic(auto, unfolding(crate::specs::Rows::row_call, crate::specs::Rows::call_of))]
 fn made(columns: Columns<'_>, row: [u64; 6]) -> Result<Did, Told>
     ensures { or_refused columns.entry.counters result

@@ -12,7 +12,7 @@ pub use asked::one_call;
 use model::{Counters, Numbers};
 
 // What a call moves: one slot, which holds (txid, xmin) now, or one pin, which holds `held`.
-#[derive(Clone, Copy)]
+#[derive(Clone, Copy, Debug, PartialEq, Eq)]
 pub enum Moved {
     Nothing,
     Slot { place: usize, txid: u64, xmin: u64 },
@@ -20,14 +20,14 @@ pub enum Moved {
 }
 
 // .. with the counters that it leaves.
-#[derive(Clone, Copy)]
+#[derive(Clone, Copy, Debug, PartialEq, Eq)]
 pub struct Deed {
     pub moved: Moved,
     pub counters: Counters,
 }
 
 // .. beside what it answers.
-#[derive(Clone, Copy)]
+#[derive(Clone, Copy, Debug, PartialEq, Eq)]
 pub struct Did {
     pub deed: Deed,
     pub numbers: Numbers,

@@ -1,8 +1,8 @@
-// The op of a row's first number.
+// The op of a row's first number. `trace::Op` is the table's: the second engine has an enum of its own.
 ghost use Rattle.std.specs.Prelude.{◌≡◌};
 ghost use Rattle.ledger_calls.specs.Rows.{op_of};
 
-#[derive(Clone, Copy)]
+#[derive(Clone, Copy, Debug, PartialEq, Eq)]
 pub enum Op {
     Begin,
     End,
@@ -16,7 +16,8 @@ pub enum Op {
     Unpin,
 }
 
-// 1 to 9 are the first nine in the order of SPEC 9.2; the tenth has every other number.
+// 1 to 9 are the first nine in the order of SPEC 9.2; the tenth has every other number, so that no number is without an op: there is
+// nothing for a `TryFrom` to refuse, and a `From` would not say which op takes the rest.
 #[tactic(auto, unfolding(crate::specs::Rows::op_of, crate::specs::Rows::try_op))]
 pub fn op_of(n: u64) -> Op
     ensures { result ≡ op_of n }

@@ -1,4 +1,5 @@
-// What is common to the calls: the counters after them, their answers as numbers, and the three kinds of deed.
+// What is common to the calls: the counters after them, their answers as numbers, and the three kinds of deed. Some of it stands in the
+// table's crates too (`counters`, `answer_numbers`): the second engine shares no code with the table's.
 ghost use Rattle.std.specs.Prelude.{◌≡◌};
 ghost use Rattle.kinds.specs.Kinds.{saturating_next};
 ghost use Rattle.model.specs.Tables.{counted};

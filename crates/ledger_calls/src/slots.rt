@@ -7,7 +7,7 @@ ghost use Rattle.ledger_calls.specs.Deeds.{or_refused, did_by};
 
 use crate::Did;
 use crate::parts::{accepted, in_slot, past, plain, stays};
-use kinds::{Refusal, SLOTS, Told, Txid, tell};
+use kinds::{SLOTS, Told};
 use model::Columns;
 
 // The lowest slot that nobody has becomes (number, number). Where all are taken, refusal 1: the number is spent all the same.
@@ -20,7 +20,13 @@ pub fn begun(columns: Columns<'_>, given: u64) -> Result<Did, Told>
     let spent = past(was, given);
     let free = ledger_scans::lowest_free(columns.txids);
     if SLOTS <= free {
-        let full = tell(Refusal::NoFreeSlot(Txid(given)));
+        let full = Told {
+            number: 1,
+            slot: 0,
+            id: given,
+            seen: 0,
+            at: 0,
+        };
         let numbers = plain(full, was.vacuum_line);
         return Ok(stays(numbers, spent));
     }

@@ -7,7 +7,7 @@ ghost use Rattle.ledger_calls.specs.Deeds.{or_refused, did_by};
 
 use crate::Did;
 use crate::parts::{accepted, held, in_pin, in_slot, plain, seen, shown, stays};
-use kinds::{PINS, Refusal, SLOTS, Told, tell};
+use kinds::{PINS, SLOTS, Told};
 use model::{Columns, Counters};
 
 // A snapshot that nobody keeps.
@@ -73,7 +73,13 @@ pub fn pinned(columns: Columns<'_>, clock: u64, sample: u64) -> Result<Did, Told
     ledger_tests::observation(was.clock, clock, sample)?;
     let free = ledger_scans::lowest_free(columns.pins);
     if PINS <= free {
-        return Err(tell(Refusal::NoFreePin));
+        return Err(Told {
+            number: 14,
+            slot: 0,
+            id: 0,
+            seen: 0,
+            at: 0,
+        });
     }
     let used = sample.max(was.vacuum_line);
     let flight = ledger_scans::in_flight(columns.txids, used);

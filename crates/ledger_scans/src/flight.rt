@@ -6,7 +6,7 @@ ghost use Rattle.ledger_scans.specs.Flight.{flight_of};
 use kinds::SLOTS;
 
 // The numbers of a snapshot, without its list.
-#[derive(Clone, Copy)]
+#[derive(Clone, Copy, Debug, PartialEq, Eq)]
 pub struct Flight {
     pub xmin: u64,
     pub xmax: u64,
@@ -37,7 +37,7 @@ pub fn in_flight(txids: &[u64], sample: u64) -> Flight
 pub fn listed_ids(txids: [u64; SLOTS]) -> [u64; SLOTS]
     ensures { result ≡ places SLOTS (active txids) }
 {
-    let mut ids = kinds::zeros();
+    let mut ids = [0u64; SLOTS];
     for (place, &id) in txids.iter().filter(|id| **id != 0).enumerate() {
         ids[place] = id;
     }

@@ -7,7 +7,7 @@ ghost use Rattle.ledger_scans.specs.Held.{held_from, held_of};
 use model::Columns;
 
 // The oldest retained xmin, and its holder.
-#[derive(Clone, Copy)]
+#[derive(Clone, Copy, Debug, PartialEq, Eq)]
 pub struct Held {
     pub xmin: u64,
     pub holder: u64,
@@ -18,6 +18,7 @@ fn held_among(taken: &[u64], xmins: &[u64], first: u16, before: Held) -> Held
     ensures { result ≡ held_from first taken.now xmins.now before }
 {
     let mut held = before;
+    // By place: the library says what `rev` yields of a slice's own items, and nothing of `rev` past `zip` and `enumerate`.
     for place in (0..taken.len().min(xmins.len())).rev() {
         if taken[place] != 0 && xmins[place] <= held.xmin {
             held = Held {

@@ -1,6 +1,7 @@
 // Where the text leaves the program. A contract can't say what a write does outside, so this file is to be read by eye;
 // it is short for that. What is handed to it, in which order and for which descriptor, is proved of its callers.
-// Both structs have private fields: only this file can say that a piece was handed on, or that a write failed.
+// Both structs have private fields: only this file can say that a piece was handed on, or that a write failed. They are two types of
+// one shape, so that neither is taken for the other: after a write that failed nothing more is handed on.
 ghost use Rattle.std.specs.Prelude.{◌≡◌, length};
 ghost use Rattle.replay.specs.Sent.{handed, WentFits, PieceNext};
 

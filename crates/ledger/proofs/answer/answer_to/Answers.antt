@@ -6,4 +6,4 @@ use Rattle.ledger.proofs.answer.answer_to.Goals as goal
 pub returns : goal.returns
 unfolding worked_out
 returns c =
-    rw (← c.retell-t.ensures) (said_is _ _ _ (rw c.lend.ensures at c.one_call.ensures) c.ids_beside.ensures)
+    rw (← c.retell-t.ensures) (said_is _ _ _ (rw c.lent.ensures at c.one_call.ensures) c.ids_beside.ensures)

@@ -5,4 +5,4 @@ use Rattle.ledger.proofs.answer.ids_beside.Goals as goal
 
 pub returns-then-count-eq0 : goal.returns-then-count-eq0
 unfolding listed_by
-returns-then-count-eq0 c = rw (eq-eqb _ _ c.if-count-eq0.true) c.zeros.ensures
+returns-then-count-eq0 c = rw (eq-eqb _ _ c.if-count-eq0.true)

@@ -1,5 +1,6 @@
 -- The observation, then the lowest free pin (crate's proofs/Viewing.antt).
 use mathlib.Core.Path.{refl}
+use Rattle.kinds.specs.Refusals.{told}
 use Rattle.model.specs.Calls.{refusal}
 use Rattle.ledger_calls.proofs.Tells.{passes, first_refuses, turned_down}
 use Rattle.ledger_calls.proofs.Viewing.{pin_takes, pin-full}
@@ -11,9 +12,9 @@ returns-in_err-observation c =
     turned_down _ _ _ _ c.from_residual.ensures.1 refl (first_refuses _ _ c.in_err-observation.ensures)
 
 pub returns-then-free-ge-PINS : goal.returns-then-free-ge-PINS
+unfolding told
 returns-then-free-ge-PINS c =
-    rw c.tell.ensures
-    (pin-full _ _ _ _ (passes _ c.in_ok-observation.ensures) c.lowest_free-free.ensures c.if-free-ge-PINS.true)
+    pin-full _ _ _ _ (passes _ c.in_ok-observation.ensures) c.lowest_free-free.ensures c.if-free-ge-PINS.true
 
 pub returns : goal.returns
 returns c =
