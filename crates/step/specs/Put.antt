@@ -2,14 +2,15 @@
 use Rattle.std.specs.Prelude.{ℕ, ◌≡◌, List, []}
 use Rattle.model.specs.declared.answer.Decision.{Decision}
 use Rattle.model.specs.declared.answer.SnapshotDecision.{SnapshotDecision}
-use Rattle.model.specs.Answers.{numbers_of, numbers_beside, listing}
+use Rattle.model.specs.Answers.{numbers_beside, listing}
+use Rattle.answer_numbers.specs.Plain.{plain_numbers}
 use Rattle.trace.specs.declared.Version.{Version}
 use Rattle.output.specs.Output.{answer_text, put_text, left_text}
 use Rattle.step.specs.declared.Ran.{Ran}
 
 -- a call that shows no snapshot tells of one of zeros, and lists nothing
 abbrev pub plain_text : Version → Decision → List ℕ
-plain_text v d = answer_text v (numbers_of d.answer 0 0 0 d.change.counters.vacuum_line) []
+plain_text v d = answer_text v (plain_numbers d) []
 
 abbrev pub plain_ran : Version → ℕ → Decision → List ℕ → ℕ → Ran
 plain_ran v n d xs at = record { put = put_text v n xs at 0 (plain_text v d); change = d.change }

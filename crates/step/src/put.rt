@@ -10,10 +10,9 @@ use trace::Version;
 pub fn put_plain(version: Version, decided: Decision, buf: &mut [u8], at: usize) -> Ran
     ensures { PlainPut version SLOTS decided buf.old at buf.new result }
 {
-    let change = decided.change;
-    let line = change.counters.vacuum_line;
-    let numbers = answer_numbers::numbers_of(decided.answer, 0, 0, 0, line);
+    let numbers = answer_numbers::plain_numbers(decided);
     let put = output::put_answer(version, buf, at, numbers, &[]);
+    let change = decided.change;
     Ran { put, change }
 }
 

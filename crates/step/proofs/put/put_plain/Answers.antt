@@ -8,5 +8,5 @@ pub returns : goal.returns
 unfolding numbers_of
 returns c =
     let p = c.put_answer-put.ensures in
-    let e = c.numbers_of-numbers.ensures in
+    let e = c.plain_numbers-numbers.ensures in
     record { ran = ap (λ (x : Put). record { put = x; change = c.args.decided.change }) (rw e at p.result_value); left = rw e at p.buf_after }
