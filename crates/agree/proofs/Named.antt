@@ -12,9 +12,9 @@ use Rattle.record_rows.specs.Rows.{row_of}
 use Rattle.op_numbers.specs.Numbers.{op_number}
 use Rattle.output.specs.Output.{printed}
 use Rattle.step.specs.Named.{call_by, call_of}
-use Rattle.ledger_calls.specs.Rows.{try_op, op_of}
+use Rattle.ledger_calls.specs.Rows.{try_op, op_of, row_call}
 use Rattle.ledger_calls.specs.Rows as ledger_calls
-use Rattle.ledger.specs.List.{row_call, calls_of}
+use Rattle.ledger.specs.List.{calls_of}
 use Rattle.same_bytes.specs.Same.{equal_bytes}
 use Rattle.second_text.specs.Second.{second_text}
 use Rattle.second_text.proofs.Printed.{printed_agrees}

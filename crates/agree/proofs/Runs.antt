@@ -1,6 +1,6 @@
 -- A record that the table runs beside the second engine: the table's text stands at the buffer's front whole, and is the second
 -- engine's; and the change is the table's next step. What is put is `run_record`'s promise (crate step).
-use Prim.Native.Nat.{ℕ, ◌+◌, ◌*◌, ◌≤◌}
+use Prim.Native.Nat.{ℕ, ◌+◌, ◌*◌}
 use mathlib.Core.Path.{◌≡◌, refl, sym, ap, ◌∙◌}
 use mathlib.Core.Bool.{Bool, true}
 use mathlib.Core.List.{List}
@@ -9,11 +9,12 @@ use lib.ListN.{length, take}
 use borrow.Author.Tests.{le-leb}
 use Rattle.model.specs.declared.Table.{Table}
 use Rattle.model.specs.Changes.{applied}
-use Rattle.model.specs.Calls.{after, shown}
+use Rattle.model.specs.declared.change.Change.{Change}
+use Rattle.model.specs.Calls.{Call, after, shown}
 use Rattle.model.specs.Answers.{numbers_of}
 use Rattle.model.specs.History.{reached}
 use Rattle.model.proofs.Facts.{good-reached}
-use Rattle.text.specs.declared.Put.TheVariants.{Past, NoRoom}
+use Rattle.text.specs.Put.{Past, NoRoom}
 use Rattle.trace.specs.declared.Record.{Record}
 use Rattle.trace.specs.declared.Version.{Version}
 use Rattle.record_rows.specs.Rows.{row_of}
@@ -24,12 +25,10 @@ use Rattle.step.specs.Step.{ran_of, left_of, ran, ran_left}
 use Rattle.ledger.specs.declared.answer.Said.{Said}
 use Rattle.ledger.specs.List.{calls_of}
 use Rattle.ledger.specs.Said.{said_on, worked_out}
-use Rattle.agree.specs.declared.all.Both.{Both}
 use Rattle.same_bytes.specs.Same.{equal_bytes}
 use Rattle.second_text.specs.Second.{said_text, second_text}
-use Rattle.agree.specs.Both.{BothFits}
 use Rattle.same_bytes.proofs.Equal.{equal_itself}
-use Rattle.second_text.proofs.Printed.{never_full, end_is, front_is, front_count, front_inside, prints_same}
+use Rattle.second_text.proofs.Printed.{never_full, Stands, stands, prints_same}
 use Rattle.agree.proofs.Named.{row_names}
 
 -- the table t is the one that the rows reach
@@ -76,28 +75,21 @@ module _ (v : Version) (n : ℕ) (rows : List (List ℕ)) (r : Record) (t : Tabl
       both_room p = never_full v n rows (row_of r) refl zeros size put_is p
 
       module _ {end : ℕ} (p : o.put ≡ Past end) where
-        both_end : end ≡ length (said_text v said)
+        -- the table's text, whole, is the second engine's
+        pub both_stands : Stands v n rows (row_of r) refl zeros size buf end
         unfolding said
-        both_end = end_is v n rows (row_of r) refl zeros size put_is p
+        both_stands = stands v n rows (row_of r) refl zeros size put_is left_is p
 
-        pub both_inside : end ≤ length buf
-        unfolding said
-        both_inside = front_inside v n rows (row_of r) refl zeros size left_is both_end
-
-        pub both_count : end ≡ length (take end buf)
-        unfolding said
-        both_count = front_count v n rows (row_of r) refl zeros size left_is both_end
-
-        both-front : take end buf ≡ second_text v n rows (row_of r)
-        unfolding said
-        both-front = front_is v n rows (row_of r) refl zeros size left_is both_end
-
-        pub both-fits :
+        pub texts_same :
             {row : List ℕ} {held : Bool} → row ≡ row_of r → held ≡ equal_bytes (take end buf) (second_text v n rows row) →
-            BothFits n t (call_of r) (record { same = held; change = o.change })
-        unfolding after
-        both-fits e q =
-            record {
-              same = q ∙ rw (e, both-front) (equal_itself (second_text v n rows (row_of r)));
-              table = rw ran-is;
-            }
+            held ≡ true
+        texts_same e q = q ∙ rw (e, both_stands.front) (equal_itself (second_text v n rows (row_of r)))
+
+      pub both-change : applied t o.change ≡ after n t (call_of r)
+      unfolding after
+      both-change = rw ran-is
+
+-- on the table that lent its columns
+pub fits_of :
+    (n : ℕ) (c : Call) (k : Change) {u t : Table} → u ≡ t → applied u k ≡ after n u c → applied t k ≡ after n t c
+fits_of n c k e fits = ap (λ (x : Table). applied x k) (sym e) ∙ fits ∙ ap (λ (x : Table). after n x c) e

@@ -2,7 +2,7 @@
 -- starts at a record, and the list has room for all of it (at most 1,489 records: crate trace_writer, proofs/Laws).
 use Prim.Native.Nat.{ℕ, ◌+◌, ◌≤◌, ◌<◌}
 use mathlib.Core.Path.{◌≡◌, refl, sym, ap, ◌∙◌}
-use mathlib.Core.Bool.{Bool, true, false, cond}
+use mathlib.Core.Bool.{Bool, true, false}
 use mathlib.Core.List.{List, [], ◌∷◌, ◌++◌}
 use native.Mathlib.Numerals.{add-one}
 use native.Mathlib.Omega.{arith}
@@ -22,8 +22,8 @@ use Rattle.model.proofs.Facts.{good-reached}
 use Rattle.model.proofs.Moves.{good-fresh}
 use Rattle.trace.specs.declared.Record.{Record}
 use Rattle.trace.specs.declared.Version.{Version}
-use Rattle.trace.specs.declared.Reading.TheVariants.{Whole}
-use Rattle.trace.specs.declared.RecordAt.TheVariants.{Is, Broken}
+use Rattle.trace.specs.Reading.{Whole}
+use Rattle.trace.specs.RecordAt.{Is, Broken}
 use Rattle.trace.specs.Trace.{trace_grammar, reading, records_from, first_record, Boundary}
 use Rattle.trace.specs.Record.{any_form, record_at}
 use Rattle.trace.proofs.Shape.{trace_grammar_lem, any_facts}
@@ -33,8 +33,7 @@ use Rattle.grammar.proofs.Walk.{next_item, none_broken}
 use Rattle.record_rows.specs.Rows.{row_of}
 use Rattle.trace_writer.proofs.Laws.{most-records}
 use Rattle.step.specs.Named.{call_of}
-use Rattle.ledger.specs.declared.list.Kept.{Kept}
-use Rattle.ledger.specs.declared.list.Kept.TheVariants.{Used, Refused}
+use Rattle.ledger.specs.Kept.{Kept, Used, Refused}
 use Rattle.ledger.specs.List.{row_call, calls_of, kept_answer, kept_run}
 use Rattle.agree.proofs.Named.{row_names}
 

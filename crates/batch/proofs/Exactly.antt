@@ -7,14 +7,13 @@ use mathlib.Core.Logic.{◌≢◌, ◌↔◌}
 use mathlib.Core.Bool.{Bool, true, false, cond, not, and-eq-true_iff}
 use mathlib.Core.List.{List, [], ◌∷◌, ◌++◌}
 use lib.Dec.{eqb}
+use Rattle.std.specs.Prelude.{Err}
 use lib.ListN.{length, drop, get_or}
 use lib.Seq.{get_or-append-add, get_or-drop}
 use borrow.Author.Tests.{eqb-false, ltb-true, ne_eqb, lt-ltb, not-true}
 use Rattle.kinds.specs.declared.refusal.Refusal.{Refusal}
-use Rattle.kinds.specs.declared.refusal.Verdict.{Verdict}
-use Rattle.kinds.specs.declared.refusal.Verdict.TheVariants.{Pass, Refuse}
-use Rattle.batch.specs.declared.Batched.{Batched}
-use Rattle.batch.specs.declared.Batched.TheVariants.{Decided, Refused}
+use Rattle.kinds.specs.Verdicts.{Verdict, Pass, Refuse}
+use Rattle.batch.specs.Batched.{Batched, Decided, Refused}
 use Rattle.batch.specs.Batch.{maker, ender, ended_below, version_test, judged_by, judged_from, FirstBad}
 use Rattle.batch.specs.Batch.{batch_of, decision_of, decisions, left_by, decisions_left}
 use Rattle.batch.proofs.Walk.{decisions_many}
@@ -72,7 +71,7 @@ module _ (line : ℕ) (versions : List (List ℕ)) (run : List ℕ) where
           ∙ get_or-append-add ds (drop (length ds) run) k 0
           ∙ get_or-drop (length ds) run k 0
           ∙ ap (λ (j : ℕ). get_or run j 0) place
-      go (Refused r place) = refl
+      go (Err bad) = refl
 
   -- and on a refusal all places do
   pub refused_kept : (r : Refusal) (place : ℕ) → batch_of versions (length run) ≡ Refused r place → decisions_left line versions run ≡ run
@@ -81,11 +80,11 @@ module _ (line : ℕ) (versions : List (List ℕ)) (run : List ℕ) where
 
 abbrev refusal_in : Batched → Refusal → Refusal
 refusal_in Decided other = other
-refusal_in (Refused r place) other = r
+refusal_in (Err bad) other = bad.refusal
 
 abbrev place_in : Batched → ℕ
 place_in Decided = 0
-place_in (Refused r place) = place
+place_in (Err bad) = bad.place
 
 -- the first bad version, counted from `place`
 bad_from :

@@ -2,8 +2,8 @@
 use Prim.Native.Nat.{ℕ}
 use native.Mathlib.Omega.{arith}
 use mathlib.Core.Path.{◌≡◌, refl}
-use mathlib.Core.Bool.{true, false}
-use mathlib.Core.List.{List, [], ◌∷◌, ◌++◌}
+use mathlib.Core.Bool.{true}
+use mathlib.Core.List.{List, [], ◌∷◌}
 use mathlib.Core.Option.{some}
 use Rattle.kinds.specs.Kinds.{free_pins, number, slot, txid}
 use Rattle.settled.specs.declared.Snapshot.{Snapshot}

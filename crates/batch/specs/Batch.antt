@@ -1,15 +1,12 @@
 -- A batch of versions for the vacuum (SPEC 17): which version is bad first, which may go, and what a run of decisions holds afterwards.
-use Rattle.std.specs.Prelude.{ℕ, ◌+◌, ◌<◌, ◌≡◌, Bool, cond, not, ◌&&◌, List, [], ◌∷◌, ◌++◌, eqb, ltb, length, drop, get_or}
+use Rattle.std.specs.Prelude.{ℕ, ◌+◌, ◌<◌, ◌≡◌, Bool, cond, not, ◌&&◌, List, [], ◌∷◌, ◌++◌, eqb, ltb, length, drop, get_or, Err}
 use Rattle.kinds.specs.declared.refusal.Refusal.{Refusal}
 use Rattle.kinds.specs.declared.refusal.Refusal.TheVariants.{NoRoom, EndedBefore}
-use Rattle.kinds.specs.declared.refusal.Verdict.{Verdict}
-use Rattle.kinds.specs.declared.refusal.Verdict.TheVariants.{Pass, Refuse}
+use Rattle.kinds.specs.Verdicts.{Verdict, Pass, Refuse, then, zero_test}
 use Rattle.kinds.specs.declared.told.Told.{Told}
 use Rattle.kinds.specs.Kinds.{txid}
 use Rattle.kinds.specs.Refusals.{told, accepted}
-use Rattle.kinds.specs.Verdicts.{then, zero_test}
-use Rattle.batch.specs.declared.Batched.{Batched}
-use Rattle.batch.specs.declared.Batched.TheVariants.{Decided, Refused}
+use Rattle.batch.specs.Batched.{Batched, Decided, Refused}
 
 -- a version is its maker's id and its ender's, 0 for still alive
 abbrev pub maker : List ℕ → ℕ
@@ -49,7 +46,7 @@ batch_of versions room = cond (ltb room (length versions)) (Refused NoRoom 0) (j
 -- the number of the answer and what it carries (SPEC 3.1): the place of the bad version
 abbrev pub batch_told : Batched → Told
 batch_told Decided = accepted
-batch_told (Refused r place) = record { number = (told r).number; slot = 0; id = 0; seen = 0; at = place }
+batch_told (Err bad) = record { number = (told bad.refusal).number; slot = 0; id = 0; seen = 0; at = bad.place }
 
 -- 1 exactly if the version has ended, by an id below the line; else 0
 abbrev pub decision_of : ℕ → ℕ → ℕ
@@ -66,7 +63,7 @@ in_front ds run = ds ++ drop (length ds) run
 -- the run afterwards: on a refusal as it was
 abbrev pub left_by : Batched → ℕ → List (List ℕ) → List ℕ → List ℕ
 left_by Decided line versions run = in_front (decisions line versions) run
-left_by (Refused r place) line versions run = run
+left_by (Err bad) line versions run = run
 
 unfoldable pub decisions_left : ℕ → List (List ℕ) → List ℕ → List ℕ
 decisions_left line versions run = left_by (batch_of versions (length run)) line versions run

@@ -1,2 +1,3 @@
 pub mod Batch
+pub mod Batched
 pub mod Removal

@@ -8,7 +8,7 @@ use Rattle.model.specs.Deeds.{takes_snapshot}
 use Rattle.model.specs.History.{reached, Accepts}
 use Rattle.model.specs.Promise.{line_after, Covered}
 use Rattle.batch.specs.Batch.{maker, ender, batch_of, decisions_left}
-use Rattle.batch.specs.declared.Batched.TheVariants.{Decided}
+use Rattle.batch.specs.Batched.{Decided}
 
 -- a batch with this line, these versions and this run is decided, and 1 stands at the place of version i
 pub record Removes (line : ℕ) (versions : List (List ℕ)) (run : List ℕ) (i : ℕ) : Type 0 where

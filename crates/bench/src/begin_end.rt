@@ -1,37 +1,28 @@
 // A round begins a transaction and ends it again.
 use crate::fill::half_full;
-use kinds::{SlotNo, Stamp, Txid};
-use std::num::wrapping_add_u64;
+use kinds::{Refusal, SlotNo, Stamp, Txid};
 use table::Answer;
 
 // What a round adds to the checksum, where the end was accepted.
-fn marked(sum: u64, slot: SlotNo, id: Txid, ended: Answer) -> u64 {
-    let Answer::Done = ended else {
+fn marked(sum: u64, slot: SlotNo, id: Txid, ended: Result<Answer, Refusal>) -> u64 {
+    if ended.is_err() {
         return sum;
-    };
-    let with_slot = wrapping_add_u64(sum, slot.0 as u64);
-    wrapping_add_u64(with_slot, id.0)
+    }
+    sum.wrapping_add(slot.0 as u64).wrapping_add(id.0)
 }
 
 pub fn by_value(layout: u64, rounds: u64) -> u64 {
     let mut t = half_full(layout);
     let mut sum: u64 = 0;
-    let mut i: u64 = 0;
-    while i < rounds {
-        i += 1;
-        let number = Stamp(t.counters.clock);
-        let first = table::begin_transaction(t, number);
-        let begun = first.answer;
-        let during = first.table;
-        t = during;
-        let Answer::Begun { slot, id } = begun else {
+    for _ in 0..rounds {
+        let begun = table::begin_transaction(t, Stamp(t.counters.clock));
+        t = begun.table;
+        let Ok(Answer::Begun { slot, id }) = begun.answer else {
             continue;
         };
-        let second = table::end_transaction(t, slot, id);
-        let ended = second.answer;
-        let after = second.table;
-        t = after;
-        sum = marked(sum, slot, id, ended);
+        let ended = table::end_transaction(t, slot, id);
+        t = ended.table;
+        sum = marked(sum, slot, id, ended.answer);
     }
     sum
 }
@@ -39,27 +30,15 @@ pub fn by_value(layout: u64, rounds: u64) -> u64 {
 pub fn lent(layout: u64, rounds: u64) -> u64 {
     let mut t = half_full(layout);
     let mut sum: u64 = 0;
-    let mut i: u64 = 0;
-    while i < rounds {
-        i += 1;
-        let number = Stamp(t.counters.clock);
-        let first = table::decide_begin(&t.txids, t.counters, number);
-        let begun = first.answer;
-        let change = first.change;
-        let enters = change.slot;
-        table::store_txid(&mut t.txids, enters);
-        table::store_xmin(&mut t.snapshot_xmins, enters);
-        t.counters.clock = change.counters.clock;
-        let Answer::Begun { slot, id } = begun else {
+    for _ in 0..rounds {
+        let begun = table::decide_begin(&t.txids, t.counters, Stamp(t.counters.clock));
+        table::store(&mut t, begun.change);
+        let Ok(Answer::Begun { slot, id }) = begun.answer else {
             continue;
         };
-        let second = table::decide_end(&t.txids, t.counters, slot, id);
-        let ended = second.answer;
-        let back = second.change;
-        let leaves = back.slot;
-        table::store_txid(&mut t.txids, leaves);
-        table::store_xmin(&mut t.snapshot_xmins, leaves);
-        sum = marked(sum, slot, id, ended);
+        let ended = table::decide_end(&t.txids, t.counters, slot, id);
+        table::store(&mut t, ended.change);
+        sum = marked(sum, slot, id, ended.answer);
     }
     sum
 }

@@ -6,10 +6,9 @@ mod lent_usable;
 
 ghost use Rattle.std.specs.Prelude.{◌≡◌};
 
-use kinds::{SLOTS, Txid};
+use kinds::{Refusal, SLOTS, Txid};
 pub use lent_usable::bench_usable_lent;
-use settled::{Settled, Snapshot};
-use std::num::wrapping_add_u64;
+use settled::Snapshot;
 
 // How many slots the measured snapshots have.
 #[unsafe(no_mangle)]
@@ -20,15 +19,36 @@ pub extern "C" fn bench_settled_slots() -> u64
 }
 
 // What a round adds to the checksum.
-fn marked(sum: u64, round: u64, answer: Settled) -> u64 {
+fn marked(sum: u64, round: u64, answer: Result<bool, Refusal>) -> u64 {
     match answer {
-        Settled::Yes => wrapping_add_u64(sum, round),
-        Settled::No => wrapping_add_u64(sum, 1),
-        Settled::Refused(_) => sum,
+        Ok(true) => sum.wrapping_add(round),
+        Ok(false) => sum.wrapping_add(1),
+        Err(_) => sum,
     }
 }
 
-// Each round asks for one id; the ids to ask for go round.
+// Each round asks for one id; the ids to ask for go round, and a round in which there is none asks for nothing.
+pub(crate) fn each_asked<F: Fn(Txid) -> Result<bool, Refusal>>(
+    asked: &[u64],
+    rounds: u64,
+    ask: F,
+) -> u64
+    requires { F.IsAlwaysCallable ask }
+{
+    let mut sum: u64 = 0;
+    let mut at: usize = 0;
+    for round in 0..rounds {
+        let Some(&id) = asked.get(at) else {
+            at = 0;
+            continue;
+        };
+        at += 1;
+        sum = marked(sum, round.wrapping_add(1), ask(Txid(id)));
+    }
+    sum
+}
+
+// The settled test, on a snapshot's parts, lent.
 #[unsafe(no_mangle)]
 pub extern "C" fn bench_settled_lent(
     ids: &[u64],
@@ -37,32 +57,16 @@ pub extern "C" fn bench_settled_lent(
     asked: &[u64],
     rounds: u64,
 ) -> u64 {
-    let mut sum: u64 = 0;
-    let mut at: usize = 0;
-    let mut i: u64 = 0;
-    while i < rounds {
-        i += 1;
-        if asked.len() <= at {
-            at = 0;
-            continue;
-        }
-        let answer = settled::is_settled_among(ids, count, xmax, Txid(asked[at]));
-        at += 1;
-        sum = marked(sum, i, answer);
-    }
-    sum
+    each_asked(asked, rounds, |id| {
+        settled::is_settled_among(ids, count, xmax, id)
+    })
 }
 
 // The snapshot with these ids in its first places.
 fn gathered(ids: &[u64], count: usize, xmax: u64) -> Snapshot {
     let mut places = kinds::zeros();
-    let mut i: usize = 0;
-    while i < SLOTS {
-        if ids.len() <= i {
-            break;
-        }
-        places[i] = ids[i];
-        i += 1;
+    for (place, id) in places.iter_mut().zip(ids) {
+        *place = *id;
     }
     Snapshot {
         xmin: 1,
@@ -82,18 +86,5 @@ pub extern "C" fn bench_settled_by_value(
     rounds: u64,
 ) -> u64 {
     let shown = gathered(ids, count, xmax);
-    let mut sum: u64 = 0;
-    let mut at: usize = 0;
-    let mut i: u64 = 0;
-    while i < rounds {
-        i += 1;
-        if asked.len() <= at {
-            at = 0;
-            continue;
-        }
-        let answer = settled::is_settled(shown, Txid(asked[at]));
-        at += 1;
-        sum = marked(sum, i, answer);
-    }
-    sum
+    each_asked(asked, rounds, |id| settled::is_settled(shown, id))
 }

@@ -12,11 +12,9 @@ use model::Counters;
 pub fn reserved(was: Counters, number: Stamp) -> Counters
     ensures { result ≡ reserved_from number was }
 {
-    let clock = kinds::saturating_next(number.0);
     Counters {
-        clock,
-        sampled_clock: was.sampled_clock,
-        vacuum_line: was.vacuum_line,
+        clock: number.0.saturating_add(1),
+        ..was
     }
 }
 
@@ -26,6 +24,6 @@ pub fn observed(was: Counters, clock: u64, sample: u64) -> Counters
     Counters {
         clock,
         sampled_clock: sample,
-        vacuum_line: was.vacuum_line,
+        ..was
     }
 }

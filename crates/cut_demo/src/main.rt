@@ -2,69 +2,67 @@
 #![tactic(auto)]
 
 use kinds::Refusal;
-use trace_writer::{RowsRead, Wrote};
+use std::{fmt, io};
 
-// The standard descriptors.
 const STDIN_FILENO: i32 = 0;
-
-const STDOUT_FILENO: i32 = 1;
-
-const STDERR_FILENO: i32 = 2;
 
 // One byte more than a trace may have, to know that there is one; and the most records that one may have.
 const ROOM: usize = trace::LONGEST + 1;
 
 const MOST: usize = 1489;
 
-fn refuse(r: Refusal) {
-    let told = kinds::tell(r);
-    io::write_all(STDERR_FILENO, b"cut: refusal ");
-    io::print_decimal(STDERR_FILENO, told.number);
-    io::write_all(STDERR_FILENO, b"\n");
+// Why nothing was cut.
+#[derive(Drop)]
+enum NoCut {
+    Refused(Refusal),
+    TooFew,
 }
 
-fn send(out: &[u8], wrote: Wrote) {
-    match wrote {
-        Wrote::Length(n) => {
-            if n <= out.len() {
-                let went = io::write_all(STDOUT_FILENO, &out[..n]);
-                if !went {
-                    io::write_all(STDERR_FILENO, b"cut: the output could not be written\n");
-                }
-            }
-        }
-        Wrote::Refused(r) => refuse(r),
+impl From<Refusal> for NoCut {
+    fn from(refusal: Refusal) -> NoCut {
+        NoCut::Refused(refusal)
     }
 }
 
-fn cut(s: &[u8]) {
-    let mut out = [0u8; ROOM];
+impl fmt::Display for NoCut {
+    fn fmt<W: fmt::Write>(&self, f: &mut fmt::Formatter<W>) -> fmt::Result {
+        match self {
+            NoCut::Refused(refusal) => write!(f, "refusal {}", kinds::number_of(*refusal)),
+            NoCut::TooFew => write!(f, "fewer than 7 records"),
+        }
+    }
+}
+
+// The text of the records, at the start of `out`.
+fn cut<'a>(input: &[u8], out: &'a mut [u8; ROOM]) -> Result<&'a [u8], NoCut> {
     let mut rows = [[0u64; 6]; MOST];
-    let got = trace_writer::read_rows(s, &mut rows);
-    match got {
-        RowsRead::Rows(version, n) => {
-            if 7 <= n {
-                let kept = [rows[2], rows[3], rows[4], rows[5], rows[6]];
-                let wrote = trace_writer::write_trace(version, &kept, &mut out);
-                send(&out, wrote);
-            } else {
-                io::write_all(STDERR_FILENO, b"cut: fewer than 7 records\n");
-            }
-        }
-        RowsRead::Refused(r) => refuse(r),
+    let (version, n) = trace_writer::read_rows(input, &mut rows)?;
+    if n < 7 {
+        return Err(NoCut::TooFew);
+    }
+    let length = trace_writer::write_trace(version, &rows[2..7], out)?;
+    Ok(&out[..length.min(ROOM)])
+}
+
+// Writes the text that was cut, or says why none was.
+fn send(rt: &(impl Print + Eprint), input: &[u8]) -> io::Result<()> {
+    let mut out = [0; ROOM];
+    match cut(input, &mut out) {
+        Ok(text) => rt
+            .write_all(text)
+            .or_else(|_| eprintln!(rt; "cut: the output could not be written")),
+        Err(why) => eprintln!(rt; "cut: {why}"),
     }
 }
 
-// A read that fails is not the end of the input.
-fn main() {
-    let mut input = [0u8; ROOM];
+// A read that fails is not the end of the input: its size is then above the buffer's.
+fn main(rt: HostRuntime) {
+    // An array: with no heap, no memory can run out.
+    let mut input = [0; ROOM];
     let size = exports::sockhurdle_read(STDIN_FILENO, &mut input);
-    if size <= ROOM {
-        cut(&input[..size]);
-    } else {
-        io::write_all(
-            STDERR_FILENO,
-            b"cut: the input could not be read; nothing was written\n",
-        );
-    }
+    // Where standard error can't be written either, nobody is left to tell.
+    let _told = match input.get(..size) {
+        Some(text) => send(&rt, text),
+        None => eprintln!(rt; "cut: the input could not be read; nothing was written"),
+    };
 }

@@ -3,85 +3,89 @@
 use Prim.Native.Nat.{ℕ, zero, suc, ◌+◌, ◌-◌, ◌%◌, ◌<◌, ◌≤◌}
 use mathlib.Core.Path.{◌≡◌, refl, sym, ap, ◌∙◌}
 use mathlib.Core.Logic.{◌≢◌}
+use Rattle.std.proofs.Common.{⊎_elim}
+use Rattle.std.proofs.lemmas.Bool.{false_from_ne_true}
+use Rattle.std.proofs.lemmas.Grind.{common_steps}
 use mathlib.Core.List.{List, [], ◌∷◌}
-use mathlib.Core.Bool.{Bool, true, false, ◌&&◌, ◌||◌, not}
+use mathlib.Core.Bool.{Bool, true, false, ◌||◌, not, false≢true, and-false}
 use native.Mathlib.Omega.{arith}
 use lib.Dec.{eqb}
-use borrow.Author.Tests.{eqb-true, eqb-false}
-use lib.ListN.{length, drop, get_or, set, drop_of_length-le}
-use lib.Seq.{get_or-set_same, get_or-set_other}
+use lib.ListN.{length, take, drop, get_or, set, drop_of_length-le, length-drop, length-set}
+use lib.Seq.{get_or-set_same, take_all}
+use borrow.Author.Tests.{ne_eqb}
+use Rattle.std.specs.List.{list_any}
+use Rattle.kinds.proofs.Lists.{from}
 use Rattle.listed.specs.Listed.{listed}
-use Rattle.listed.proofs.Listed.{listed_none, listed_later}
+use Rattle.listed.proofs.Listed.{listed_none, listed_cases}
 use Rattle.model.specs.Check.{differ}
-use Rattle.differ.proofs.Rest.{differ-empty, differ_twice, differ_once}
 
-abbrev pub Marked : ℕ → List ℕ → List ℕ → Type 0
-Marked k marks ids = (x : ℕ) → x ≢ 0 → listed x ids ≡ true → get_or marks (x % k) 0 ≢ 0
+-- from place i on the taken txids differ, and each has set its mark
+pub record Seen (k : ℕ) (marks : List Bool) (l : List ℕ) (i : ℕ) : Type 0 where
+  pub size : length marks ≡ k
+  pub apart : differ (drop i l) ≡ true
+  pub marked : (x : ℕ) → x ≢ 0 → listed x (drop i l) ≡ true → get_or marks (x % k) false ≡ true
 
-pub unmarked :
-    (k : ℕ) (marks ids : List ℕ) (x : ℕ) → Marked k marks ids → x ≢ 0 → get_or marks (x % k) 0 ≡ 0 → listed x ids ≡ false
-unmarked k marks ids x m z e = go (listed x ids) refl
-  where
-    go : (b : Bool) → listed x ids ≡ b → listed x ids ≡ false
-    go true p = absurd (m x z p e)
-    go false p = p
+pub seen_none : (k : ℕ) (marks : List Bool) (l : List ℕ) → length marks ≡ k → Seen k marks l (length l)
+unfolding differ
+seen_none k marks l h =
+    let none : drop (length l) l ≡ [] = drop_of_length-le l (omega arith) in
+    record { size = h; apart = rw none; marked = λ x z e. absurd (listed_none x (rw none at e)) }
 
-pub marked_none : (k : ℕ) (marks l : List ℕ) (i : ℕ) → length l ≤ i → Marked k marks (drop i l)
-marked_none k marks l i h x z e =
-    let none : listed x [] ≡ true = rw (drop_of_length-le l h) at e in
-    absurd (listed_none x none)
+-- what is found by comparing is what is listed
+listed_any : (x : ℕ) (l : List ℕ) → list_any (λ y. eqb y x) l ≡ listed x l
+unfolding listed
+listed_any x [] = refl
+listed_any x (y ∷ l) = ap (λ b. eqb y x || b) (listed_any x l)
 
--- what differs nowhere later differs nowhere
-pub differ_part : (l : List ℕ) (i : ℕ) → differ (drop i l) ≡ false → differ l ≡ false
+-- what differs nowhere differs nowhere later
+differ_part : (l : List ℕ) (i : ℕ) → differ (drop i l) ≡ false → differ l ≡ false
 unfolding differ
 differ_part l zero e = e
 differ_part [] (suc i) e = e
-differ_part (x ∷ l) (suc i) e = rw (differ_part l i e) (go (eqb x 0 || not (listed x l)))
-  where
-    go : (b : Bool) → b && false ≡ false
-    go true = refl
-    go false = refl
+differ_part (x ∷ l) (suc i) e = rw (differ_part l i e) (and-false (eqb x 0 || not (listed x l)))
 
-module _ (l : List ℕ) (i : ℕ) (h : 0 < i) (b : i ≤ length l) where
-  back : i - 1 + 1 ≡ i
-  back = omega (arith, h)
+module _ {k : ℕ} {marks : List Bool} {l : List ℕ} {i : ℕ} (s : Seen k marks l i) (h : 0 < i) (b : i ≤ length l) where
+  abbrev pub here : ℕ
+  here = get_or l (i - 1) 0
 
   inside : i - 1 < length l
   inside = omega (arith, h, b)
 
-  pub differ_back_empty : get_or l (i - 1) 0 ≡ 0 → differ (drop i l) ≡ true → differ (drop (i - 1) l) ≡ true
-  differ_back_empty e d = differ-empty l (i - 1) inside e ∙ rw back d
+  front : drop (i - 1) l ≡ here ∷ drop i l
+  front = let next : i - 1 + 1 ≡ i = omega (arith, h) in rw next at (from l (i - 1) inside)
 
-  pub differ_back_once :
-      get_or l (i - 1) 0 ≢ 0 → listed (get_or l (i - 1) 0) (drop (i - 1 + 1) l) ≡ false → differ (drop i l) ≡ true →
-      differ (drop (i - 1) l) ≡ true
-  differ_back_once e q d = differ_once l (i - 1) inside e q ∙ rw back d
+  -- an empty slot
+  pub seen-empty : here ≡ 0 → Seen k marks l (i - 1)
+  unfolding differ
+  seen-empty e = record {
+    size = s.size;
+    apart = rw (front, e) s.apart;
+    marked = λ x z q. ⊎_elim (λ p. absurd (z (sym p ∙ e))) (s.marked x z) (listed_cases x here (drop i l) (rw front at q));
+  }
 
-  pub differ_back_twice :
-      get_or l (i - 1) 0 ≢ 0 → listed (get_or l (i - 1) 0) (drop (i - 1 + 1) l) ≡ true → differ l ≡ false
-  differ_back_twice e q = differ_part l (i - 1) (differ_twice l (i - 1) inside e q)
+  -- a taken one whose id stands nowhere later
+  pub seen_once :
+      0 < k → here ≢ 0 → listed here (drop i l) ≡ false → Seen k (set marks (here % k) true) l (i - 1)
+  unfolding differ
+  seen_once pos e n = record {
+    size = length-set marks (here % k) true ∙ s.size;
+    apart = rw (front, ne_eqb _ _ e, n) s.apart;
+    marked = λ x z q. ⊎_elim
+        (λ p. ap (λ y. get_or (set marks (here % k) true) (y % k) false) (sym p) ∙ get_or-set_same marks (here % k) true false (omega (arith, s.size)))
+        (λ p. let m = s.marked x z p in grind (arith, common_steps))
+        (listed_cases x here (drop i l) (rw front at q));
+  }
 
-  module _ (k : ℕ) (marks : List ℕ) (m : Marked k marks (drop i l)) where
-    pub unmarked_back : (x : ℕ) → x ≢ 0 → get_or marks (x % k) 0 ≡ 0 → listed x (drop (i - 1 + 1) l) ≡ false
-    unmarked_back x z e = rw back (unmarked k marks (drop i l) x m z e)
+  pub seen_twice : here ≢ 0 → listed here (drop i l) ≡ true → differ l ≡ false
+  unfolding differ
+  seen_twice e n = differ_part l (i - 1) (rw (front, ne_eqb _ _ e, n) refl)
 
-    -- one that is not there, or another
-    later : (x : ℕ) → get_or l (i - 1) 0 ≢ x → listed x (drop (i - 1) l) ≡ true → listed x (drop i l) ≡ true
-    later x n e = rw back at (sym (listed_later x l (i - 1) inside n) ∙ e)
+  -- nothing stands later whose mark no one has set
+  pub unmarked : here ≢ 0 → get_or marks (here % k) false ≡ false → listed here (drop i l) ≡ false
+  unmarked e m = false_from_ne_true (listed here (drop i l)) (λ p. false≢true (sym m ∙ s.marked here e p))
 
-    pub marked_back_empty : get_or l (i - 1) 0 ≡ 0 → Marked k marks (drop (i - 1) l)
-    marked_back_empty e x z q = m x z (later x (λ p. z (sym p ∙ e)) q)
-
-    pub marked_back :
-        (at : ℕ) → at ≡ get_or l (i - 1) 0 % k → at < length marks → Marked k (set marks at 1) (drop (i - 1) l)
-    marked_back at a r x z q = go (eqb (x % k) at) refl
-      where
-        go : (b : Bool) → eqb (x % k) at ≡ b → get_or (set marks at 1) (x % k) 0 ≢ 0
-        go true t =
-            let p = eqb-true (x % k) at t in
-            let set_here : get_or (set marks at 1) (x % k) 0 ≡ 1 = rw p (get_or-set_same marks at 1 0 r) in
-            λ e. omega (arith, e, set_here)
-        go false t =
-            let p = eqb-false (x % k) at t in
-            let there = m x z (later x (λ s. p (ap (λ (y : ℕ). y % k) (sym s) ∙ sym a)) q) in
-            λ e. there (sym (get_or-set_other marks at (x % k) 1 0 p) ∙ e)
+  -- the later places, as the library searches them
+  pub searched : list_any (λ y. eqb y here) (take (length l - (i - 1 + 1)) (drop (i - 1 + 1) l)) ≡ listed here (drop i l)
+  searched =
+      let next : i - 1 + 1 ≡ i = omega (arith, h) in
+      rw (next, take_all (length l - i) (drop i l) (omega (arith, length-drop i l))) (listed_any here (drop i l))

@@ -5,43 +5,31 @@ ghost use Rattle.std.specs.Prelude.{◌≡◌};
 ghost use Rattle.model.specs.Tables.{lent_txids};
 ghost use Rattle.model.specs.Calls.{end, decision, outcome};
 
-use kinds::{SLOTS, SlotNo, Txid, Verdict};
+use kinds::{SLOTS, SlotNo, Txid};
 use model::{Answer, Change, Counters, Decision, Outcome, SlotChange, Table};
 
 // What end decides, for who owns the table in place and so makes the change there. Refusals 2, 4, 3, in this order.
+#[tactic(auto, using(model::proofs::Decides::decides), unfolding(model::specs::Calls::refusal, model::specs::Calls::change_accepted, model::specs::Calls::answer_accepted))]
 pub fn decide_end(txids: &[u64], was: Counters, slot: SlotNo, id: Txid) -> Decision
     ensures { result ≡ decision SLOTS (lent_txids txids.now was) (end slot id) }
 {
-    let verdict = verdicts::owner_test(txids, slot, id);
-    match verdict {
-        Verdict::Refuse(r) => Decision {
-            change: Change {
-                slot: SlotChange::Stays,
-                counters: was,
-            },
-            answer: Answer::Refused(r),
+    // Not lent as `Columns`: by its parameters the contract says which columns the call can't read.
+    if let Err(refusal) = verdicts::owner_test(txids, slot, id) {
+        return Decision::refused(was, refusal);
+    }
+    Decision {
+        change: Change {
+            slot: SlotChange::Leaves { slot },
+            counters: was,
         },
-        Verdict::Pass => Decision {
-            change: Change {
-                slot: SlotChange::Leaves { slot },
-                counters: was,
-            },
-            answer: Answer::Done,
-        },
+        answer: Ok(Answer::Done),
     }
 }
 
 // By value, which copies the table: who owns it in place asks decide_end.
+#[tactic(auto, using(model::proofs::Lent::outcome_of, model::proofs::Lent::lent_decides))]
 pub fn end_transaction(table: Table, slot: SlotNo, id: Txid) -> Outcome
     ensures { result ≡ outcome SLOTS table (end slot id) }
 {
-    let was = table.counters;
-    let decided = decide_end(&table.txids, was, slot, id);
-    let change = decided.change;
-    let answer = decided.answer;
-    let next = changes::apply(table, change);
-    Outcome {
-        table: next,
-        answer,
-    }
+    changes::carry_out(table, decide_end(&table.txids, table.counters, slot, id))
 }

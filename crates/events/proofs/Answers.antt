@@ -2,27 +2,16 @@
 use Prim.Native.Nat.{ℕ}
 use mathlib.Core.Path.{◌≡◌, refl}
 use mathlib.Core.List.{List}
-use Rattle.grammar.specs.Names.{NameAt, Named, name_at}
-use Rattle.grammar.specs.Names as name
 use Rattle.grammar.specs.Items.{ItemAt}
 use Rattle.grammar.specs.Items as item
 use Rattle.grammar.specs.Texts.{Count, Many, Refused, count_text}
-use Rattle.grammar.proofs.Said.{name_said, item_said, count_said}
-use Rattle.events.specs.Kind.{kind_names, kind_at}
+use Rattle.grammar.proofs.Said.{item_said, count_said}
 use Rattle.events.specs.Event.{event_form, event_at}
 use Rattle.events.specs.Wait.{Header, Wait1, wait_format, reading}
-use Rattle.events.specs.declared.Kind.{Kind}
 use Rattle.events.specs.declared.Event.{Event}
-use Rattle.events.specs.declared.EventAt.{EventAt}
-use Rattle.events.specs.declared.EventAt.TheVariants.{Is, Broken}
-use Rattle.events.specs.declared.Reading.{Reading}
-use Rattle.events.specs.declared.Reading.TheVariants as reading
-use Rattle.events.specs.declared.names.KindAt.{KindAt}
-use Rattle.events.specs.declared.names.KindAt.TheVariants as kind
-
-abbrev pub kind_meant : KindAt → NameAt Kind
-kind_meant (kind.Is k e) = Named k e
-kind_meant kind.Unknown = name.Unknown
+use Rattle.events.specs.EventAt.{EventAt, Is, Broken}
+use Rattle.events.specs.Reading.{Reading}
+use Rattle.events.specs.Reading as reading
 
 abbrev pub event_meant : EventAt → ItemAt Event
 event_meant (Is v e) = item.Is v e
@@ -42,10 +31,6 @@ module _ (s : List ℕ) where
   reading_is h = count_said (λ h n. reading.Whole n) reading.Broken reading_meant whole_means (λ k. refl) (count_text wait_format s) h
 
   module _ (at : ℕ) where
-    pub kind_is : {a : KindAt} → kind_at s at ≡ a → name_at kind_names s at ≡ kind_meant a
-    unfolding kind_at
-    kind_is h = name_said kind.Is kind.Unknown kind_meant (λ k e. refl) refl (name_at kind_names s at) h
-
     pub event_is : {a : EventAt} → event_at s at ≡ a → event_form.at s at ≡ event_meant a
     unfolding event_at
     event_is h = item_said Is Broken event_meant (λ v e. refl) (λ k. refl) (event_form.at s at) h

@@ -10,7 +10,7 @@ use Rattle.grammar.specs.Items.{found_in, found_from}
 use Rattle.grammar.specs.Named.{item_at}
 use Rattle.grammar.specs.Texts.{read_text, count_text}
 use Rattle.events.specs.Wait.{header, reading}
-use Rattle.events.specs.declared.Reading.TheVariants.{Whole, Broken}
+use Rattle.events.specs.Reading.{Whole, Broken}
 
 record Read : Type 0 where
   -- one of each: number 7 is registered in slot 2, its horizon falls to 5, it ends; 9 is reserved, and clock 12 with sample 11 is observed

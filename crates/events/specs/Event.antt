@@ -1,16 +1,15 @@
 -- An event of six lines: its text, and what is read of a text.
 use Rattle.std.specs.Prelude.{ℕ, List}
 use Rattle.text.specs.Keys.{xmin_key}
-use Rattle.text.specs.FiveLines.{Fits, fields_at}
+use Rattle.text.specs.FiveLines.{Fits}
 use Rattle.text.specs.declared.Values.{Values}
 use Rattle.grammar.specs.Items.{Form, item_text, say_item}
-use Rattle.grammar.specs.Named.{Shape, on_fields, form_of}
+use Rattle.grammar.specs.Named.{Shape, form_of}
 use Rattle.grammar.specs.Grammar.{every_kind}
 use Rattle.events.specs.Kind.{reads_of, kind_names}
 use Rattle.events.specs.declared.Kind.{Kind}
 use Rattle.events.specs.declared.Event.{Event}
-use Rattle.events.specs.declared.EventAt.{EventAt}
-use Rattle.events.specs.declared.EventAt.TheVariants.{Is, Broken}
+use Rattle.events.specs.EventAt.{EventAt, Is, Broken}
 
 -- the five numbers of an event, and the event of a kind and five numbers
 abbrev pub values_of : Event → Values
@@ -37,10 +36,6 @@ event_form = form_of event_shape every_kind
 -- the text of an event
 abbrev pub event_text : Event → List ℕ
 event_text e = item_text event_form e
-
--- the event of a kind whose line ends just before `at`
-abbrev pub event_after : List ℕ → Kind → ℕ → EventAt
-event_after s k at = say_item Is Broken (on_fields (event_of k) (fields_at s at xmin_key (reads_of k)))
 
 -- the event at `at`, or the first of its six lines that breaks a rule
 unfoldable pub event_at : List ℕ → ℕ → EventAt

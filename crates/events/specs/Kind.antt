@@ -2,11 +2,9 @@
 use Rattle.std.specs.Prelude.{ℕ, true, false, List, [], ◌∷◌}
 use Rattle.text.specs.Bytes.{bytes}
 use Rattle.text.specs.declared.Reads.{Reads}
-use Rattle.grammar.specs.Names.{Names, name_at, say_name}
+use Rattle.grammar.specs.Names.{Names}
 use Rattle.events.specs.declared.Kind.{Kind}
 use Rattle.events.specs.declared.Kind.TheVariants.{Register, End, Horizon, Reserve, Observe}
-use Rattle.events.specs.declared.names.KindAt.{KindAt}
-use Rattle.events.specs.declared.names.KindAt.TheVariants as kind
 
 -- the fields that an event reads; the fourth is `xmin`, and clock is `clock` and `sample`
 abbrev pub reads_of : Kind → Reads
@@ -32,7 +30,3 @@ event_key = bytes "event="
 
 abbrev pub kind_names : Names Kind
 kind_names = record { key = event_key; kinds = kinds; name = kind_name }
-
--- the kind whose line stands at `at`
-unfoldable pub kind_at : List ℕ → ℕ → KindAt
-kind_at s at = say_name kind.Is kind.Unknown (name_at kind_names s at)

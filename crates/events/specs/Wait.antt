@@ -8,14 +8,18 @@ use Rattle.grammar.specs.Texts.{Format, Read, whole_text, read_text, count_text,
 use Rattle.grammar.specs.Texts as texts
 use Rattle.grammar.specs.Grammar.{Grammar, format_of}
 use Rattle.events.specs.Event.{event_shape, event_form}
+use Rattle.events.specs.declared.Header as first
+use Rattle.events.specs.declared.Header.TheVariants as first_line
 use Rattle.events.specs.declared.Kind.{Kind}
 use Rattle.events.specs.declared.Event.{Event}
-use Rattle.events.specs.declared.Reading.{Reading}
-use Rattle.events.specs.declared.Reading.TheVariants.{Whole, Broken}
+use Rattle.events.specs.Reading.{Reading, Whole, Broken}
 
 -- the one first line that is known, `wait=proc-1`
-pub data Header : Type 0 where
-  Wait1 : Header
+abbrev pub Header : Type 0
+Header = first.Header
+
+pattern abbrev pub Wait1 : Header
+Wait1 = first_line.Wait1
 
 -- what stands after `wait=` in it, with its newline
 abbrev pub header_name : Header → List ℕ

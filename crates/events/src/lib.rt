@@ -1,12 +1,18 @@
 // What others did to the table while one waited, as text: a header and events of six lines, read and judged line by line.
 #![tactic(auto)]
 
+mod kinds;
 mod lines;
-mod names;
 mod whole;
 
 pub use lines::event_at;
 pub use whole::{LONGEST, first_event, read_wait};
+
+// The one first line that is known, `wait=proc-1`.
+#[derive(Clone, Copy)]
+pub enum Header {
+    Wait1,
+}
 
 // The events that a wait can name.
 #[derive(Clone, Copy)]
@@ -27,20 +33,4 @@ pub struct Event {
     pub xmin: u64,
     pub clock: u64,
     pub sample: u64,
-}
-
-// What stands at a place: an event, with the place past it, or the first of its six lines, from 1,
-// that breaks a rule.
-#[derive(Clone, Copy)]
-pub enum EventAt {
-    Is(Event, usize),
-    Broken(usize),
-}
-
-// What a whole text is: so many events, or a wait that breaks a rule first at this line. Line 0
-// stands for an input that is too long.
-#[derive(Clone, Copy)]
-pub enum Reading {
-    Whole(usize),
-    Broken(usize),
 }

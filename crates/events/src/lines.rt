@@ -1,38 +1,14 @@
 // An event of six lines.
 ghost use Rattle.std.specs.Prelude.{◌≡◌};
-ghost use Rattle.events.specs.Event.{event_after, event_at};
+ghost use Rattle.events.specs.Event.{event_at};
 
-use crate::names::KindAt;
-use crate::{Event, EventAt, Kind};
-use text::Fields;
-
-// The event of a kind whose line ends just before `at`, or the first of its lines that breaks a rule.
-fn event_after(s: &[u8], at: usize, kind: Kind) -> EventAt
-    ensures { result ≡ event_after s.now kind at }
-{
-    let fields = five_lines::fields_at(s, at, b"xmin=", crate::names::reads_of(kind));
-    match fields {
-        Fields::Are(v, e) => EventAt::Is(
-            Event {
-                kind,
-                slot: v.slot,
-                id: v.id,
-                xmin: v.fourth,
-                clock: v.clock,
-                sample: v.sample,
-            },
-            e,
-        ),
-        Fields::Broken(k) => EventAt::Broken(k),
-    }
-}
+use crate::Event;
+use crate::kinds::Events;
 
 // The event at `at`, or the first of its six lines that breaks a rule.
-pub fn event_at(s: &[u8], at: usize) -> EventAt
+#[tactic(auto, unfolding(crate::specs::Event::event_at))]
+pub fn event_at(s: &[u8], at: usize) -> Result<(Event, usize), usize>
     ensures { result ≡ event_at s.now at }
 {
-    let KindAt::Is(kind, a) = crate::names::kind_at(s, at) else {
-        return EventAt::Broken(1);
-    };
-    event_after(s, a, kind)
+    items::item_at::<Events>(s, at)
 }

@@ -1,11 +1,36 @@
-// A whole wait: its length, its header, and event after event to its last byte.
+// A whole wait: its header, and event after event to its last byte.
 ghost use Rattle.std.specs.Prelude.{◌≡◌};
-ghost use Rattle.events.specs.Wait.{first_event, reading};
+ghost use Rattle.events.specs.Wait.{first_event, wait_grammar, reading};
+ghost use Rattle.events.specs.Laws.{wait_grammar_lem};
 
-use crate::{EventAt, Reading};
+use crate::{Event, Header, Kind};
+use items::Format;
 
 // The most bytes that a wait may have.
-pub const LONGEST: usize = 65536;
+pub const LONGEST: usize = items::LONGEST;
+
+struct Wait;
+
+#[tactic(auto, unfolding(crate::specs::Event::event_at))]
+impl Format for Wait {
+    type Head = Header;
+
+    type Kind = Kind;
+
+    type Item = Event;
+
+    ghost grammar = { wait_grammar };
+
+    ghost laws = { wait_grammar_lem };
+
+    fn head_at(s: &[u8]) -> Option<(Header, usize)> {
+        text::named_at(s, 0, b"wait=proc-1\n", Header::Wait1)
+    }
+
+    fn item_under(_header: Header, s: &[u8], at: usize) -> Result<(Event, usize), usize> {
+        crate::lines::event_at(s, at)
+    }
+}
 
 // The place of the first event, past the header.
 pub fn first_event() -> usize
@@ -15,28 +40,10 @@ pub fn first_event() -> usize
 }
 
 // The number of the events of the text s, or the first line that breaks a rule.
-pub fn read_wait(s: &[u8]) -> Reading
+#[tactic(auto, unfolding(crate::specs::Wait::reading))]
+pub fn read_wait(s: &[u8]) -> Result<usize, usize>
     ensures { result ≡ reading s.now }
 {
-    if LONGEST < s.len() {
-        return Reading::Broken(0);
-    }
-    if !text::bytes_at(s, 0, b"wait=proc-1\n") {
-        return Reading::Broken(1);
-    }
-    let mut at = first_event();
-    let mut n: usize = 0;
-    while at != s.len() {
-        let r = crate::lines::event_at(s, at);
-        match r {
-            EventAt::Is(_, e) => {
-                at = e;
-                n += 1;
-            }
-            EventAt::Broken(line) => {
-                return Reading::Broken(1 + 6 * n + line);
-            }
-        }
-    }
-    Reading::Whole(n)
+    let (_, count) = items::read_text::<Wait>(s)?;
+    Ok(count)
 }

@@ -1,6 +1,6 @@
 -- What the numbers for a C host say of the replay's own answers, case by case of the answer. The numbers stand in specs/Status.antt, the
 -- answers in crate replay (specs/Into, specs/Sent).
-use Prim.Native.Nat.{ℕ, ◌≤◌}
+use Prim.Native.Nat.{ℕ, ◌≤◌, ◌-◌, ◌^◌}
 use mathlib.Core.Path.{◌≡◌, refl, sym, ◌∙◌}
 use mathlib.Core.Bool.{true, false}
 use mathlib.Core.List.{List}
@@ -9,41 +9,25 @@ use lib.IntN.{ℤ}
 use lib.ListN.{length}
 use mir.Syntax.{w32}
 use mir.Val.{to_z, of_z}
+use Rattle.text.specs.Put.{Put, Past, NoRoom as None}
 use Rattle.trace.specs.Trace.{trace_of}
 use Rattle.replay.specs.declared.border.Handed.{Handed}
-use Rattle.replay.specs.declared.into.Replayed.{Replayed}
-use Rattle.replay.specs.declared.into.Replayed.TheVariants.{Written, NoRoom}
-use Rattle.replay.specs.declared.out.Sent.{Sent}
-use Rattle.replay.specs.declared.out.Sent.TheVariants.{All, Refused}
+use Rattle.replay.specs.Replayed.{Replayed, Written, NoRoom}
+use Rattle.replay.specs.Sent.{Sent, All, Refused, is_trace, SentFits}
 use Rattle.replay.specs.Into.{Into, whole, cut, into_of, replayed, IntoFits}
-use Rattle.replay.specs.Sent.{is_trace, SentFits}
-use Rattle.input.specs.declared.Input.{Input}
-use Rattle.input.specs.declared.Input.TheVariants as reads
-use Rattle.input.specs.Input.{InputFits}
-use Rattle.exports.specs.Status.{answered, StatusFits, done, refused, unwritten, RunFits}
+use Rattle.input.specs.Input.{Input, InputFits}
+use Rattle.input.specs.Input as reads
+use Rattle.exports.specs.Status.{answered, reported, ReadFits, all, failed, StatusFits, done, refused, unwritten, RunFits}
+use Rattle.std.specs.Result.{result_unwrap_or}
+use Rattle.std.specs.Option.{unwrap_or}
 
-written-answered : (i : Into) {r : Replayed} {k : ℕ} → r ≡ replayed i → r ≡ Written k → k ≡ answered i
-written-answered (whole t) {r} {k} e f =
-    let h : Written k ≡ Written (length t) = sym f ∙ e in
-    cc
-written-answered (cut t) {r} {k} e f =
-    let h : Written k ≡ NoRoom (length t) = sym f ∙ e in
-    let z : ◌≡◌ {A = ℕ} 0 1 = cc in
-    absurd (omega arith)
+-- the length of a whole output, or 0
+answered_of : (i : Into) → result_unwrap_or (replayed i) 0 ≡ answered i
+answered_of (whole t) = refl
+answered_of (cut t) = refl
 
-short_answered : (i : Into) {r : Replayed} {k : ℕ} → r ≡ replayed i → r ≡ NoRoom k → 0 ≡ answered i
-short_answered (cut t) e f = refl
-short_answered (whole t) {r} {k} e f =
-    let h : NoRoom k ≡ Written (length t) = sym f ∙ e in
-    let z : ◌≡◌ {A = ℕ} 0 1 = cc in
-    absurd (omega arith)
-
-module _ {n : ℕ} {s xs ys : List ℕ} {r : Replayed} (f : IntoFits n s xs ys r) where
-  pub whole-answered : {k : ℕ} → r ≡ Written k → k ≡ answered (into_of n (length xs) s)
-  whole-answered e = written-answered (into_of n (length xs) s) f.says e
-
-  pub cut-answered : {k : ℕ} → r ≡ NoRoom k → 0 ≡ answered (into_of n (length xs) s)
-  cut-answered e = short_answered (into_of n (length xs) s) f.says e
+pub answered_as : {n : ℕ} {s xs ys : List ℕ} {r : Replayed} {k : ℕ} → IntoFits n s xs ys r → k ≡ result_unwrap_or r 0 → k ≡ answered (into_of n (length xs) s)
+answered_as {n} {s} {xs} f e = e ∙ rw f.says (answered_of (into_of n (length xs) s))
 
 module _ {n : ℕ} {s : List ℕ} {to : ℤ} {r : Sent} (f : SentFits n s to r) where
   pub all_is_trace : {h : Handed} → r ≡ All h → is_trace (trace_of s) ≡ true
@@ -52,11 +36,18 @@ module _ {n : ℕ} {s : List ℕ} {to : ℤ} {r : Sent} (f : SentFits n s to r) 
   pub refused_is_none : {h : Handed} → r ≡ Refused h → is_trace (trace_of s) ≡ false
   refused_is_none e = (rw e at f.ended).read
 
-pub input_inside : {most : ℕ} {r : Input} {size : ℕ} → InputFits most r → r ≡ reads.All size → size ≤ most
-input_inside f e = rw e at f
+-- how many bytes were read, or the largest number
+pub read_fits : (most : ℕ) (r : Input) → InputFits most r → ReadFits most (unwrap_or r (2 ^ 64 - 1))
+read_fits most (reads.All size) f = all f
+read_fits most reads.Failed f = failed
 
 -- handed on as a result, a number is read back from its bits
 pub status_fits : {s : List ℕ} {r : ℤ} → StatusFits s r → RunFits (to_z w32 (of_z w32 r))
 status_fits (done h) = omega arith
 status_fits (refused h) = omega arith
 status_fits unwritten = omega arith
+
+-- the length of a report, or 0
+pub reported_as : {k : ℕ} (p : Put) → k ≡ unwrap_or p 0 → k ≡ reported p
+reported_as (Past length) e = e
+reported_as None e = e

@@ -2,10 +2,8 @@
 use Rattle.std.specs.Prelude.{ℕ, ◌≤◌, ◌-◌, ◌^◌, ◌≡◌, true, false, List, ℤ, pos, negsuc, length}
 use Rattle.kinds.specs.Kinds.{slot, txid}
 use Rattle.trace.specs.Trace.{trace_of}
-use Rattle.text.specs.declared.Put.{Put}
-use Rattle.text.specs.declared.Put.TheVariants.{Past, NoRoom}
-use Rattle.wait_rules.specs.declared.Owner.{Owner}
-use Rattle.wait_rules.specs.declared.Owner.TheVariants.{Holds}
+use Rattle.text.specs.Put.{Put, Past, NoRoom}
+use Rattle.wait_rules.specs.Owner.{Owner, Holds}
 use Rattle.text.specs.Write.{spliced}
 use Rattle.replay.specs.Into.{Into, whole, cut, text_in, into_of}
 use Rattle.replay.specs.Sent.{is_trace}

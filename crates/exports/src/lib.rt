@@ -7,9 +7,9 @@ mod waits;
 ghost use Rattle.std.specs.Prelude.{◌≡◌, length};
 ghost use Rattle.exports.specs.Status.{answer_of, left_of, ReadFits, StatusFits, RunFits};
 
-use input::{Input, read_all};
+use input::read_all;
 use kinds::SLOTS;
-use replay::{Replayed, Sent};
+use replay::Gone;
 pub use waits::{sockhurdle_wait, sockhurdle_wait_owned};
 
 // One byte more than a trace may have, to know that there is one.
@@ -21,11 +21,8 @@ pub fn sockhurdle_replay(input: &[u8], out: &mut [u8]) -> usize
     ensures result_value { result ≡ answer_of SLOTS input.now out.old }
     ensures out_after { out.new ≡ left_of SLOTS input.now out.old }
 {
-    let said = replay::replay_into(input, out);
-    match said {
-        Replayed::Written(length) => length,
-        Replayed::NoRoom(_) => 0,
-    }
+    // A number, and no `Option`: C takes it, here and below.
+    replay::replay_into(input, out).unwrap_or(0)
 }
 
 // Reads an input to its end, or until the buffer is full. Answers the number of bytes, or 2^64 - 1 where a read failed:
@@ -33,11 +30,7 @@ pub fn sockhurdle_replay(input: &[u8], out: &mut [u8]) -> usize
 pub fn sockhurdle_read(from: i32, into: &mut [u8]) -> usize
     ensures { ReadFits (length into.old) result }
 {
-    let input = read_all(from, into);
-    match input {
-        Input::All(size) => size,
-        Input::Failed => usize::MAX,
-    }
+    read_all(from, into).unwrap_or(usize::MAX)
 }
 
 // A whole replay to a file descriptor, under proc-2 and proc-3 with the second engine's line. Answers 0 where it went; 3 where
@@ -45,11 +38,10 @@ pub fn sockhurdle_read(from: i32, into: &mut [u8]) -> usize
 pub fn sockhurdle_replay_to(input: &[u8], to: i32) -> i32
     ensures { StatusFits input.now result }
 {
-    let sent = replay::replay_to(input, to);
-    match sent {
-        Sent::All(_) => 0,
-        Sent::Refused(_) => 3,
-        Sent::Failed(_) => 1,
+    match replay::replay_to(input, to) {
+        Ok(Gone::All(_)) => 0,
+        Ok(Gone::Refused(_)) => 3,
+        Err(_) => 1,
     }
 }
 
@@ -59,9 +51,8 @@ pub fn sockhurdle_run(from: i32, to: i32) -> i32
     ensures { RunFits result }
 {
     let mut buf = [0u8; ROOM];
-    let input = read_all(from, &mut buf);
-    match input {
-        Input::All(size) => sockhurdle_replay_to(&buf[..size], to),
-        Input::Failed => 2,
-    }
+    let Some(size) = read_all(from, &mut buf) else {
+        return 2;
+    };
+    sockhurdle_replay_to(&buf[..size], to)
 }

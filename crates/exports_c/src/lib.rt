@@ -5,7 +5,7 @@
 
 ghost use Rattle.std.specs.Prelude.{◌≡◌, length};
 ghost use Rattle.text.specs.Write.{put_at, written};
-ghost use Rattle.wait_rules.specs.declared.Owner.TheVariants.{Nobody};
+ghost use Rattle.wait_rules.specs.Owner.{Nobody};
 ghost use Rattle.wait_report.specs.Report.{report_of};
 ghost use Rattle.exports.specs.Status.{answer_of, left_of, reported, holder, ReadFits, StatusFits, RunFits};
 

@@ -9,8 +9,8 @@ use Rattle.text.specs.Keys.{slot_key, id_key, clock_key, sample_key}
 use Rattle.text.specs.Line.{joined, one_line, line_texts}
 use Rattle.text.specs.FiveLines.{values_of, field_rules, Fits, five_lines, fields_at}
 use Rattle.text.specs.declared.Values.{Values}
-use Rattle.text.specs.declared.Fields.{Fields}
-use Rattle.text.specs.declared.Fields.TheVariants as fields
+use Rattle.text.specs.Fields.{Fields}
+use Rattle.text.specs.Fields as fields
 use Rattle.text.proofs.Places.{rest_of, There, then}
 use Rattle.text.proofs.Lines.{line-one}
 use Rattle.text.proofs.FiveLines.{zeros_fit, fields_of, fields_text, fields_open, fields_late}

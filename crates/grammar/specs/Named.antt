@@ -3,8 +3,8 @@ use Rattle.std.specs.Prelude.{ℕ, ◌≡◌, Bool, true, cond, List, ◌∷◌}
 use Rattle.text.specs.FiveLines.{Fits, five_lines, fields_at}
 use Rattle.text.specs.declared.Reads.{Reads}
 use Rattle.text.specs.declared.Values.{Values}
-use Rattle.text.specs.declared.Fields.{Fields}
-use Rattle.text.specs.declared.Fields.TheVariants as fields
+use Rattle.text.specs.Fields.{Fields}
+use Rattle.text.specs.Fields as fields
 use Rattle.grammar.specs.Names.{Names, name_line, NameAt, Named, Unknown, name_at}
 use Rattle.grammar.specs.Items.{ItemAt, Is, Broken, Form}
 

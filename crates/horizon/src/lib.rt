@@ -3,27 +3,33 @@
 #![tactic(auto)]
 
 ghost use Rattle.std.specs.Prelude.{◌≡◌};
-ghost use Rattle.model.specs.Tally.{active, minimum, oldest_of, holder_of, pin_holder_of};
+ghost use Rattle.model.specs.Calls.{oldest_in};
+ghost use Rattle.model.specs.Tables.{lent_by};
+ghost use Rattle.model.specs.Tally.{holder_of, pin_holder_of};
+
+use model::Columns;
 
 // Pins are told as numbers from here on.
 const FIRST_PIN: u64 = 2000;
 
 // What is told where nobody holds what was found, less the first pin's number.
+// (One number for slots, pins and nobody: so it is printed, and so C takes it.)
 const NOBODY_PAST_PINS: u64 = 63535;
 
 // The smallest of the sample, the snapshot_xmin of taken slots, and the taken pins.
-pub fn oldest_of<'a>(txids: &'a [u64], xmins: &'a [u64], pins: &'a [u64], sample: u64) -> u64
-    ensures { result ≡ minimum (oldest_of txids.now xmins.now sample) (active pins.now) }
+pub fn oldest_of(columns: Columns<'_>, sample: u64) -> u64
+    ensures { result ≡ oldest_in (lent_by columns.entry) sample }
 {
-    let low = taken_scans::oldest_retained(txids, xmins, sample);
-    taken_scans::oldest_retained(pins, pins, low)
+    let low = taken_scans::oldest_retained(columns.txids, columns.snapshot_xmins, sample);
+    taken_scans::oldest_retained(columns.pins, columns.pins, low)
 }
 
 // The lowest taken slot that retains xmin; where none does, 2,000 plus the lowest pin that holds it; 65,535 for nobody.
-pub fn holder_of<'a>(txids: &'a [u64], xmins: &'a [u64], pins: &'a [u64], xmin: u64) -> u64
-    ensures { result ≡ holder_of txids.now xmins.now xmin (pin_holder_of pins.now xmin) }
+#[tactic(auto, using(model::proofs::Holding::holder_bound))]
+pub fn holder_of(columns: Columns<'_>, xmin: u64) -> u64
+    ensures { let t = lent_by columns.entry in
+        result ≡ holder_of t.txids t.snapshot_xmins xmin (pin_holder_of t.pins xmin) }
 {
-    let pin = scans::lowest_holder(pins, pins, xmin, NOBODY_PAST_PINS);
-    let otherwise = pin + FIRST_PIN;
-    scans::lowest_holder(txids, xmins, xmin, otherwise)
+    let pin = scans::lowest_holder(columns.pins, columns.pins, xmin, NOBODY_PAST_PINS);
+    scans::lowest_holder(columns.txids, columns.snapshot_xmins, xmin, pin + FIRST_PIN)
 }

@@ -1,8 +1,7 @@
 -- What a host is answered (SPEC 18): 0 for no, 1 for yes, else a refusal's number. Each answer is the inner test's on what the bytes say.
 use Rattle.std.specs.Prelude.{ℕ, ◌%◌, Bool, cond, not, List, eqb, length}
 use Rattle.kinds.specs.declared.refusal.Refusal.TheVariants.{BadImage}
-use Rattle.kinds.specs.declared.refusal.Verdict.{Verdict}
-use Rattle.kinds.specs.declared.refusal.Verdict.TheVariants.{Pass, Refuse}
+use Rattle.kinds.specs.Verdicts.{Verdict, Pass, Refuse}
 use Rattle.kinds.specs.declared.told.Told.{Told}
 use Rattle.kinds.specs.Kinds.{txid}
 use Rattle.kinds.specs.Refusals.{told}

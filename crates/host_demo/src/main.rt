@@ -15,15 +15,23 @@ mod settling;
 mod story;
 mod tables;
 
-fn main() {
-    story::one_photo();
-    in_place::begin();
-    accepted::each_call();
-    edges::snapshots_and_begins();
-    edges::ends_and_vacuums();
-    refusals::of_begin_and_stamp();
-    refusals::of_end_and_finish();
-    refusals::of_observations();
-    settling::vectors();
-    checking::conditions();
+use std::io;
+
+fn run(rt: &impl Print) -> io::Result<()> {
+    story::one_photo(rt)?;
+    in_place::begin(rt)?;
+    accepted::each_call(rt)?;
+    edges::snapshots_and_begins(rt)?;
+    edges::ends_and_vacuums(rt)?;
+    refusals::of_begin_and_stamp(rt)?;
+    refusals::of_end_and_finish(rt)?;
+    refusals::of_observations(rt)?;
+    settling::vectors(rt)?;
+    checking::conditions(rt)?;
+    Ok(())
+}
+
+fn main(rt: HostRuntime) {
+    // Where a print fails, nobody is left to tell.
+    let _ = run(&rt);
 }

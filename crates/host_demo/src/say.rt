@@ -1,56 +1,39 @@
-// Words and numbers on standard output.
+// How numbers and tables are said.
 use kinds::SLOTS;
+use std::fmt;
 use table::Table;
 
-pub fn word(text: &[u8]) {
-    io::write_all(1, text);
-}
+// A number. That of the slots, and one more, are said in words, so that the lines are the same for any.
+#[derive(Clone, Copy)]
+pub struct Said(pub u64);
 
-// The number of slots, and one more, are said in words, so that the lines are the same for any.
-fn decimal(n: u64) {
-    let slots = SLOTS as u64;
-    if n == slots {
-        word(b"SLOTS");
-    } else if n == slots + 1 {
-        word(b"SLOTS+1");
-    } else {
-        io::print_decimal(1, n);
-    }
-}
-
-// A text whose `#` are the numbers, in their order.
-pub fn line(text: &[u8], numbers: &[u64]) {
-    let mut used: usize = 0;
-    let mut i: usize = 0;
-    while i < text.len() {
-        let from = i;
-        i += 1;
-        if text[from] != b'#' {
-            word(&text[from..i]);
-            continue;
-        }
-        if used < numbers.len() {
-            decimal(numbers[used]);
-            used += 1;
+impl fmt::Display for Said {
+    fn fmt<W: fmt::Write>(&self, f: &mut fmt::Formatter<W>) -> fmt::Result {
+        let slots = SLOTS as u64;
+        if self.0 == slots {
+            f.write_str("SLOTS")
+        } else if self.0 == slots + 1 {
+            f.write_str("SLOTS+1")
+        } else {
+            write!(f, "{}", self.0)
         }
     }
 }
 
 // The end of a line: a table, with three of its slots.
-pub fn table(t: Table) {
-    let counters = t.counters;
-    line(
-        b" | clock=# sample=# line=# slots=#/#,#/#,#/#\n",
-        &[
-            counters.clock,
-            counters.sampled_clock,
-            counters.vacuum_line,
-            t.txids[0],
-            t.snapshot_xmins[0],
-            t.txids[1],
-            t.snapshot_xmins[1],
-            t.txids[2],
-            t.snapshot_xmins[2],
-        ],
-    );
+#[derive(Clone, Copy)]
+pub struct Left<'a>(pub &'a Table);
+
+impl fmt::Display for Left<'_> {
+    fn fmt<W: fmt::Write>(&self, f: &mut fmt::Formatter<W>) -> fmt::Result {
+        let counters = self.0.counters;
+        write!(f, " | clock={}", Said(counters.clock))?;
+        write!(f, " sample={}", Said(counters.sampled_clock))?;
+        write!(f, " line={} slots=", Said(counters.vacuum_line))?;
+        let [first, second, third, ..] = self.0.txids;
+        let [xmin, second_xmin, third_xmin, ..] = self.0.snapshot_xmins;
+        write!(f, "{}/{},", Said(first), Said(xmin))?;
+        write!(f, "{}/{},", Said(second), Said(second_xmin))?;
+        write!(f, "{}/{}", Said(third), Said(third_xmin))
+    }
 }

@@ -1,8 +1,9 @@
 // The settled test, by value and on a snapshot's parts, lent. The first two snapshots are those of docs/DIFFERENCES.md,
 // D11: PostgreSQL's own example, 10:20:10,14,15, and 12:20:10, whose listed id is below xmin.
-use crate::say;
-use kinds::{SLOTS, Txid};
-use settled::{Settled, Snapshot};
+use crate::say::Said;
+use kinds::{Refusal, SLOTS, Txid};
+use settled::Snapshot;
+use std::io;
 
 // xmin:20:10,14,15,16, of which `count` ids are listed.
 fn to_20(xmin: u64, count: usize) -> Snapshot {
@@ -20,43 +21,43 @@ fn to_20(xmin: u64, count: usize) -> Snapshot {
 }
 
 // 1 for yes, 0 for no, or the refusal's number.
-fn number(answer: Settled) -> u64 {
+fn number(answer: Result<bool, Refusal>) -> u64 {
     match answer {
-        Settled::Yes => 1,
-        Settled::No => 0,
-        Settled::Refused(r) => {
-            let told = kinds::tell(r);
-            told.number
-        }
+        Ok(settled) => settled as u64,
+        Err(refusal) => kinds::number_of(refusal),
     }
 }
 
-fn ask(xmin: u64, count: usize, id: u64) {
+fn ask(rt: &impl Print, xmin: u64, count: usize, id: u64) -> io::Result<()> {
     let s = to_20(xmin, count);
     let by_value = number(settled::is_settled(s, Txid(id)));
     let lent = number(settled::is_settled_among(&s.ids, s.count, s.xmax, Txid(id)));
-    say::line(
-        b"xmin=# count=# id=#: settled=# among=#\n",
-        &[xmin, count as u64, id, by_value, lent],
-    );
+    print!(rt; "xmin={} count={}", Said(xmin), Said(count as u64))?;
+    println!(rt;
+        " id={}: settled={} among={}",
+        Said(id),
+        Said(by_value),
+        Said(lent)
+    )
 }
 
 // Of the first snapshot 16 stands past the count. The last two have the largest count, and one more.
-pub fn vectors() {
-    say::word(b"part=settled\n");
-    ask(10, 3, 9);
-    ask(10, 3, 10);
-    ask(10, 3, 11);
-    ask(10, 3, 13);
-    ask(10, 3, 14);
-    ask(10, 3, 15);
-    ask(10, 3, 16);
-    ask(10, 3, 19);
-    ask(10, 3, 20);
-    ask(12, 1, 10);
-    ask(12, 1, 11);
-    ask(10, SLOTS, 0);
-    ask(10, SLOTS, 16);
-    ask(10, SLOTS + 1, 0);
-    ask(10, SLOTS + 1, 9);
+pub fn vectors(rt: &impl Print) -> io::Result<()> {
+    println!(rt; "part=settled")?;
+    ask(rt, 10, 3, 9)?;
+    ask(rt, 10, 3, 10)?;
+    ask(rt, 10, 3, 11)?;
+    ask(rt, 10, 3, 13)?;
+    ask(rt, 10, 3, 14)?;
+    ask(rt, 10, 3, 15)?;
+    ask(rt, 10, 3, 16)?;
+    ask(rt, 10, 3, 19)?;
+    ask(rt, 10, 3, 20)?;
+    ask(rt, 12, 1, 10)?;
+    ask(rt, 12, 1, 11)?;
+    ask(rt, 10, SLOTS, 0)?;
+    ask(rt, 10, SLOTS, 16)?;
+    ask(rt, 10, SLOTS + 1, 0)?;
+    ask(rt, 10, SLOTS + 1, 9)?;
+    Ok(())
 }

@@ -1,40 +1,36 @@
 // The story of README: a photo of two tiles is re-encoded while a page reads it. Each call is one critical section of the
 // host, which hands in what its atomics gave; the table that comes back is the next one in.
 use crate::calls::{begin, finish, holder, value};
-use crate::say;
+use crate::say::{Left, Said};
 use kinds::{SlotNo, Stamp, Txid};
-use settled::{Settled, Snapshot};
+use settled::Snapshot;
+use std::io;
 use table::{Answer, Table};
 
 // The maker of the old tiles.
 const OLD: u64 = 1;
 
 fn may_use(shown: Snapshot, maker: Txid) -> bool {
-    match settled::is_settled(shown, maker) {
-        Settled::Yes => true,
-        Settled::No => false,
-        Settled::Refused(_) => false,
-    }
+    settled::is_settled(shown, maker).unwrap_or(false)
 }
 
 // Whose tile a page reads: the new one if it may, else the old one if it may, else none.
 fn read(shown: Snapshot, new: Txid) -> u64 {
     if may_use(shown, new) {
-        return new.0;
+        new.0
+    } else if may_use(shown, Txid(OLD)) {
+        OLD
+    } else {
+        0
     }
-    if may_use(shown, Txid(OLD)) {
-        return OLD;
-    }
-    0
 }
 
 // A page asks for its top tile before the re-encode is done, and for its bottom tile after: both are the old ones. The old
 // tiles may go once the id that replaced them is below the line. Who holds it back is the re-encode, then the page, then nobody.
-fn page(t: Table, encode: SlotNo, new: Txid) -> Table {
+fn page(rt: &impl Print, t: Table, encode: SlotNo, new: Txid) -> io::Result<Table> {
     let joined = table::begin_transaction(t, Stamp(4));
-    let answer = joined.answer;
-    let Answer::Begun { slot, id } = answer else {
-        return joined.table;
+    let Ok(Answer::Begun { slot, id }) = joined.answer else {
+        return Ok(joined.table);
     };
     let seen = table::create_transaction_snapshot(joined.table, slot, id, 5, 5);
     let top = read(seen.snapshot, new);
@@ -44,42 +40,49 @@ fn page(t: Table, encode: SlotNo, new: Txid) -> Table {
     let bottom = read(seen.snapshot, new);
     let left = table::end_transaction(after.table, slot, id);
     let last = table::vacuum(left.table, 6, 6);
-    say::line(
-        b"page: top=# line=# holder=# line=# holder=# bottom=# line=# holder=#\n",
-        &[
-            top,
-            value(before),
-            holder(before),
-            value(after),
-            holder(after),
-            bottom,
-            value(last),
-            holder(last),
-        ],
-    );
-    last.table
+    print!(rt; "page: top={}", Said(top))?;
+    print!(rt;
+        " line={} holder={}",
+        Said(value(&before)),
+        Said(holder(&before))
+    )?;
+    print!(rt;
+        " line={} holder={}",
+        Said(value(&after)),
+        Said(holder(&after))
+    )?;
+    print!(rt; " bottom={}", Said(bottom))?;
+    println!(rt;
+        " line={} holder={}",
+        Said(value(&last)),
+        Said(holder(&last))
+    )?;
+    Ok(last.table)
 }
 
 // A page that comes after the re-encode reads both new tiles.
-fn next_page(t: Table, new: Txid) {
+fn next_page(rt: &impl Print, t: Table, new: Txid) -> io::Result<()> {
     let begun = table::begin_transaction(t, Stamp(6));
-    let answer = begun.answer;
-    let Answer::Begun { slot, id } = answer else {
-        return;
+    let Ok(Answer::Begun { slot, id }) = begun.answer else {
+        return Ok(());
     };
     let seen = table::create_transaction_snapshot(begun.table, slot, id, 7, 7);
-    say::line(b"next page: top and bottom=#", &[read(seen.snapshot, new)]);
-    say::table(seen.table);
+    let both = read(seen.snapshot, new);
+    println!(rt;
+        "next page: top and bottom={}{}",
+        Said(both),
+        Left(&seen.table)
+    )
 }
 
-pub fn one_photo() {
-    say::word(b"part=story\n");
-    let made = finish(begin(table::fresh(), OLD), 0, OLD, 2);
+pub fn one_photo(rt: &impl Print) -> io::Result<()> {
+    println!(rt; "part=story")?;
+    let old = begin(rt, table::fresh(), OLD)?;
+    let made = finish(rt, old, 0, OLD, 2)?;
     let begun = table::begin_transaction(made, Stamp(3));
-    let answer = begun.answer;
-    let Answer::Begun { slot, id } = answer else {
-        return;
+    let Ok(Answer::Begun { slot, id }) = begun.answer else {
+        return Ok(());
     };
-    let left = page(begun.table, slot, id);
-    next_page(left, id);
+    let left = page(rt, begun.table, slot, id)?;
+    next_page(rt, left, id)
 }

@@ -1,11 +1,12 @@
 -- The law of 8 bytes: a number is known by its bytes, and the bytes by their number. And what is read at a place.
-use Prim.Native.Nat.{ℕ, zero, suc, ◌+◌, ◌*◌, ◌/◌, ◌%◌, ◌^◌, ◌<◌, ◌≤◌}
+use Prim.Native.Nat.{ℕ, zero, suc, ◌+◌, ◌*◌, ◌/◌, ◌%◌, ◌^◌, ◌<◌, ◌≤◌, ◌-◌}
 use mathlib.Core.Path.{◌≡◌, refl, sym, ap, ◌∙◌}
 use mathlib.Core.List.{List, [], ◌∷◌, ◌++◌}
-use native.Mathlib.Nat.{pow-suc, add-zero}
+use native.Mathlib.Nat.{pow-suc}
 use native.Mathlib.Omega.{arith}
-use lib.ListN.{length, get_or, take, drop, length-drop}
-use lib.Seq.{drop-cons, take_at, length-take-le, get_or-drop}
+use lib.ListN.{length, take, drop, length-drop}
+use Rattle.std.specs.Int.{w64, from_le_bytes}
+use lib.Seq.{take_at, length-take-le, get_or-drop}
 use Rattle.kinds.specs.Kinds.{top}
 use Rattle.image.specs.Words.{byte_base, number_of, low_bytes, word_bytes, word_at, Bytes}
 
@@ -55,29 +56,15 @@ bytes_there s at b h =
     ap (λ (k : ℕ). low_bytes k (number_of there)) (sym eight)
     ∙ bytes_of_number there (bytes_take 8 (drop at s) (bytes_drop at s b))
 
--- reading the 8 bytes one after the other
-abbrev gathered : ℕ → List ℕ → ℕ → ℕ → ℕ
-gathered zero s at i = 0
-gathered (suc k) s at i = get_or s (at + i) 0 + byte_base * gathered k s at (suc i)
-
-gathers : (k : ℕ) (s : List ℕ) (at i : ℕ) → at + i + k ≤ length s → number_of (take k (drop (at + i) s)) ≡ gathered k s at i
+-- eight bytes as the library reads them
+pub number_eight : (bs : List ℕ) → length bs ≡ 8 → from_le_bytes w64 bs ≡ number_of bs
 unfolding number_of
-gathers zero s at i h = refl
-gathers (suc k) s at i h =
-    let rest = gathers k s at (suc i) (omega arith) in
-    let next : suc (at + i) ≡ at + suc i = omega arith in
-    rw (drop-cons s (at + i) 0 (omega arith), next, rest)
+number_eight (a ∷ b ∷ c ∷ d ∷ e ∷ f ∷ g ∷ h ∷ []) l = omega arith
+number_eight _ l = absurd (omega arith)
 
-pub eight-bytes :
-    (s : List ℕ) (at : ℕ) → at + 8 ≤ length s →
-    word_at s at
-    ≡ get_or s at 0
-    + byte_base * (get_or s (at + 1) 0
-    + byte_base * (get_or s (at + 2) 0
-    + byte_base * (get_or s (at + 3) 0
-    + byte_base * (get_or s (at + 4) 0
-    + byte_base * (get_or s (at + 5) 0 + byte_base * (get_or s (at + 6) 0 + byte_base * get_or s (at + 7) 0))))))
+pub word_read : (s : List ℕ) (at : ℕ) (bytes : List ℕ) → at + 8 ≤ length s → bytes ≡ take (at + 8 - at) (drop at s) → from_le_bytes w64 bytes ≡ word_at s at
 unfolding word_at
-eight-bytes s at h =
-    let e = rw (add-zero at) at (gathers 8 s at 0 (omega arith)) in
-    omega (arith, e)
+word_read s at bytes h e =
+    let eight : at + 8 - at ≡ 8 = omega arith in
+    let there : bytes ≡ take 8 (drop at s) = rw eight at e in
+    number_eight bytes (ap length there ∙ length-take-le 8 (drop at s) (omega (arith, length-drop at s))) ∙ ap number_of there

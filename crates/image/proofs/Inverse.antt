@@ -1,10 +1,10 @@
 -- Images and lists, written and read: each is undone by the other, number by number and slot by slot.
-use Prim.Native.Nat.{ℕ, zero, suc, ◌+◌, ◌*◌, ◌/◌, ◌%◌, ◌≤◌, ◌<◌}
+use Prim.Native.Nat.{ℕ, zero, suc, ◌+◌, ◌*◌, ◌/◌, ◌%◌, ◌≤◌}
 use mathlib.Core.Path.{◌≡◌, refl, sym, ap, ◌∙◌}
 use mathlib.Core.List.{List, [], ◌∷◌, ◌++◌, append-nil, append_assoc}
-use native.Mathlib.Nat.{add_assoc, mul-suc}
+use native.Mathlib.Nat.{add_assoc}
 use native.Mathlib.Omega.{arith}
-use lib.ListN.{length, get_or, take, drop, length-append, length-drop, take-append-drop}
+use lib.ListN.{length, take, drop, length-append, length-drop, take-append-drop}
 use lib.Seq.{drop-drop, drop_at, take-add, take_all}
 use Rattle.kinds.specs.Kinds.{top, pin_count}
 use Rattle.model.specs.declared.Counters.{Counters}
@@ -14,12 +14,17 @@ use Rattle.image.specs.Lists.{count_of, ids_of}
 use Rattle.image.specs.Images.{slots_bytes, counters_bytes, image_of, counters_at, image_size, table_of, Expressible}
 use Rattle.image.proofs.Eight.{bytes-length, word_in_front, bytes_there, bytes_drop}
 
+pub words_length : (k : ℕ) (s : List ℕ) (from apart : ℕ) → length (words_from k s from apart) ≡ k
+unfolding words_from
+words_length zero s from apart = refl
+words_length (suc k) s from apart = ap suc (words_length k s (from + apart) apart)
+
 -- what lies past a place is read as from there
 word-past : (s : List ℕ) (m i : ℕ) → word_at s (m + i) ≡ word_at (drop m s) i
 unfolding word_at
 word-past s m i = rw (drop-drop i m s)
 
-words_past : (k : ℕ) (s : List ℕ) (m from apart : ℕ) → words_from k s (m + from) apart ≡ words_from k (drop m s) from apart
+pub words_past : (k : ℕ) (s : List ℕ) (m from apart : ℕ) → words_from k s (m + from) apart ≡ words_from k (drop m s) from apart
 unfolding words_from
 words_past zero s m from apart = refl
 words_past (suc k) s m from apart =

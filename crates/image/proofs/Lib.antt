@@ -1,5 +1,3 @@
 pub mod Eight
-pub mod Filling
-pub mod Searching
-pub mod Columns
 pub mod Inverse
+pub mod Chunks

@@ -1,12 +1,11 @@
 -- The image of a table (SPEC 18.3).
-use Rattle.std.specs.Prelude.{ℕ, ◌+◌, ◌*◌, ◌≤◌, ◌≡◌, cond, List, [], ◌∷◌, ◌++◌, eqb, length, replicate}
-use Rattle.kinds.specs.Kinds.{top, pin_count, free_pins}
+use Rattle.std.specs.Prelude.{ℕ, ◌+◌, ◌*◌, ◌≤◌, ◌≡◌, cond, List, [], ◌∷◌, ◌++◌, eqb, length, Result, Ok, Err}
+use Rattle.kinds.specs.Kinds.{top, pin_count}
+use Rattle.kinds.specs.declared.refusal.Refusal.{Refusal}
 use Rattle.kinds.specs.declared.refusal.Refusal.TheVariants.{BadImage}
-use Rattle.kinds.specs.declared.refusal.Verdict.TheVariants.{Pass, Refuse}
 use Rattle.model.specs.declared.Counters.{Counters}
 use Rattle.model.specs.declared.Table.{Table}
 use Rattle.model.specs.Tables.{counted, lent, clock_of, sample_of, line_of}
-use Rattle.image.specs.declared.ImageRead.{ImageRead}
 use Rattle.image.specs.Words.{word_bytes, words_bytes, word_at, words_from, Words}
 
 -- slot after slot: its txid, then its snapshot_xmin
@@ -40,15 +39,19 @@ unfoldable pub table_of : ℕ → List ℕ → Table
 table_of n s =
     lent (words_from n s 0 16) (words_from n s 8 16) (words_from pin_count s (pins_from n) 8) (counters_at s (counters_from n))
 
--- 18, for bytes of any other length; beside it stands a table of zeros
-unfoldable pub no_image : ℕ → ImageRead
-no_image n = record { verdict = Refuse BadImage; table = lent (replicate n 0) (replicate n 0) free_pins (counted 0 0 0) }
+-- what bytes are read as: a table, or a refusal
+abbrev pub ImageRead : Type 0
+ImageRead = Result Table Refusal
+
+-- 18, for bytes of any other length
+abbrev pub no_image : ImageRead
+no_image = Err BadImage
 
 abbrev pub whole : ℕ → List ℕ → ImageRead
-whole n s = record { verdict = Pass; table = table_of n s }
+whole n s = Ok (table_of n s)
 
 unfoldable pub image_read : ℕ → List ℕ → ImageRead
-image_read n s = cond (eqb (length s) (image_size n)) (whole n s) (no_image n)
+image_read n s = cond (eqb (length s) (image_size n)) (whole n s) no_image
 
 -- a table that some image says: n slots, all pins, and numbers of 64 bits
 pub record Expressible (n : ℕ) (t : Table) : Type 0 where

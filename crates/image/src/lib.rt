@@ -4,10 +4,10 @@
 mod search;
 mod words;
 
-ghost use Rattle.std.specs.Prelude.{◌≡◌, length};
-ghost use Rattle.image.specs.Images.{image_size, counters_from, counters_at, no_image, image_read};
+ghost use Rattle.std.specs.Prelude.{◌≡◌};
+ghost use Rattle.image.specs.Images.{image_read};
 
-use kinds::{PINS, Refusal, SLOTS, Verdict};
+use kinds::{PINS, Refusal, SLOTS};
 use model::{Counters, Table};
 pub use search::lists;
 
@@ -22,68 +22,21 @@ const LINE: usize = SAMPLE + 8;
 
 const LENGTH: usize = LINE + 8;
 
-// What an image is read as: a table; or refusal 18, beside a table of zeros.
-#[derive(Clone, Copy)]
-pub struct ImageRead {
-    pub verdict: Verdict,
-    pub table: Table,
-}
-
-fn no_image() -> ImageRead
-    ensures { result ≡ no_image SLOTS }
-{
-    let counters = Counters {
-        clock: 0,
-        sampled_clock: 0,
-        vacuum_line: 0,
-    };
-    ImageRead {
-        verdict: Verdict::Refuse(Refusal::BadImage),
-        table: Table {
-            txids: kinds::zeros(),
-            snapshot_xmins: kinds::zeros(),
-            pins: kinds::free_pins(),
-            counters,
-        },
-    }
-}
-
-fn counters_in(image: &[u8]) -> Counters
-    requires { length image.now ≡ image_size SLOTS }
-    ensures { result ≡ counters_at image.now (counters_from SLOTS) }
-{
-    let clock = words::word_at(image, CLOCK);
-    let sampled_clock = words::word_at(image, SAMPLE);
-    let vacuum_line = words::word_at(image, LINE);
-    Counters {
-        clock,
-        sampled_clock,
-        vacuum_line,
-    }
-}
-
-// The table of an image.
-pub fn read_image(image: &[u8]) -> ImageRead
+// The table of an image; refusal 18 for bytes of any other length.
+pub fn read_image(image: &[u8]) -> Result<Table, Refusal>
     ensures { result ≡ image_read SLOTS image.now }
 {
     if image.len() != LENGTH {
-        return no_image();
+        return Err(Refusal::BadImage);
     }
-    let mut txids = kinds::zeros();
-    words::fill(image, 0, 16, &mut txids);
-    let mut snapshot_xmins = kinds::zeros();
-    words::fill(image, 8, 16, &mut snapshot_xmins);
-    let mut pins = kinds::free_pins();
-    words::fill(image, FIRST_PIN, 8, &mut pins);
-    let counters = counters_in(image);
-    let table = Table {
-        txids,
-        snapshot_xmins,
-        pins,
-        counters,
-    };
-    ImageRead {
-        verdict: Verdict::Pass,
-        table,
-    }
+    Ok(Table {
+        txids: words::column(image, 0, 16),
+        snapshot_xmins: words::column(image, 8, 16),
+        pins: words::column(image, FIRST_PIN, 8),
+        counters: Counters {
+            clock: words::word_at(image, CLOCK),
+            sampled_clock: words::word_at(image, SAMPLE),
+            vacuum_line: words::word_at(image, LINE),
+        },
+    })
 }

@@ -1,25 +1,18 @@
 // A list of ids is searched where it lies: no number is copied, and nothing is set aside for it.
-ghost use Rattle.std.specs.Prelude.{◌≡◌, ◌+◌, ◌≤◌, length};
+ghost use Rattle.std.specs.Prelude.{◌≡◌, ◌==◌};
+ghost use Rattle.std.specs.List.{list_any};
+ghost use Rattle.std.specs.Int.{w64, from_le_bytes};
 ghost use Rattle.listed.specs.Listed.{listed};
-ghost use Rattle.image.specs.Words.{words_from};
 ghost use Rattle.image.specs.Lists.{ids_of};
 
-use crate::words;
-
-// Whether x is among the eight numbers from `at` on: all are compared, without a branch between them.
-fn is_near(list: &[u8], at: usize, x: u64) -> bool
-    requires { at + 64 ≤ length list.now }
-    ensures { result ≡ listed x (words_from 8 list.now at 8) }
+// Whether x is among some numbers: all are compared, without a branch between them.
+fn is_near(words: &[[u8; 8]], x: u64) -> bool
+    ensures { result ≡ list_any (λ word. from_le_bytes w64 word == x) words.now }
 {
-    let a = words::word_at(list, at) == x;
-    let b = words::word_at(list, at + 8) == x;
-    let c = words::word_at(list, at + 16) == x;
-    let d = words::word_at(list, at + 24) == x;
-    let e = words::word_at(list, at + 32) == x;
-    let f = words::word_at(list, at + 40) == x;
-    let g = words::word_at(list, at + 48) == x;
-    let h = words::word_at(list, at + 56) == x;
-    a | (b | (c | (d | (e | (f | (g | h))))))
+    words.iter().fold(
+        false,
+        |found, word| found | (u64::from_le_bytes(*word) == x),
+    )
 }
 
 // Whether x is among the numbers of a list, however many they are. Eight a turn, then those that are left; it leaves with the
@@ -27,19 +20,7 @@ fn is_near(list: &[u8], at: usize, x: u64) -> bool
 pub fn lists(list: &[u8], x: u64) -> bool
     ensures { result ≡ listed x (ids_of list.now) }
 {
-    let count = list.len() / 8;
-    let mut i: usize = 0;
-    while 8 <= count - i {
-        if is_near(list, 8 * i, x) {
-            return true;
-        }
-        i += 8;
-    }
-    while i < count {
-        if words::word_at(list, 8 * i) == x {
-            return true;
-        }
-        i += 1;
-    }
-    false
+    let (words, _) = list.as_chunks::<8>();
+    let (turns, rest) = words.as_chunks::<8>();
+    turns.iter().any(|turn| is_near(turn, x)) || is_near(rest, x)
 }

@@ -5,17 +5,9 @@
 ghost use Rattle.std.specs.Prelude.{length};
 ghost use Rattle.input.specs.Input.{InputFits};
 
-// So many bytes came, and then the end, or no more had room; or a read failed.
-#[derive(Clone, Copy)]
-pub enum Input {
-    All(usize),
-    Failed,
-}
-
 // The number of the thread's last call that failed, 0 where none has.
 fn last_failure() -> i32 {
-    let error = std_io::io::last_error();
-    error.raw_os_error().unwrap_or(0)
+    std_io::io::last_error().raw_os_error().unwrap_or(0)
 }
 
 // Makes the thread's last failure one that no read has: the logarithm of a negative number is outside its domain. A read that
@@ -28,16 +20,13 @@ fn fail_unlike_a_read(from: i32) -> i32 {
 }
 
 // Reads until the input ends or the buffer is full.
-pub fn read_all(from: i32, buf: &mut [u8]) -> Input
+pub fn read_all(from: i32, buf: &mut [u8]) -> Option<usize>
     ensures { InputFits (length buf.old) result }
 {
     let before = fail_unlike_a_read(from);
     let done = io::read_full(from, buf);
-    if done < buf.len() {
-        if last_failure() == before {
-            return Input::All(done);
-        }
-        return Input::Failed;
+    if done < buf.len() && last_failure() != before {
+        return None;
     }
-    Input::All(done)
+    Some(done)
 }

@@ -8,19 +8,19 @@ use lib.ListN.{length, length-set}
 use lib.Seq.{get_or-set_same}
 use Rattle.kinds.specs.declared.Stamp.{Stamp}
 use Rattle.kinds.specs.declared.told.Told.{Told}
-use Rattle.kinds.specs.declared.refusal.Verdict.TheVariants.{Pass}
+use Rattle.kinds.specs.Verdicts.{Pass}
 use Rattle.model.specs.declared.Table.{Table}
 use Rattle.model.specs.Answers.{tells_of}
-use Rattle.model.specs.Calls.{Call, begin, end, refusal, answer}
+use Rattle.model.specs.Calls.{Call, begin, refusal, answer}
 use Rattle.model.specs.Reservations.{reserves_by}
-use Rattle.upstream.specs.States.{State, Slot, slot, at, state_of, state_after, Shaped, Foreseen}
+use Rattle.upstream.specs.States.{State, Slot, slot, state_of, state_after, Shaped, Foreseen}
 use Rattle.upstream.specs.Relations.{TableOf, HistoryOf, WellFormed}
 use Rattle.upstream.specs.Clauses.{BeginOk, BeginTransaction}
 use Rattle.upstream.proofs.Yes.{from_yes}
 use Rattle.upstream.proofs.Pairs.{slots_of, slots_length}
 use Rattle.upstream.proofs.Always.{still_well_formed}
 use Rattle.upstream.proofs.Begin.{begin_meets}
-use Rattle.wait_rules.specs.declared.Owner.{Owner}
+use Rattle.wait_rules.specs.Owner.{Owner}
 use Rattle.wait.specs.Waits.{wait_of}
 use Rattle.wait.proofs.Waits.{heard, end-passes}
 use Rattle.interference.specs.Interference.{Extends, WaitEvent, Valid, events_told_by, history_told}

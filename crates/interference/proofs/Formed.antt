@@ -13,7 +13,7 @@ use Rattle.model.proofs.Reservations.{nothing}
 use Rattle.upstream.specs.States.{Slot, State, slot, at, push}
 use Rattle.upstream.specs.Relations.{Contains, TablePart, WellFormed}
 use Rattle.upstream.proofs.Histories.{contains_pushes, contains_last, history_push, history_step}
-use Rattle.wait_rules.specs.declared.Owner.{Owner}
+use Rattle.wait_rules.specs.Owner.{Owner}
 use Rattle.interference.specs.Interference.{WaitEvent, Register, End, Horizon, Reserve, Observe, WaitStep, Valid, none, also}
 
 -- a slot after a store: the stored one, or another one as it was

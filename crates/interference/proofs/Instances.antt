@@ -4,7 +4,7 @@ use Prim.Native.Nat.{ℕ}
 use mathlib.Core.Path.{◌≡◌, refl}
 use mathlib.Core.List.{List, [], ◌∷◌, ◌++◌}
 use Rattle.kinds.specs.Kinds.{free_pins, number, slot, txid}
-use Rattle.kinds.specs.declared.refusal.Verdict.TheVariants.{Pass}
+use Rattle.kinds.specs.Verdicts.{Pass}
 use Rattle.listed.specs.Listed.{listed}
 use Rattle.model.specs.declared.Table.{Table}
 use Rattle.model.specs.Tally.{active, minimum, lowest_empty}
@@ -25,8 +25,7 @@ use Rattle.upstream.specs.States.{state_of}
 use Rattle.upstream.specs.Relations.{HistoryOf}
 use Rattle.upstream.proofs.Fresh.{from-fresh}
 use Rattle.events.specs.Wait.{header}
-use Rattle.wait_rules.specs.declared.Owner.{Owner}
-use Rattle.wait_rules.specs.declared.Owner.TheVariants.{Nobody, Holds}
+use Rattle.wait_rules.specs.Owner.{Owner, Nobody, Holds}
 use Rattle.wait_rules.specs.Steps.{register_rule, end_rule, rule_of, event_test, change_by, event_change}
 use Rattle.wait.specs.Waits.{holder_test, steps_from, ended, verdict_on, wait_of}
 use Rattle.wait.proofs.Told.{Tells, begin-told, full-told, end-told, own-told, stamp-told, finish-told, snap-told, oldest-told}

@@ -9,9 +9,8 @@ use mathlib.Core.List.{List, [], ◌∷◌, ◌++◌}
 use borrow.Author.Tests.{ne_eqb}
 use Rattle.kinds.specs.declared.PinNo.{PinNo}
 use Rattle.kinds.specs.declared.refusal.Refusal.{Refusal}
-use Rattle.kinds.specs.declared.refusal.Verdict.{Verdict}
+use Rattle.kinds.specs.Verdicts.{Verdict, Pass, Refuse}
 use Rattle.kinds.specs.Refusals.{consumed}
-use Rattle.kinds.specs.declared.refusal.Verdict.TheVariants.{Pass, Refuse}
 use Rattle.model.specs.declared.Table.{Table}
 use Rattle.model.specs.Tally.{lowest_empty}
 use Rattle.model.specs.Tables.{txid_at, clock_of, line_of}
@@ -30,23 +29,21 @@ use Rattle.upstream.proofs.Always.{refusal_unseen, spent_unseen}
 use Rattle.grammar.specs.Texts.{Whole}
 use Rattle.events.specs.Wait.{Wait1, events_of}
 use Rattle.events.specs.declared.Event.{Event}
-use Rattle.wait_rules.specs.declared.Owner.{Owner}
-use Rattle.wait_rules.specs.declared.Owner.TheVariants.{Nobody, Holds}
+use Rattle.wait_rules.specs.Owner.{Owner, Nobody, HeldBy}
 use Rattle.wait_rules.specs.Steps.{not_owned, rule_of, event_test, event_after, event_change, change_by as changeByEvent}
 use Rattle.wait.specs.Waits.{holder_test, steps_from, ended, wait_of}
-use Rattle.wait.proofs.Waits.{stays-ended, line-ended, pins-ended, accepts}
+use Rattle.wait.proofs.Waits.{went_on, stays-ended, line-ended, pins-ended, accepts}
 use Rattle.wait.proofs.Told.{Tells, begin-told, full-told, end-told, own-told, stamp-told, finish-told, snap-told, oldest-told}
 use Rattle.wait.proofs.Told.{observes_clock}
 use Rattle.interference.specs.Meanwhile.{Elsewhere, Meanwhile, nothing, then}
-use Rattle.interference.proofs.Steps.{went_on}
 use Rattle.interference.proofs.Others.{vacuum-observed}
 
 -- the slot that a begin enters is empty, so it is not the owner's
 owner_elsewhere : (n : ℕ) (owner : Owner) (t : Table) → holder_test n t owner ≡ Pass → not_owned owner (lowest_empty t.txids) ≡ true
 owner_elsewhere n Nobody t h = refl
-owner_elsewhere n (Holds mine id) t h =
-    let o = owns n t mine id h in
-    rw (ne_eqb (lowest_empty t.txids) mine.0
+owner_elsewhere n (HeldBy mine) t h =
+    let o = owns n t mine.slot mine.id h in
+    rw (ne_eqb (lowest_empty t.txids) mine.slot.0
     (λ e. o.registered.not_zero (sym o.registered.holds ∙ ap (λ (i : ℕ). txid_at t i) (sym e) ∙ lowest_empty_lem t.txids)))
 
 -- some events tell of the call, but for line and pins
@@ -159,10 +156,10 @@ ended_join t (e ∷ es) later = ended_join (event_after t e) es later
 holds_on : (n : ℕ) (owner : Owner) (t : Table) (es : List Event) → holder_test n t owner ≡ Pass → steps_from n owner t 1 es ≡ Pass
     → holder_test n (ended t es) owner ≡ Pass
 holds_on n Nobody t es h k = refl
-holds_on n (Holds mine id) t es h k =
-    let o = owns n t mine id h in
-    let same = stays-ended n mine id t 1 es k in
-    owner-passes n (ended t es) mine id
+holds_on n (HeldBy mine) t es h k =
+    let o = owns n t mine.slot mine.id h in
+    let same = stays-ended n mine.slot mine.id t 1 es k in
+    owner-passes n (ended t es) mine.slot mine.id
     (record {
       inside = o.inside;
       registered = record { not_zero = o.registered.not_zero; holds = same.txid_stays ∙ o.registered.holds };

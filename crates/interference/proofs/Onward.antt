@@ -12,8 +12,7 @@ use Rattle.kinds.specs.declared.SlotNo.{SlotNo}
 use Rattle.kinds.specs.declared.Txid.{Txid}
 use Rattle.upstream.specs.States.{Slot, State, slot, at, push, pushes}
 use Rattle.upstream.proofs.Histories.{length_push}
-use Rattle.wait_rules.specs.declared.Owner.{Owner}
-use Rattle.wait_rules.specs.declared.Owner.TheVariants.{Holds}
+use Rattle.wait_rules.specs.Owner.{Owner, Holds}
 use Rattle.interference.specs.Interference.{LiveOwner, Extends, WaitEvent, Register, End, Horizon, Reserve, Observe}
 use Rattle.interference.specs.Interference.{WaitStep, Allowed, Valid, none, also}
 

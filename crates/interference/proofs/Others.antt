@@ -12,7 +12,7 @@ use Rattle.model.specs.History.{Accepts}
 use Rattle.upstream.specs.States.{state_of}
 use Rattle.upstream.proofs.Yes.{beside}
 use Rattle.events.specs.declared.Event.{Event}
-use Rattle.wait_rules.specs.declared.Owner.{Owner}
+use Rattle.wait_rules.specs.Owner.{Owner}
 use Rattle.wait_rules.specs.Steps.{change_by, event_change}
 use Rattle.wait.specs.Waits.{ended}
 use Rattle.wait.proofs.Waits.{line-ended}

@@ -7,7 +7,7 @@ use mathlib.Core.List.{List}
 use lib.ListN.{length, set, length-set}
 use Rattle.kinds.specs.declared.SlotNo.{SlotNo}
 use Rattle.kinds.specs.declared.Txid.{Txid}
-use Rattle.kinds.specs.declared.refusal.Verdict.TheVariants.{Pass}
+use Rattle.kinds.specs.Verdicts.{Pass}
 use Rattle.settled.specs.declared.Snapshot.{Snapshot}
 use Rattle.model.specs.declared.Table.{Table}
 use Rattle.model.specs.Tables.{clock_of}
@@ -22,8 +22,7 @@ use Rattle.upstream.proofs.Pairs.{slots_of, txid-at, slots_length}
 use Rattle.upstream.proofs.Runs.{observation_strict}
 use Rattle.upstream.proofs.End.{end_meets}
 use Rattle.upstream.proofs.Snapshots.{create_transaction_snapshot_meets}
-use Rattle.wait_rules.specs.declared.Owner.{Owner}
-use Rattle.wait_rules.specs.declared.Owner.TheVariants.{Holds}
+use Rattle.wait_rules.specs.Owner.{Owner, Holds}
 use Rattle.wait.specs.Waits.{wait_of}
 use Rattle.wait.proofs.Waits.{heard, owner_unharmed}
 use Rattle.interference.specs.Interference.{LiveOwner, history_told}

@@ -4,16 +4,13 @@ use native.Mathlib.Nat.{le_refl}
 use native.Mathlib.Omega.{arith}
 use mathlib.Core.Path.{◌≡◌, refl, sym, ap, ◌∙◌}
 use mathlib.Core.Logic.{◌≢◌}
-use mathlib.Core.Bool.{Bool, true, false, cond, not, and-eq-true_iff}
+use mathlib.Core.Bool.{true, not, and-eq-true_iff}
 use mathlib.Core.List.{List, [], ◌∷◌}
 use lib.Dec.{ltb, leb}
 use lib.ListN.{length, set}
 use borrow.Author.Tests.{ltb-true, leb-true, eqb-true, eqb-false, not-true}
-use Rattle.kinds.specs.declared.refusal.Refusal.{Refusal}
-use Rattle.kinds.specs.declared.refusal.Verdict.{Verdict}
-use Rattle.kinds.specs.declared.refusal.Verdict.TheVariants.{Pass, Refuse}
+use Rattle.kinds.specs.Verdicts.{Pass}
 use Rattle.kinds.specs.Kinds.{number}
-use Rattle.kinds.proofs.Verdicts.{refuse_not_pass}
 use Rattle.model.specs.declared.Table.{Table}
 use Rattle.model.specs.Tally.{active}
 use Rattle.model.specs.Tables.{txid_at, clock_of}
@@ -30,24 +27,23 @@ use Rattle.events.specs.Wait.{Wait1, events_of}
 use Rattle.events.specs.declared.Kind.{Kind}
 use Rattle.events.specs.declared.Kind.TheVariants as kind
 use Rattle.events.specs.declared.Event.{Event}
-use Rattle.wait_rules.specs.declared.Owner.{Owner}
-use Rattle.wait_rules.specs.declared.Owner.TheVariants.{Nobody, Holds}
+use Rattle.wait_rules.specs.Owner.{Owner, Nobody, HeldBy}
 use Rattle.wait_rules.specs.Steps.{not_owned, may_name, is_empty, least_active, register_rule, end_rule, horizon_rule, rule_of, event_test}
 use Rattle.wait_rules.specs.Steps.{change_by, event_change, event_after}
 use Rattle.wait.specs.Waits.{steps_from, ended, wait_of}
 use Rattle.wait_rules.proofs.Steps.{passed_pass, good_event}
-use Rattle.wait.proofs.Waits.{accepts, heard}
+use Rattle.wait.proofs.Waits.{went_on, accepts, heard}
 use Rattle.interference.specs.Interference.{WaitEvent, Register, End, Horizon, WaitStep, Names, Allowed, Valid, none, also}
 use Rattle.interference.specs.Interference.{event_by, history_by, events_told_by, history_after}
 
 -- another slot than the owner's
 not_owned_lem : (owner : Owner) (i : ℕ) (w : WaitEvent) → ((j : ℕ) → Names j w → i ≡ j) → not_owned owner i ≡ true → Allowed owner w
 not_owned_lem Nobody i w f h = tt
-not_owned_lem (Holds mine id) i w f h = λ q. eqb-false i mine.0 (not-true _ h) (f mine.0 q)
+not_owned_lem (HeldBy mine) i w f h = λ q. eqb-false i mine.slot.0 (not-true _ h) (f mine.slot.0 q)
 
 names_none : (owner : Owner) (w : WaitEvent) → ((j : ℕ) → Names j w → ⊥) → Allowed owner w
 names_none Nobody w f = tt
-names_none (Holds mine id) w f = f mine.0
+names_none (HeldBy mine) w f = f mine.slot.0
 
 module _ (n : ℕ) (owner : Owner) (t : Table) (h : List ℕ) (g : Good n t) (e : Event) where
   size : length (pairs t.txids t.snapshot_xmins) ≡ n
@@ -145,10 +141,6 @@ module _ (n : ℕ) (owner : Owner) (t : Table) (h : List ℕ) (g : Good n t) (e 
       × Allowed owner (event_by e.kind e)
   unfolding event_test event_change
   step_is q = step_by e.kind q
-
-pub went_on : (b : Bool) (v : Verdict) (r : Refusal) → cond b v (Refuse r) ≡ Pass → (b ≡ true) × (v ≡ Pass)
-went_on true v r e = (refl, e)
-went_on false v r e = absurd (refuse_not_pass r e)
 
 pub steps_valid : (n : ℕ) (owner : Owner) (t : Table) (step : ℕ) (h : List ℕ) (es : List Event) → Good n t
     → steps_from n owner t step es ≡ Pass → Valid owner (state_of t h) (state_of (ended t es) (history_after h es)) (events_told_by es)

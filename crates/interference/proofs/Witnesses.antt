@@ -15,9 +15,8 @@ use Rattle.model.specs.Check.{slots_pass, differ, pins_pass, passes, table_passe
 use Rattle.upstream.specs.States.{State, state_of}
 use Rattle.upstream.specs.Relations.{TableOf}
 use Rattle.upstream.proofs.Yes.{from_yes}
-use Rattle.events.specs.declared.Kind.TheVariants as kind
 use Rattle.events.specs.declared.Event.{Event}
-use Rattle.wait_rules.specs.declared.Owner.TheVariants.{Nobody}
+use Rattle.wait_rules.specs.Owner.{Nobody}
 use Rattle.wait_rules.specs.Steps.{register_rule, horizon_rule, rule_of, event_test, change_by, event_change, event_after}
 use Rattle.wait.specs.Waits.{ended}
 use Rattle.wait.proofs.Told.{registers, retains}

@@ -8,8 +8,7 @@ use Rattle.events.specs.Wait.{Header, events_of}
 use Rattle.events.specs.declared.Kind.{Kind}
 use Rattle.events.specs.declared.Kind.TheVariants as kind
 use Rattle.events.specs.declared.Event.{Event}
-use Rattle.wait_rules.specs.declared.Owner.{Owner}
-use Rattle.wait_rules.specs.declared.Owner.TheVariants.{Nobody, Holds}
+use Rattle.wait_rules.specs.Owner.{Owner, Nobody, HeldBy}
 
 -- `live_owner`: the registration of slot i holds it
 pub record LiveOwner (s : State) (i id : ℕ) : Type 0 where
@@ -76,7 +75,7 @@ Names i Observe = ⊥
 
 abbrev pub Allowed : Owner → WaitEvent → Type 0
 Allowed Nobody e = Unit
-Allowed (Holds slot id) e = Names slot.0 e → ⊥
+Allowed (HeldBy own) e = Names own.slot.0 e → ⊥
 
 -- `trace_valid`: states from the entry to the end, one step an event
 pub data Valid (owner : Owner) : State → State → List WaitEvent → Type 0 where

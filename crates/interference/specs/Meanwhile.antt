@@ -3,7 +3,7 @@ use Rattle.std.specs.Prelude.{ℕ, ◌≡◌, true, List, [], ◌∷◌}
 use Rattle.model.specs.declared.Table.{Table}
 use Rattle.model.specs.Calls.{Call, begin, end, snap, own, oldest, vacuum, stamp, finish, pin, unpin, after}
 use Rattle.model.specs.History.{Accepts}
-use Rattle.wait_rules.specs.declared.Owner.{Owner}
+use Rattle.wait_rules.specs.Owner.{Owner}
 use Rattle.wait_rules.specs.Steps.{not_owned}
 
 -- not of the owner's slot; a begin enters an empty one, which no owner holds

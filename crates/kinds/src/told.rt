@@ -5,7 +5,7 @@ ghost use Rattle.kinds.specs.Refusals.{bare, told};
 use crate::Refusal;
 
 // Its number, and the slot or the pin, the id, the txid seen in the slot and the line of text or the step that it carries; 0 where it carries none.
-#[derive(Clone, Copy)]
+#[derive(Clone, Copy, Debug, PartialEq, Eq)]
 pub struct Told {
     pub number: u64,
     pub slot: u64,
@@ -47,6 +47,13 @@ pub fn tell(r: Refusal) -> Told
         Refusal::BadEntry => bare_number(21),
         Refusal::BadStep(step) => numbers(22, 0, 0, 0, step),
     }
+}
+
+// The number alone: what an answer to C has of a refusal.
+pub fn number_of(refusal: Refusal) -> u64
+    ensures { result ≡ (told refusal).number }
+{
+    tell(refusal).number
 }
 
 fn numbers(number: u64, slot: u64, id: u64, seen: u64, at: u64) -> Told

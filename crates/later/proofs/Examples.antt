@@ -11,7 +11,7 @@ use Rattle.listed.specs.Listed.{listed}
 use Rattle.settled.specs.Settled.{settled_in}
 use Rattle.usable.specs.Usable.{usable_in}
 use Rattle.settled.specs.Snapshots.{no_snapshot}
-use Rattle.model.specs.declared.answer.Answer.TheVariants.{Begun, Done, Stamped, Refused}
+use Rattle.model.specs.Answer.{Begun, Done, Stamped, Refused}
 use Rattle.model.specs.Tally.{active, retained, holder_from, lowest_empty, minimum, maximum, snapshot_of}
 use Rattle.model.specs.Tables.{fresh_table}
 use Rattle.model.specs.Calls.{Call, begin, end, snap, own, stamp, finish, refusal, change_accepted, change_of, spent, after}

@@ -13,8 +13,7 @@ use lib.Seq.{append_snoc}
 use borrow.Author.Tests.{le-ltb, ne_eqb}
 use Rattle.kinds.specs.Kinds.{saturating_next}
 use Rattle.kinds.specs.declared.refusal.Refusal.{Refusal}
-use Rattle.kinds.specs.declared.refusal.Verdict.{Verdict}
-use Rattle.kinds.specs.declared.refusal.Verdict.TheVariants.{Pass, Refuse}
+use Rattle.kinds.specs.Verdicts.{Verdict, Pass, Refuse}
 use Rattle.listed.specs.Listed.{listed}
 use Rattle.settled.specs.Snapshots.{no_snapshot}
 use Rattle.listed.proofs.Listed.{listed_none, listed_cases}

@@ -3,7 +3,7 @@ use Rattle.std.specs.Prelude.{ℕ, ◌≡◌, ◌≢◌}
 use Rattle.kinds.specs.declared.SlotNo.{SlotNo}
 use Rattle.kinds.specs.declared.Txid.{Txid}
 use Rattle.model.specs.declared.Table.{Table}
-use Rattle.model.specs.declared.answer.Answer.{Answer}
+use Rattle.model.specs.Answer.{Answer}
 use Rattle.model.specs.Calls.{end, after, answer}
 
 -- the table after an end, and what it answers

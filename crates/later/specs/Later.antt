@@ -5,8 +5,7 @@ use Rattle.settled.specs.declared.Snapshot.{Snapshot}
 use Rattle.listed.specs.Listed.{listed}
 use Rattle.settled.specs.Settled.{settled_in}
 use Rattle.usable.specs.Usable.{usable_in}
-use Rattle.model.specs.declared.answer.Answer.{Answer}
-use Rattle.model.specs.declared.answer.Answer.TheVariants.{Begun, Done, Pinned, Oldest, Line, Stamped, Refused}
+use Rattle.model.specs.Answer.{Answer, Begun, Done, Pinned, Oldest, Line, Stamped, Refused}
 use Rattle.model.specs.Tables.{clock_of}
 use Rattle.model.specs.Calls.{Call, answer, shown}
 use Rattle.model.specs.History.{reached}

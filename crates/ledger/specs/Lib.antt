@@ -1,3 +1,4 @@
+pub mod Agree
+pub mod Kept
 pub mod List
 pub mod Said
-pub mod Agree

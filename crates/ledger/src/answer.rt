@@ -2,7 +2,7 @@
 ghost use Rattle.std.specs.Prelude.{◌≡◌};
 ghost use Rattle.ledger.specs.Said.{listed_by, worked_out};
 
-use crate::retell::retell;
+use crate::retell::{lent, retell};
 use kinds::SLOTS;
 use model::Numbers;
 
@@ -14,11 +14,12 @@ pub struct Said {
 }
 
 // The ids of the slots where the answer lists any.
+#[tactic(auto, unfolding(crate::specs::Said::listed_by))]
 fn ids_beside(count: usize, txids: [u64; SLOTS]) -> [u64; SLOTS]
     ensures { result ≡ listed_by SLOTS count txids }
 {
     if count == 0 {
-        return kinds::zeros();
+        return [0; SLOTS];
     }
     ledger_scans::listed_ids(txids)
 }
@@ -28,21 +29,9 @@ pub fn answer_to(calls: &[[u64; 6]], row: [u64; 6]) -> Said
     ensures { result ≡ worked_out SLOTS calls.now row }
 {
     let t = retell(calls);
-    let was = t.counters;
-    let did = ledger_calls::one_call(
-        &t.txids,
-        &t.snapshot_xmins,
-        &t.pins,
-        was,
-        row[0],
-        row[1],
-        row[2],
-        row[3],
-        row[4],
-        row[5],
-    );
-    let numbers = did.numbers;
-    let txids = t.txids;
-    let ids = ids_beside(numbers.count, txids);
-    Said { numbers, ids }
+    let numbers = ledger_calls::one_call(lent(&t), row).numbers;
+    Said {
+        numbers,
+        ids: ids_beside(numbers.count, t.txids),
+    }
 }

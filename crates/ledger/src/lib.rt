@@ -9,4 +9,4 @@ mod retell;
 
 pub use answer::{Said, answer_to};
 pub use holds::agreement_holds;
-pub use list::{Kept, keep};
+pub use list::keep;

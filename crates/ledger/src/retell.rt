@@ -1,25 +1,22 @@
 // The list told from its first call on.
-ghost use Rattle.std.specs.Prelude.{◌≡◌};
-ghost use Rattle.kinds.specs.Kinds.{pin_count};
-ghost use Rattle.model.specs.Stored.{stored_at};
-ghost use Rattle.model.specs.Tables.{fresh_table};
+ghost use Rattle.std.specs.Prelude.{◌≡◌, set};
+ghost use Rattle.model.specs.Tables.{fresh_table, lent_by};
 ghost use Rattle.model.specs.History.{reached};
+ghost use Rattle.ledger_calls.specs.Deeds.{left};
 ghost use Rattle.ledger.specs.List.{calls_of};
 
 use kinds::{PINS, SLOTS};
-use model::{Counters, Table};
+use ledger_calls::{Deed, Moved};
+use model::{Columns, Counters, Table};
 
-// Before the first call.
+// Before the first call. It is of its own: the second engine shares no code with the table's.
 fn nobody() -> Table
     ensures { result ≡ fresh_table SLOTS }
 {
-    let txids = kinds::zeros();
-    let snapshot_xmins = kinds::zeros();
-    let pins = kinds::free_pins();
     Table {
-        txids,
-        snapshot_xmins,
-        pins,
+        txids: [0; SLOTS],
+        snapshot_xmins: [0; SLOTS],
+        pins: [0; PINS],
         counters: Counters {
             clock: 1,
             sampled_clock: 1,
@@ -28,22 +25,40 @@ fn nobody() -> Table
     }
 }
 
-// A slot's number, where there is such a slot.
-fn note(column: &mut [u64; SLOTS], place: usize, x: u64)
-    ensures { column.new ≡ stored_at SLOTS column.old place x }
+// The columns of the scratch, lent. `Table::lend` is the table's own.
+pub fn lent(t: &Table) -> Columns<'_>
+    ensures { lent_by result ≡ t.now }
 {
-    if place < SLOTS {
+    Columns {
+        txids: &t.txids,
+        snapshot_xmins: &t.snapshot_xmins,
+        pins: &t.pins,
+        counters: t.counters,
+    }
+}
+
+// The number of a slot or a pin, where there is such a one. The table's stores are `changes`'.
+fn note(column: &mut [u64], place: usize, x: u64)
+    ensures { column.new ≡ set column.old place x }
+{
+    if place < column.len() {
         column[place] = x;
     }
 }
 
-// A pin's, where there is such a pin.
-fn note_pin(pins: &mut [u64; PINS], place: usize, x: u64)
-    ensures { pins.new ≡ stored_at pin_count pins.old place x }
+// What a call did becomes the table.
+fn carry(t: &mut Table, deed: Deed)
+    ensures { t.new ≡ left t.old deed }
 {
-    if place < PINS {
-        pins[place] = x;
+    match deed.moved {
+        Moved::Nothing => {}
+        Moved::Slot { place, txid, xmin } => {
+            note(&mut t.txids, place, txid);
+            note(&mut t.snapshot_xmins, place, xmin);
+        }
+        Moved::Pin { pin, held } => note(&mut t.pins, pin, held),
     }
+    t.counters = deed.counters;
 }
 
 // What the calls of the list leave, one after the other: a scratch that lives as long as one answer takes.
@@ -51,37 +66,9 @@ pub fn retell(calls: &[[u64; 6]]) -> Table
     ensures { result ≡ reached SLOTS (calls_of calls.now) }
 {
     let mut t = nobody();
-    let mut i: usize = 0;
-    while i < calls.len() {
-        let row = i;
-        i += 1;
-        let op = calls[row][0];
-        let at = calls[row][1];
-        let id = calls[row][2];
-        let given = calls[row][3];
-        let clock = calls[row][4];
-        let sample = calls[row][5];
-        let was = t.counters;
-        let did = ledger_calls::one_call(
-            &t.txids,
-            &t.snapshot_xmins,
-            &t.pins,
-            was,
-            op,
-            at,
-            id,
-            given,
-            clock,
-            sample,
-        );
-        let deed = did.deed;
-        note(&mut t.txids, deed.place, deed.txid);
-        note(&mut t.snapshot_xmins, deed.place, deed.xmin);
-        note_pin(&mut t.pins, deed.pin, deed.held);
-        let counters = deed.counters;
-        t.counters.clock = counters.clock;
-        t.counters.sampled_clock = counters.sampled_clock;
-        t.counters.vacuum_line = counters.vacuum_line;
+    for &row in calls {
+        let did = ledger_calls::one_call(lent(&t), row);
+        carry(&mut t, did.deed);
     }
     t
 }

@@ -3,15 +3,17 @@ use Prim.Native.Nat.{ℕ, ◌≤◌, ◌<◌}
 use mathlib.Core.Path.{◌≡◌, refl, ap, ◌∙◌}
 use native.Mathlib.Omega.{arith}
 use borrow.Author.Tests.{lt-leb, le-leb}
+use Rattle.std.specs.Prelude.{Result, Err}
+use Rattle.std.specs.Result.{IsErrAnd}
+use Rattle.std.proofs.lemmas.Result.{err_from_is_err_and}
 use Rattle.kinds.specs.declared.told.Told.{Told}
+use Rattle.kinds.specs.declared.refusal.Refusal.TheVariants.{NoFreeSlot}
 use Rattle.kinds.specs.declared.Stamp.{Stamp}
 use Rattle.kinds.specs.declared.SlotNo.{SlotNo}
 use Rattle.kinds.specs.declared.Txid.{Txid}
-use Rattle.kinds.specs.declared.refusal.Verdict.{Verdict}
-use Rattle.kinds.specs.declared.refusal.Verdict.TheVariants.{Pass, Refuse}
-use Rattle.kinds.specs.Kinds.{saturating_next}
+use Rattle.kinds.specs.Verdicts.{Verdict, Pass, Refuse}
+use Rattle.kinds.specs.Kinds.{saturating_next, txid_of}
 use Rattle.kinds.specs.Refusals.{told, consumed, accepted}
-use Rattle.kinds.specs.Verdicts.{tells}
 use Rattle.settled.specs.Snapshots.{no_snapshot}
 use Rattle.model.specs.declared.Counters.{Counters}
 use Rattle.model.specs.declared.Table.{Table}
@@ -24,11 +26,13 @@ use Rattle.model.specs.Calls.{begin, end, stamp, finish, refusal, change_accepte
 use Rattle.model.specs.Calls.{shown_accepted, shown}
 use Rattle.model.proofs.Tests.{reserves}
 use Rattle.model.proofs.Refused.{refused_kept}
-use Rattle.ledger_calls.specs.Deeds.{plainly, stayed, in_slot, did_by}
-use Rattle.ledger_calls.proofs.Tells.{passes, first_refuses, second_tells, both_pass, refused_did, accepted_did}
+use Rattle.ledger_tests.specs.Told.{in_numbers}
+use Rattle.ledger_calls.specs.declared.Did.{Did}
+use Rattle.ledger_calls.specs.Deeds.{plainly, stayed, in_slot, or_refused, did_by}
+use Rattle.ledger_calls.proofs.Tells.{both_pass, accepted_did}
 
 -- an accepted number is below the top, so that nothing holds the clock
-pub past_is :
+past_is :
     (clock : ℕ) (number : Stamp) (was : Counters) {k : Counters} → reservation_test clock number ≡ Pass →
     k ≡ counted (saturating_next number.0) was.sampled_clock was.vacuum_line → k ≡ past_number number.0 was
 past_is clock number was p q =
@@ -36,71 +40,56 @@ past_is clock number was p q =
     q ∙ ap (λ (x : ℕ). counted x was.sampled_clock was.vacuum_line) (omega arith)
 
 module _ (n : ℕ) (t : Table) where
-  module _ (number : Stamp) {said : Told} (e : said ≡ tells (reservation_test (clock_of t) number)) where
+  module _ (number : Stamp) where
     -- 5, 6, 13: as a stamp's, such a refusal spends nothing
-    pub begin-refused : (said.number ≡ 0 → ⊥) → stayed n (plainly said (line_of t)) t.counters ≡ did_by n t (begin number)
+    pub begin-refused :
+        (r : Result Did Told) {said : Told} → IsErrAnd r (λ told. told ≡ said) →
+        Err said ≡ in_numbers (reservation_test (clock_of t) number) → or_refused t.counters r ≡ did_by n t (begin number)
     unfolding refusal did_by change_of answer shown no_snapshot numbers_of tells_of xmin_told holder_told
-    begin-refused ne = go (reservation_test (clock_of t) number) refl
+    begin-refused r {said} exit e =
+        let p = err_from_is_err_and r exit in
+        rw (p.1, p.2) (go (reservation_test (clock_of t) number) refl)
       where
         go : (v : Verdict) → reservation_test (clock_of t) number ≡ v →
-            stayed n (plainly said (line_of t)) t.counters ≡ did_by n t (begin number)
-        go Pass p = absurd (ne (ap (λ (x : Told). x.number) (e ∙ ap tells p)))
-        go (Refuse r) p = rw (e, p, refused_kept n t (stamp number) r refl p)
+            stayed (plainly said (line_of t)) t.counters ≡ did_by n t (begin number)
+        go Pass p = let z = e ∙ ap in_numbers p in cc
+        go (Refuse r) p =
+            let z = e ∙ ap in_numbers p in
+            let s : said ≡ told r = cc in
+            rw (s, p, refused_kept n t (stamp number) r refl p)
 
     module _
-        (z : said.number ≡ 0) {k : Counters} (past : k ≡ counted (saturating_next number.0) (sample_of t) (line_of t)) where
-      passed : reservation_test (clock_of t) number ≡ Pass
-      passed = passes _ e z
-
+        (passed : reservation_test (clock_of t) number ≡ Pass) {k : Counters}
+        (past : k ≡ counted (saturating_next number.0) (sample_of t) (line_of t)) where
       moved : k ≡ past_number number.0 t.counters
       moved = past_is (clock_of t) number t.counters passed past
 
       module _ {at : ℕ} (low : at ≡ lowest_empty t.txids) where
         -- the lowest slot that nobody has is entered
         pub begin_free :
-            at < n →
-            in_slot (plainly (accepted_with at number.0) (line_of t)) at number.0 number.0 k ≡ did_by n t (begin number)
+            at < n → in_slot (plainly (accepted_with at number.0) (line_of t)) at number.0 number.0 k ≡ did_by n t (begin number)
         unfolding refusal change_accepted change_of answer_accepted answer shown_accepted shown no_snapshot numbers_of tells_of xmin_told
             holder_told did_by
         begin_free h = rw (moved, low, passed, lt-leb n (lowest_empty t.txids) (rw low at h))
 
         -- 1: the number is spent all the same
         pub begin-full :
-            n ≤ at →
-            stayed n (plainly (record { number = 1; slot = 0; id = number.0; seen = 0; at = 0 }) (line_of t)) k
-            ≡ did_by n t (begin number)
+            n ≤ at → stayed (plainly (told (NoFreeSlot (txid_of number))) (line_of t)) k ≡ did_by n t (begin number)
         unfolding refusal consumed spent told change_of answer shown no_snapshot numbers_of tells_of xmin_told holder_told did_by
         begin-full h = rw (moved, passed, le-leb n (lowest_empty t.txids) (rw low at h))
 
-      pub stamp_spends : stayed n (plainly (accepted_with 0 number.0) (line_of t)) k ≡ did_by n t (stamp number)
+      pub stamp_spends : stayed (plainly (accepted_with 0 number.0) (line_of t)) k ≡ did_by n t (stamp number)
       unfolding refusal change_accepted answer_accepted shown_accepted no_snapshot numbers_of tells_of xmin_told holder_told
       stamp_spends = rw moved (accepted_did n t (stamp number) passed)
 
-      module _ (slot : SlotNo) (id : Txid) (owner : owner_test n t.txids slot id ≡ Pass) where
-        pub finish_leaves :
-            in_slot (plainly (accepted_with 0 number.0) (line_of t)) slot.0 0 0 k ≡ did_by n t (finish slot id number)
-        unfolding refusal change_accepted answer_accepted shown_accepted no_snapshot numbers_of tells_of xmin_told holder_told
-        finish_leaves = rw moved (accepted_did n t (finish slot id number) (both_pass _ _ owner passed))
+      pub finish_leaves :
+          (slot : SlotNo) (id : Txid) → owner_test n t.txids slot id ≡ Pass →
+          in_slot (plainly (accepted_with 0 number.0) (line_of t)) slot.0 0 0 k ≡ did_by n t (finish slot id number)
+      unfolding refusal change_accepted answer_accepted shown_accepted no_snapshot numbers_of tells_of xmin_told holder_told
+      finish_leaves slot id owner = rw moved (accepted_did n t (finish slot id number) (both_pass _ _ owner passed))
 
   pub end_leaves :
       (slot : SlotNo) (id : Txid) → owner_test n t.txids slot id ≡ Pass →
       in_slot (plainly accepted (line_of t)) slot.0 0 0 t.counters ≡ did_by n t (end slot id)
   unfolding refusal change_accepted answer_accepted shown_accepted no_snapshot numbers_of tells_of xmin_told holder_told
   end_leaves slot id owner = accepted_did n t (end slot id) owner
-
-  -- a finish: the owner test, then the reservation
-  module _ (slot : SlotNo) (id : Txid) (number : Stamp) {mine : Told} (o : mine ≡ tells (owner_test n t.txids slot id)) where
-    pub finish_not_owner :
-        (mine.number ≡ 0 → ⊥) → stayed n (plainly mine (line_of t)) t.counters ≡ did_by n t (finish slot id number)
-    unfolding refusal
-    finish_not_owner ne =
-        refused_did n t (finish slot id number) refl
-        (first_refuses (owner_test n t.txids slot id) (reservation_test (clock_of t) number) o ne) ne
-
-    pub finish-refused :
-        {said : Told} → mine.number ≡ 0 → said ≡ tells (reservation_test (clock_of t) number) → (said.number ≡ 0 → ⊥) →
-        stayed n (plainly said (line_of t)) t.counters ≡ did_by n t (finish slot id number)
-    unfolding refusal
-    finish-refused z e ne =
-        refused_did n t (finish slot id number) refl
-        (second_tells (owner_test n t.txids slot id) (reservation_test (clock_of t) number) (passes _ o z) e) ne

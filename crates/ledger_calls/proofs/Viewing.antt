@@ -1,23 +1,21 @@
 -- The calls that observe the clock, and the release of a pin, by their tests.
 use Prim.Native.Nat.{ℕ, ◌≤◌, ◌<◌, max}
 use mathlib.Core.Path.{◌≡◌, refl, sym, ap, ◌∙◌}
-use native.Mathlib.Omega.{arith}
 use borrow.Author.Tests.{lt-leb, le-leb}
-use Rattle.kinds.specs.declared.told.Told.{Told}
 use Rattle.kinds.specs.declared.SlotNo.{SlotNo}
 use Rattle.kinds.specs.declared.PinNo.{PinNo}
 use Rattle.kinds.specs.declared.Txid.{Txid}
-use Rattle.kinds.specs.declared.refusal.Verdict.TheVariants.{Pass}
+use Rattle.kinds.specs.Verdicts.{Pass}
 use Rattle.kinds.specs.Kinds.{pin_count}
-use Rattle.kinds.specs.Refusals.{told, accepted, bare}
-use Rattle.kinds.specs.Verdicts.{tells}
+use Rattle.kinds.specs.declared.refusal.Refusal.TheVariants.{NoFreePin}
+use Rattle.kinds.specs.Refusals.{told, accepted}
 use Rattle.settled.specs.Snapshots.{no_snapshot}
 use Rattle.model.specs.declared.Counters.{Counters}
 use Rattle.model.specs.declared.Table.{Table}
 use Rattle.model.specs.Tables.{counted, line_of, clock_of}
 use Rattle.model.specs.Tally.{lowest_empty, snapshot_of}
 use Rattle.model.specs.Changes.{observed}
-use Rattle.model.specs.Tests.{owner_test, observation_test, pin_test, release_test}
+use Rattle.model.specs.Tests.{owner_test, observation_test, release_test}
 use Rattle.model.specs.Answers.{accepted_with, tells_of, xmin_told, holder_told, numbers_of}
 use Rattle.model.specs.Calls.{snap, own, oldest, vacuum, pin, unpin, refusal, change_accepted, answer_accepted, shown_accepted}
 use Rattle.model.proofs.Tests.{owns}
@@ -26,12 +24,12 @@ use Rattle.ledger_scans.specs.declared.held.Held.{Held}
 use Rattle.ledger_scans.specs.Flight.{flight_of}
 use Rattle.ledger_scans.specs.Held.{held_of}
 use Rattle.ledger_calls.specs.Deeds.{plainly, showing, holding, stayed, in_slot, in_pin, did_by}
-use Rattle.ledger_calls.proofs.Tells.{passes, first_refuses, second_tells, both_pass, refused_did, accepted_did}
+use Rattle.ledger_calls.proofs.Tells.{both_pass, refused_did, accepted_did}
 
 module _ (n : ℕ) (t : Table) (clock sample : ℕ) (seen : observation_test (clock_of t) clock sample ≡ Pass) where
   module _ {k : Counters} (now : k ≡ observed clock sample t.counters) where
     module _ {f : Flight} (flight : f ≡ flight_of t.txids sample) where
-      pub snap_shows : stayed n (showing accepted f (line_of t)) k ≡ did_by n t (snap clock sample)
+      pub snap_shows : stayed (showing accepted f (line_of t)) k ≡ did_by n t (snap clock sample)
       unfolding refusal change_accepted answer_accepted shown_accepted numbers_of tells_of xmin_told holder_told snapshot_of flight_of
       snap_shows = rw (now, flight) (accepted_did n t (snap clock sample) seen)
 
@@ -47,7 +45,7 @@ module _ (n : ℕ) (t : Table) (clock sample : ℕ) (seen : observation_test (cl
 
     pub oldest-holds :
         {h : Held} → h ≡ held_of t.txids t.snapshot_xmins t.pins sample →
-        stayed n (holding h.xmin h.holder (line_of t)) k ≡ did_by n t (oldest clock sample)
+        stayed (holding h.xmin h.holder (line_of t)) k ≡ did_by n t (oldest clock sample)
     unfolding refusal change_accepted answer_accepted shown_accepted no_snapshot numbers_of tells_of xmin_told holder_told held_of
     oldest-holds held = rw (now, held) (accepted_did n t (oldest clock sample) seen)
 
@@ -55,7 +53,7 @@ module _ (n : ℕ) (t : Table) (clock sample : ℕ) (seen : observation_test (cl
     pub pin_takes :
         {at : ℕ} → at ≡ lowest_empty t.pins → at < pin_count → {used : ℕ} → used ≡ max sample (line_of t) → {f : Flight} →
         f ≡ flight_of t.txids used →
-        in_pin n (showing (accepted_with at 0) f (line_of t)) at f.xmin k ≡ did_by n t (pin clock sample)
+        in_pin (showing (accepted_with at 0) f (line_of t)) at f.xmin k ≡ did_by n t (pin clock sample)
     unfolding refusal change_accepted answer_accepted shown_accepted numbers_of tells_of xmin_told holder_told snapshot_of flight_of
     pin_takes low h u flight =
         rw (now, flight, u, low)
@@ -63,47 +61,19 @@ module _ (n : ℕ) (t : Table) (clock sample : ℕ) (seen : observation_test (cl
 
   pub vacuum_raises :
       {h : Held} → h ≡ held_of t.txids t.snapshot_xmins t.pins sample → {line : ℕ} → line ≡ max (line_of t) h.xmin →
-      stayed n (holding 0 h.holder line) (counted clock sample line) ≡ did_by n t (vacuum clock sample)
+      stayed (holding 0 h.holder line) (counted clock sample line) ≡ did_by n t (vacuum clock sample)
   unfolding refusal change_accepted answer_accepted shown_accepted no_snapshot numbers_of tells_of xmin_told holder_told held_of
   vacuum_raises held up = rw (up, held) (accepted_did n t (vacuum clock sample) seen)
 
   -- 14
   pub pin-full :
       {at : ℕ} → at ≡ lowest_empty t.pins → pin_count ≤ at →
-      stayed n (plainly (bare 14) (line_of t)) t.counters ≡ did_by n t (pin clock sample)
-  unfolding refusal told
-  pin-full low h =
-      refused_did n t (pin clock sample) refl (rw (seen, le-leb pin_count (lowest_empty t.pins) (rw low at h)))
-      (λ z. omega arith)
+      stayed (plainly (told NoFreePin) (line_of t)) t.counters ≡ did_by n t (pin clock sample)
+  unfolding refusal
+  pin-full low h = refused_did n t (pin clock sample) refl (rw (seen, le-leb pin_count (lowest_empty t.pins) (rw low at h)))
 
 module _ (n : ℕ) (t : Table) (k : PinNo) where
   pub unpin_frees :
-      release_test t.pins k ≡ Pass → in_pin n (plainly accepted (line_of t)) k.0 0 t.counters ≡ did_by n t (unpin k)
+      release_test t.pins k ≡ Pass → in_pin (plainly accepted (line_of t)) k.0 0 t.counters ≡ did_by n t (unpin k)
   unfolding refusal change_accepted answer_accepted shown_accepted no_snapshot numbers_of tells_of xmin_told holder_told
   unpin_frees p = accepted_did n t (unpin k) p
-
--- the refusals of a transaction's own snapshot, and of a pinned one
-module _ (n : ℕ) (t : Table) (clock sample : ℕ) where
-  module _ (slot : SlotNo) (id : Txid) {mine : Told} (o : mine ≡ tells (owner_test n t.txids slot id)) where
-    pub own_not_owner :
-        (mine.number ≡ 0 → ⊥) → stayed n (plainly mine (line_of t)) t.counters ≡ did_by n t (own slot id clock sample)
-    unfolding refusal
-    own_not_owner ne =
-        refused_did n t (own slot id clock sample) refl
-        (first_refuses (owner_test n t.txids slot id) (observation_test (clock_of t) clock sample) o ne) ne
-
-    pub own-refused :
-        {said : Told} → mine.number ≡ 0 → said ≡ tells (observation_test (clock_of t) clock sample) → (said.number ≡ 0 → ⊥) →
-        stayed n (plainly said (line_of t)) t.counters ≡ did_by n t (own slot id clock sample)
-    unfolding refusal
-    own-refused z e ne =
-        refused_did n t (own slot id clock sample) refl
-        (second_tells (owner_test n t.txids slot id) (observation_test (clock_of t) clock sample) (passes _ o z) e) ne
-
-  pub pin-refused :
-      {said : Told} → said ≡ tells (observation_test (clock_of t) clock sample) → (said.number ≡ 0 → ⊥) →
-      stayed n (plainly said (line_of t)) t.counters ≡ did_by n t (pin clock sample)
-  unfolding refusal
-  pin-refused e ne =
-      refused_did n t (pin clock sample) refl
-      (first_refuses (observation_test (clock_of t) clock sample) (pin_test t.pins) e ne) ne

@@ -1,5 +1,5 @@
 -- A call as six numbers: the op's number, then slot (or pin), id, stamp, clock and sample.
-use Rattle.std.specs.Prelude.{ℕ, cond, eqb}
+use Rattle.std.specs.Prelude.{ℕ, cond, List, eqb, get_or}
 use Rattle.kinds.specs.Kinds.{number, slot, pin_no, txid}
 use Rattle.model.specs.Calls.{Call, begin, end, snap, own, oldest, vacuum, stamp, finish, pin, unpin}
 use Rattle.ledger_calls.specs.declared.op.Op.{Op}
@@ -35,3 +35,6 @@ call_by Unpin s i k clock sample = unpin (pin_no s)
 
 unfoldable pub call_of : ℕ → ℕ → ℕ → ℕ → ℕ → ℕ → Call
 call_of op s i k clock sample = call_by (op_of op) s i k clock sample
+
+unfoldable pub row_call : List ℕ → Call
+row_call row = call_of (get_or row 0 0) (get_or row 1 0) (get_or row 2 0) (get_or row 3 0) (get_or row 4 0) (get_or row 5 0)

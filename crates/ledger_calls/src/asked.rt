@@ -1,42 +1,43 @@
 // A call as the six numbers of its row.
 ghost use Rattle.std.specs.Prelude.{◌≡◌};
-ghost use Rattle.model.specs.Tables.{lent};
-ghost use Rattle.ledger_calls.specs.Rows.{call_of};
-ghost use Rattle.ledger_calls.specs.Deeds.{did_by};
+ghost use Rattle.model.specs.Tables.{lent_by};
+ghost use Rattle.ledger_calls.specs.Rows.{row_call};
+ghost use Rattle.ledger_calls.specs.Deeds.{or_refused, did_by};
 
 use crate::Did;
 use crate::op::{Op, op_of};
+use crate::parts::{plain, stays};
 use crate::slots::{begun, ended, finished, stamped};
 use crate::views::{oldest_found, owned, pinned, snapped, unpinned, vacuumed};
-use kinds::SLOTS;
-use model::Counters;
+use kinds::{SLOTS, Told};
+use model::Columns;
 
-// What the call does on these columns and counters, and what it answers. A pin's number stands where a slot's does.
-pub fn one_call<'a>(
-    txids: &'a [u64],
-    xmins: &'a [u64],
-    pins: &'a [u64],
-    was: Counters,
-    op: u64,
-    at: u64,
-    id: u64,
-    given: u64,
-    clock: u64,
-    sample: u64,
-) -> Did
-    ensures { result ≡ did_by SLOTS (lent txids.now xmins.now pins.now was) (call_of op at id given clock sample) }
+// A pin's number stands where a slot's does. Each arm reads other numbers of the row, so that a table of ten functions of one shape would
+// hand to each of them what it doesn't read.
+#[tactic(auto, unfolding(crate::specs::Rows::row_call, crate::specs::Rows::call_of))]
+fn made(columns: Columns<'_>, row: [u64; 6]) -> Result<Did, Told>
+    ensures { or_refused columns.entry.counters result
+        ≡ did_by SLOTS (lent_by columns.entry) (row_call row) }
 {
-    let asked = op_of(op);
-    match asked {
-        Op::Begin => begun(txids, was, given),
-        Op::End => ended(txids, was, at, id),
-        Op::Snap => snapped(txids, was, clock, sample),
-        Op::Own => owned(txids, was, at, id, clock, sample),
-        Op::Oldest => oldest_found(txids, xmins, pins, was, clock, sample),
-        Op::Vacuum => vacuumed(txids, xmins, pins, was, clock, sample),
-        Op::Stamp => stamped(was, given),
-        Op::Finish => finished(txids, was, at, id, given),
-        Op::Pin => pinned(txids, pins, was, clock, sample),
-        Op::Unpin => unpinned(pins, was, at),
+    let [op, at, id, given, clock, sample] = row;
+    match op_of(op) {
+        Op::Begin => begun(columns, given),
+        Op::End => ended(columns, at, id),
+        Op::Snap => snapped(columns, clock, sample),
+        Op::Own => owned(columns, at, id, clock, sample),
+        Op::Oldest => oldest_found(columns, clock, sample),
+        Op::Vacuum => vacuumed(columns, clock, sample),
+        Op::Stamp => stamped(columns, given),
+        Op::Finish => finished(columns, at, id, given),
+        Op::Pin => pinned(columns, clock, sample),
+        Op::Unpin => unpinned(columns, at),
     }
+}
+
+// What the call does on these columns and counters, and what it answers. A refused one leaves everything as it was.
+pub fn one_call(columns: Columns<'_>, row: [u64; 6]) -> Did
+    ensures { result ≡ did_by SLOTS (lent_by columns.entry) (row_call row) }
+{
+    let was = columns.counters;
+    made(columns, row).unwrap_or_else(|told| stays(plain(told, was.vacuum_line), was))
 }

@@ -11,20 +11,23 @@ mod views;
 pub use asked::one_call;
 use model::{Counters, Numbers};
 
-// What a call leaves: the slot at `place` holds (txid, xmin) now, the pin holds `held`, and the counters are these. A place that no
-// slot has says that no slot moves, and so for the pins.
-#[derive(Clone, Copy)]
+// What a call moves: one slot, which holds (txid, xmin) now, or one pin, which holds `held`.
+#[derive(Clone, Copy, Debug, PartialEq, Eq)]
+pub enum Moved {
+    Nothing,
+    Slot { place: usize, txid: u64, xmin: u64 },
+    Pin { pin: usize, held: u64 },
+}
+
+// .. with the counters that it leaves.
+#[derive(Clone, Copy, Debug, PartialEq, Eq)]
 pub struct Deed {
-    pub place: usize,
-    pub txid: u64,
-    pub xmin: u64,
-    pub pin: usize,
-    pub held: u64,
+    pub moved: Moved,
     pub counters: Counters,
 }
 
 // .. beside what it answers.
-#[derive(Clone, Copy)]
+#[derive(Clone, Copy, Debug, PartialEq, Eq)]
 pub struct Did {
     pub deed: Deed,
     pub numbers: Numbers,

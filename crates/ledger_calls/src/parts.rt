@@ -1,4 +1,5 @@
-// What is common to the calls: the counters after them, their answers as numbers, and the three kinds of deed.
+// What is common to the calls: the counters after them, their answers as numbers, and the three kinds of deed. Some of it stands in the
+// table's crates too (`counters`, `answer_numbers`): the second engine shares no code with the table's.
 ghost use Rattle.std.specs.Prelude.{◌≡◌};
 ghost use Rattle.kinds.specs.Kinds.{saturating_next};
 ghost use Rattle.model.specs.Tables.{counted};
@@ -6,8 +7,8 @@ ghost use Rattle.model.specs.Changes.{observed};
 ghost use Rattle.model.specs.Answers.{accepted_with};
 ghost use Rattle.ledger_calls.specs.Deeds.{plainly, showing, holding, stayed, in_slot, in_pin};
 
-use crate::{Deed, Did};
-use kinds::{PINS, SLOTS, Told};
+use crate::{Deed, Did, Moved};
+use kinds::Told;
 use ledger_scans::Flight;
 use model::{Counters, Numbers};
 
@@ -15,11 +16,9 @@ use model::{Counters, Numbers};
 pub fn past(was: Counters, number: u64) -> Counters
     ensures { result ≡ counted (saturating_next number) was.sampled_clock was.vacuum_line }
 {
-    let clock = kinds::saturating_next(number);
     Counters {
-        clock,
-        sampled_clock: was.sampled_clock,
-        vacuum_line: was.vacuum_line,
+        clock: number.saturating_add(1),
+        ..was
     }
 }
 
@@ -30,7 +29,7 @@ pub fn seen(was: Counters, clock: u64, sample: u64) -> Counters
     Counters {
         clock,
         sampled_clock: sample,
-        vacuum_line: was.vacuum_line,
+        ..was
     }
 }
 
@@ -65,12 +64,10 @@ pub fn shown(told: Told, flight: Flight, line: u64) -> Numbers
     ensures { result ≡ showing told flight line }
 {
     Numbers {
-        told,
         xmin: flight.xmin,
         xmax: flight.xmax,
-        vacuum_line: line,
         count: flight.count,
-        holder: 0,
+        ..plain(told, line)
     }
 }
 
@@ -78,66 +75,42 @@ pub fn shown(told: Told, flight: Flight, line: u64) -> Numbers
 pub fn held(xmin: u64, holder: u64, line: u64) -> Numbers
     ensures { result ≡ holding xmin holder line }
 {
-    let told = accepted(0, 0);
     Numbers {
-        told,
         xmin,
-        xmax: 0,
-        vacuum_line: line,
-        count: 0,
         holder,
+        ..plain(accepted(0, 0), line)
     }
 }
 
 // No slot and no pin moves.
 pub fn stays(numbers: Numbers, counters: Counters) -> Did
-    ensures { result ≡ stayed SLOTS numbers counters }
+    ensures { result ≡ stayed numbers counters }
 {
-    let deed = Deed {
-        place: SLOTS,
-        txid: 0,
-        xmin: 0,
-        pin: PINS,
-        held: 0,
-        counters,
-    };
-    Did { deed, numbers }
+    let moved = Moved::Nothing;
+    Did {
+        deed: Deed { moved, counters },
+        numbers,
+    }
 }
 
 // A slot becomes (txid, xmin).
 pub fn in_slot(numbers: Numbers, place: usize, txid: u64, xmin: u64, counters: Counters) -> Did
     ensures { result ≡ in_slot numbers place txid xmin counters }
 {
-    let deed = Deed {
-        place,
-        txid,
-        xmin,
-        pin: PINS,
-        held: 0,
-        counters,
-    };
-    Did { deed, numbers }
+    let moved = Moved::Slot { place, txid, xmin };
+    Did {
+        deed: Deed { moved, counters },
+        numbers,
+    }
 }
 
 // A pin becomes `held`.
 pub fn in_pin(numbers: Numbers, pin: usize, held: u64, counters: Counters) -> Did
-    ensures { result ≡ in_pin SLOTS numbers pin held counters }
+    ensures { result ≡ in_pin numbers pin held counters }
 {
-    let deed = Deed {
-        place: SLOTS,
-        txid: 0,
-        xmin: 0,
-        pin,
-        held,
-        counters,
-    };
-    Did { deed, numbers }
-}
-
-// A refused call leaves everything as it was.
-pub fn refused(told: Told, was: Counters) -> Did
-    ensures { result ≡ stayed SLOTS (plainly told was.vacuum_line) was }
-{
-    let numbers = plain(told, was.vacuum_line);
-    stays(numbers, was)
+    let moved = Moved::Pin { pin, held };
+    Did {
+        deed: Deed { moved, counters },
+        numbers,
+    }
 }

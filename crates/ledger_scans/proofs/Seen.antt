@@ -39,20 +39,20 @@ xmax_is sample (x ∷ xs) =
     (sym (ap (λ (k : ℕ). pasts (max sample (saturating_next k)) xs) e ∙ past_largest sample (max 0 x) xs))
 
 -- before slot i
-pub record Seen (txids : List ℕ) (sample xmin xmax count i : ℕ) : Type 0 where
+pub record Seen (txids : List ℕ) (sample : ℕ) (flight : Flight) (i : ℕ) : Type 0 where
   pub within : i ≤ length txids
-  pub fewer : count ≤ i
-  pub counted : length (active txids) ≡ count + length (active (drop i txids))
-  pub lowest : minimum sample (active txids) ≡ minimum xmin (active (drop i txids))
-  pub highest : pasts sample (active txids) ≡ pasts xmax (active (drop i txids))
+  pub fewer : flight.count ≤ i
+  pub counted : length (active txids) ≡ flight.count + length (active (drop i txids))
+  pub lowest : minimum sample (active txids) ≡ minimum flight.xmin (active (drop i txids))
+  pub highest : pasts sample (active txids) ≡ pasts flight.xmax (active (drop i txids))
 
 module _ {txids : List ℕ} {sample : ℕ} where
-  pub seen_none : Seen txids sample sample sample 0 0
+  pub seen_none : Seen txids sample (record { xmin = sample; xmax = sample; count = 0 }) 0
   seen_none = record { within = omega arith; fewer = omega arith; counted = omega arith; lowest = refl; highest = refl }
 
-  module _ {xmin xmax count i : ℕ} (s : Seen txids sample xmin xmax count i) where
-    pub seen-empty : i < length txids → get_or txids i 0 ≡ 0 → Seen txids sample xmin xmax count (i + 1)
-    seen-empty h e =
+  module _ {flight : Flight} {i : ℕ} (s : Seen txids sample flight i) (h : i < length txids) where
+    pub seen-empty : get_or txids i 0 ≡ 0 → Seen txids sample flight (i + 1)
+    seen-empty e =
         let m = active_miss txids i h e in
         record {
           within = omega arith;
@@ -63,10 +63,11 @@ module _ {txids : List ℕ} {sample : ℕ} where
         }
 
     pub seen-taken :
-        {low past high : ℕ} → i < length txids → (get_or txids i 0 ≡ 0 → ⊥) → low ≡ min xmin (get_or txids i 0) →
-        past ≡ saturating_next (get_or txids i 0) → high ≡ max xmax past → Seen txids sample low high (count + 1) (i + 1)
+        {low past high : ℕ} → (get_or txids i 0 ≡ 0 → ⊥) → low ≡ min flight.xmin (get_or txids i 0) →
+        past ≡ saturating_next (get_or txids i 0) → high ≡ max flight.xmax past →
+        Seen txids sample (record { xmin = low; xmax = high; count = flight.count + 1 }) (i + 1)
     unfolding minimum pasts
-    seen-taken h e l p g =
+    seen-taken e l p g =
         let m = active_hit txids i h e in
         record {
           within = omega arith;
@@ -76,12 +77,11 @@ module _ {txids : List ℕ} {sample : ℕ} where
           highest = rw (g, p) (rw m at s.highest);
         }
 
-    pub seen_all :
-        length txids ≤ i → ◌≡◌ {A = Flight} (record { xmin = xmin; xmax = xmax; count = count }) (flight_of txids sample)
-    unfolding flight_of minimum pasts
-    seen_all h =
-        let none = active_none txids i h in
-        let n : count ≡ length (active txids) = omega (arith, ap length none, s.counted) in
-        let l : xmin ≡ minimum sample (active txids) = sym (s.lowest ∙ ap (minimum xmin) none) in
-        let g : xmax ≡ xmax_of sample (active txids) = sym (xmax_is sample (active txids) ∙ s.highest ∙ ap (pasts xmax) none) in
-        λ k. record { xmin = l k; xmax = g k; count = n k }
+  pub seen_all : {flight : Flight} {i : ℕ} → Seen txids sample flight i → length txids ≤ i → flight ≡ flight_of txids sample
+  unfolding flight_of minimum pasts
+  seen_all {flight} {i} s h =
+      let none = active_none txids i h in
+      let n : flight.count ≡ length (active txids) = omega (arith, ap length none, s.counted) in
+      let l : flight.xmin ≡ minimum sample (active txids) = sym (s.lowest ∙ ap (minimum flight.xmin) none) in
+      let g : flight.xmax ≡ xmax_of sample (active txids) = sym (xmax_is sample (active txids) ∙ s.highest ∙ ap (pasts flight.xmax) none) in
+      λ k. record { xmin = l k; xmax = g k; count = n k }

@@ -129,11 +129,6 @@ module _ (first : ℕ) (ts xs : List ℕ) (h : Held) where
   abbrev from_place : ℕ → Held
   from_place i = held_from (first + i) (drop i ts) (drop i xs) h
 
-  pub all_places : {i : ℕ} → i ≡ 0 → from_place i ≡ held_from first ts xs h
-  all_places e =
-      let z : first + 0 ≡ first = omega arith in
-      ap from_place e ∙ ap (λ (p : ℕ). held_from p ts xs h) z
-
   one_more :
       (i : ℕ) → i < length ts → i < length xs →
       from_place i ≡ lowered (eqb (get_or ts i 0) 0) (get_or xs i 0) (first + i) (from_place (i + 1))

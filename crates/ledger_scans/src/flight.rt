@@ -6,7 +6,7 @@ ghost use Rattle.ledger_scans.specs.Flight.{flight_of};
 use kinds::SLOTS;
 
 // The numbers of a snapshot, without its list.
-#[derive(Clone, Copy)]
+#[derive(Clone, Copy, Debug, PartialEq, Eq)]
 pub struct Flight {
     pub xmin: u64,
     pub xmax: u64,
@@ -17,39 +17,29 @@ pub struct Flight {
 pub fn in_flight(txids: &[u64], sample: u64) -> Flight
     ensures { result ≡ flight_of txids.now sample }
 {
-    let mut xmin = sample;
-    let mut xmax = sample;
-    let mut count: usize = 0;
-    let mut i: usize = 0;
-    while i < txids.len() {
-        let id = txids[i];
-        i += 1;
+    let mut flight = Flight {
+        xmin: sample,
+        xmax: sample,
+        count: 0,
+    };
+    for &id in txids {
         if id == 0 {
             continue;
         }
-        count += 1;
-        xmin = kinds::lesser(xmin, id);
-        let past = kinds::saturating_next(id);
-        xmax = kinds::greater(xmax, past);
+        flight.xmin = flight.xmin.min(id);
+        flight.xmax = flight.xmax.max(id.saturating_add(1));
+        flight.count += 1;
     }
-    Flight { xmin, xmax, count }
+    flight
 }
 
 // The list: the ids in slot order from place 0 on, and zeros.
 pub fn listed_ids(txids: [u64; SLOTS]) -> [u64; SLOTS]
     ensures { result ≡ places SLOTS (active txids) }
 {
-    let mut ids = kinds::zeros();
-    let mut count: usize = 0;
-    let mut i: usize = 0;
-    while i < SLOTS {
-        let id = txids[i];
-        i += 1;
-        if id == 0 {
-            continue;
-        }
-        ids[count] = id;
-        count += 1;
+    let mut ids = [0u64; SLOTS];
+    for (place, &id) in txids.iter().filter(|id| **id != 0).enumerate() {
+        ids[place] = id;
     }
     ids
 }

@@ -6,12 +6,8 @@ ghost use Rattle.model.specs.Tally.{lowest_empty};
 pub fn lowest_free(column: &[u64]) -> usize
     ensures { result ≡ lowest_empty column.now }
 {
-    let mut place: usize = 0;
-    while place < column.len() {
-        if column[place] == 0 {
-            return place;
-        }
-        place += 1;
-    }
-    place
+    column
+        .iter()
+        .position(|held| *held == 0)
+        .unwrap_or(column.len())
 }

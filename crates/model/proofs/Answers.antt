@@ -9,8 +9,7 @@ use Rattle.kinds.specs.declared.PinNo.{PinNo}
 use Rattle.kinds.specs.declared.refusal.Refusal.{Refusal}
 use Rattle.kinds.specs.Kinds.{slot, pin_no, txid_of}
 use Rattle.kinds.proofs.Unique.{same_slot, same_pin, same_txid}
-use Rattle.model.specs.declared.answer.Answer.{Answer}
-use Rattle.model.specs.declared.answer.Answer.TheVariants.{Begun, Done, Pinned, Oldest, Line, Stamped, Refused}
+use Rattle.model.specs.Answer.{Answer, Begun, Done, Pinned, Oldest, Line, Stamped, Refused}
 
 -- what stands in a case, 0 in every other
 abbrev pub begun-slot : Answer → ℕ

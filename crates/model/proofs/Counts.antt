@@ -6,7 +6,7 @@ use native.Mathlib.Omega.{arith}
 use lib.ListN.{length, set}
 use Rattle.kinds.specs.declared.SlotNo.{SlotNo}
 use Rattle.kinds.specs.declared.Txid.{Txid}
-use Rattle.kinds.specs.declared.refusal.Verdict.TheVariants.{Pass}
+use Rattle.kinds.specs.Verdicts.{Pass}
 use Rattle.model.specs.declared.Table.{Table}
 use Rattle.model.specs.Tally.{active, lowest_empty}
 use Rattle.model.specs.Tables.{fresh_table, txid_at, clock_of}

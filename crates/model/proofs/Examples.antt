@@ -8,13 +8,13 @@ use native.Mathlib.Omega.{arith}
 use Rattle.kinds.specs.Kinds.{top, free_pins, number, slot, pin_no, txid}
 use Rattle.kinds.specs.declared.told.Told.{Told}
 use Rattle.kinds.specs.declared.refusal.Refusal.TheVariants.{NoFreeSlot, SlotOwnershipMismatch, BadReservation, InvalidPin}
-use Rattle.kinds.specs.declared.refusal.Verdict.TheVariants.{Refuse}
+use Rattle.kinds.specs.Verdicts.{Refuse}
 use Rattle.settled.specs.declared.Snapshot.{Snapshot}
 use Rattle.listed.specs.Listed.{listed}
 use Rattle.settled.specs.Settled.{settled_in}
 use Rattle.kinds.specs.Refusals.{told, consumed}
 use Rattle.model.specs.Tally.{active, retained, holder_from, holder_of, no_holder, lowest_empty, minimum, maximum, snapshot_of}
-use Rattle.model.specs.declared.answer.Answer.TheVariants.{Begun, Done, Pinned, Oldest, Line, Stamped, Refused}
+use Rattle.model.specs.Answer.{Begun, Done, Pinned, Oldest, Line, Stamped, Refused}
 use Rattle.model.specs.Answers.{tells_of, xmin_told, holder_told, numbers_of, numbers_beside}
 use Rattle.model.specs.Tables.{fresh_table, clock_of}
 use Rattle.model.specs.Calls.{Call, begin, end, snap, own, oldest, vacuum, stamp, finish, pin, unpin, refusal}

@@ -7,11 +7,10 @@ use mathlib.Core.List.{List, [], ◌∷◌, ◌++◌}
 use native.Mathlib.Omega.{arith}
 use lib.ListN.{get_or}
 use lib.Seq.{append_snoc}
-use Rattle.kinds.specs.declared.refusal.Verdict.{Verdict}
-use Rattle.kinds.specs.declared.refusal.Verdict.TheVariants.{Pass, Refuse}
+use Rattle.kinds.specs.Verdicts.{Verdict, Pass, Refuse}
 use Rattle.listed.specs.Listed.{listed}
 use Rattle.model.specs.declared.Table.{Table}
-use Rattle.model.specs.declared.answer.Answer.TheVariants.{Oldest, Line}
+use Rattle.model.specs.Answer.{Oldest, Line}
 use Rattle.model.specs.Tally.{active, retained, oldest_of, no_holder, first_pin, pin_holder_of}
 use Rattle.model.specs.Tables.{fresh_table, line_of, clock_of}
 use Rattle.model.specs.Tests.{observation_test}

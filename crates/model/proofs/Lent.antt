@@ -1,16 +1,14 @@
 -- What a call decides on lent columns is what it decides on the table that lends them; and a call on a table by value gives back
 -- what its decision leaves.
 use Prim.Native.Nat.{ℕ, ◌≤◌}
-use mathlib.Core.Path.{◌≡◌, refl, sym, ap, ◌∙◌}
+use mathlib.Core.Path.{◌≡◌, refl, sym, ap}
 use mathlib.Core.Bool.{Bool, true, false, false≢true}
 use mathlib.Core.List.{List, []}
 use lib.ListN.{length, take}
 use lib.Seq.{take_all}
 use Rattle.kinds.specs.declared.Stamp.{Stamp}
 use Rattle.kinds.specs.declared.PinNo.{PinNo}
-use Rattle.kinds.specs.declared.refusal.Verdict.{Verdict}
-use Rattle.kinds.specs.declared.refusal.Verdict.TheVariants.{Pass, Refuse}
-use Rattle.kinds.specs.Verdicts.{then}
+use Rattle.kinds.specs.Verdicts.{Verdict, Pass, Refuse, then}
 use Rattle.model.specs.declared.Table.{Table}
 use Rattle.model.specs.declared.answer.Decision.{Decision}
 use Rattle.model.specs.declared.answer.SnapshotDecision.{SnapshotDecision}
@@ -116,19 +114,6 @@ lent_stamps n t number = go (reservation_test (clock_of t) number)
     go : (v : Verdict) → decides_by v (lent_txids [] t.counters) (stamp number) ≡ decides_by v t (stamp number)
     go Pass = refl
     go (Refuse r) = refl
-
--- the outcome by value, from what was decided on the lent column; a stamp's, from what was decided on the counters
-pub lent-outcome :
-    (n : ℕ) (t : Table) (c : Call) → reads_more c ≡ false → {d : Decision} {next : Table} →
-    d ≡ decision n (lent_txids t.txids t.counters) c → next ≡ applied t d.change →
-    ◌≡◌ {A = Outcome} (record { table = next; answer = d.answer }) (outcome n t c)
-lent-outcome n t c b e a = rw a (outcome_of n t c (e ∙ lent_decides n t c b))
-
-pub stamp-outcome :
-    (n : ℕ) (t : Table) (number : Stamp) {d : Decision} {next : Table} →
-    d ≡ decision n (lent_txids [] t.counters) (stamp number) → next ≡ applied t d.change →
-    ◌≡◌ {A = Outcome} (record { table = next; answer = d.answer }) (outcome n t (stamp number))
-stamp-outcome n t number e a = rw a (outcome_of n t (stamp number) (e ∙ lent_stamps n t number))
 
 -- a pinned snapshot reads no snapshot_xmin; a release reads the pins alone
 pub lent-pins :

@@ -11,11 +11,9 @@ use borrow.Author.Tests.{eq-eqb, ne_eqb, le-ltb}
 use Rattle.kinds.specs.declared.SlotNo.{SlotNo}
 use Rattle.kinds.specs.declared.Txid.{Txid}
 use Rattle.settled.specs.declared.Snapshot.{Snapshot}
-use Rattle.settled.specs.declared.Settled.TheVariants.{No}
-use Rattle.usable.specs.declared.Usable.TheVariants.{Yes}
+use Rattle.settled.specs.Settled.{No, settled_in, paper_settled, settled_test}
+use Rattle.usable.specs.Usable.{Yes, usable_in, paper_usable, usable_test}
 use Rattle.listed.specs.Listed.{listed}
-use Rattle.settled.specs.Settled.{settled_in, paper_settled, settled_test}
-use Rattle.usable.specs.Usable.{usable_in, paper_usable, usable_test}
 use Rattle.usable.proofs.Wider.{own_is_usable}
 use Rattle.model.specs.declared.Table.{Table}
 use Rattle.model.specs.Tally.{active, snapshot_of}

@@ -10,8 +10,7 @@ use lib.Seq.{get_or-set_other}
 use borrow.Author.Tests.{eqb-true, eqb-false}
 use Rattle.kinds.specs.declared.PinNo.{PinNo}
 use Rattle.kinds.specs.declared.refusal.Refusal.{Refusal}
-use Rattle.kinds.specs.declared.refusal.Verdict.{Verdict}
-use Rattle.kinds.specs.declared.refusal.Verdict.TheVariants.{Pass}
+use Rattle.kinds.specs.Verdicts.{Verdict, Pass}
 use Rattle.kinds.specs.Refusals.{consumed}
 use Rattle.kinds.proofs.Verdicts.{refuse_not_pass}
 use Rattle.settled.specs.declared.Snapshot.{Snapshot}

@@ -14,12 +14,11 @@ use Rattle.kinds.specs.declared.Txid.{Txid}
 use Rattle.kinds.specs.declared.PinNo.{PinNo}
 use Rattle.kinds.specs.Kinds.{pin_no, txid}
 use Rattle.kinds.specs.Refusals.{accepted}
-use Rattle.kinds.specs.declared.refusal.Verdict.{Verdict}
-use Rattle.kinds.specs.declared.refusal.Verdict.TheVariants.{Pass, Refuse}
+use Rattle.kinds.specs.Verdicts.{Verdict, Pass, Refuse}
 use Rattle.settled.specs.declared.Snapshot.{Snapshot}
 use Rattle.settled.specs.Settled.{settled_test}
 use Rattle.model.specs.declared.Table.{Table}
-use Rattle.model.specs.declared.answer.Answer.TheVariants.{Line}
+use Rattle.model.specs.Answer.{Line}
 use Rattle.model.specs.Tally.{lowest_empty}
 use Rattle.model.specs.Tables.{fresh_table, line_of}
 use Rattle.model.specs.Changes.{applied}

@@ -12,11 +12,9 @@ use Rattle.kinds.specs.declared.Txid.{Txid}
 use Rattle.kinds.specs.declared.PinNo.{PinNo}
 use Rattle.kinds.specs.declared.refusal.Refusal.{Refusal}
 use Rattle.kinds.specs.declared.refusal.Refusal.TheVariants.{NoFreeSlot}
-use Rattle.kinds.specs.declared.refusal.Verdict.{Verdict}
-use Rattle.kinds.specs.declared.refusal.Verdict.TheVariants.{Pass, Refuse}
+use Rattle.kinds.specs.Verdicts.{Verdict, Pass, Refuse, then, zero_test}
 use Rattle.kinds.specs.Kinds.{top, pin_count, txid_of}
 use Rattle.kinds.specs.Refusals.{consumed}
-use Rattle.kinds.specs.Verdicts.{then, zero_test}
 use Rattle.kinds.proofs.Verdicts.{refuse_not_pass, same_refusal}
 use Rattle.model.specs.declared.Table.{Table}
 use Rattle.model.specs.Tables.{clock_of}

@@ -9,11 +9,10 @@ use lib.Seq.{get_or-set_same}
 use Rattle.kinds.specs.declared.Stamp.{Stamp}
 use Rattle.kinds.specs.declared.SlotNo.{SlotNo}
 use Rattle.kinds.specs.declared.Txid.{Txid}
-use Rattle.kinds.specs.declared.refusal.Verdict.{Verdict}
-use Rattle.kinds.specs.declared.refusal.Verdict.TheVariants.{Pass, Refuse}
+use Rattle.kinds.specs.Verdicts.{Verdict, Pass, Refuse}
 use Rattle.kinds.specs.Kinds.{slot, txid_of}
 use Rattle.model.specs.declared.Table.{Table}
-use Rattle.model.specs.declared.answer.Answer.TheVariants.{Begun}
+use Rattle.model.specs.Answer.{Begun}
 use Rattle.model.specs.Tally.{lowest_empty}
 use Rattle.model.specs.Tables.{fresh_table}
 use Rattle.model.specs.Calls.{Call, begin, refusal, change_accepted, after, answer_accepted, answer_by, answer}

@@ -9,7 +9,7 @@ use native.Mathlib.Omega.{arith}
 use lib.Seq.{get_or-set_same}
 use Rattle.kinds.specs.declared.SlotNo.{SlotNo}
 use Rattle.kinds.specs.declared.Txid.{Txid}
-use Rattle.kinds.specs.declared.refusal.Verdict.{Verdict}
+use Rattle.kinds.specs.Verdicts.{Verdict}
 use Rattle.settled.specs.declared.Snapshot.{Snapshot}
 use Rattle.model.specs.declared.Table.{Table}
 use Rattle.model.specs.Tally.{snapshot_of}

@@ -13,8 +13,7 @@ use Rattle.kinds.specs.declared.SlotNo.{SlotNo}
 use Rattle.kinds.specs.declared.Txid.{Txid}
 use Rattle.kinds.specs.declared.PinNo.{PinNo}
 use Rattle.kinds.specs.Kinds.{top, pin_count}
-use Rattle.kinds.specs.declared.refusal.Verdict.TheVariants.{Pass}
-use Rattle.kinds.specs.Verdicts.{zero_test}
+use Rattle.kinds.specs.Verdicts.{Pass, zero_test}
 use Rattle.kinds.proofs.Verdicts.{not_refused, passed_by, then_pass}
 use Rattle.model.specs.declared.Table.{Table}
 use Rattle.model.specs.Tally.{lowest_empty}

@@ -5,6 +5,9 @@ use Rattle.model.specs.declared.Table.{Table}
 use Rattle.model.specs.declared.change.SlotChange.{SlotChange}
 use Rattle.model.specs.declared.change.SlotChange.TheVariants.{Stays, Enters, Leaves, Retains, Pins}
 use Rattle.model.specs.declared.change.Change.{Change}
+use Rattle.model.specs.declared.answer.Decision.{Decision}
+use Rattle.kinds.specs.declared.refusal.Refusal.{Refusal}
+use Rattle.model.specs.Answer.{Refused}
 use Rattle.model.specs.Tables.{counted}
 
 -- a reservation moves the clock past the number
@@ -20,6 +23,10 @@ with_line line k = counted k.clock k.sampled_clock line
 
 abbrev pub change : SlotChange → Counters → Change
 change s k = record { slot = s; counters = k }
+
+-- a refused call changes nothing
+abbrev pub refused_decision : Counters → Refusal → Decision
+refused_decision was r = record { change = change Stays was; answer = Refused r }
 
 abbrev pub txids_after : SlotChange → List ℕ → List ℕ
 txids_after Stays txids = txids

@@ -1,7 +1,6 @@
 -- How many calls of a kind a history accepted, and how many slots are taken.
 use Rattle.std.specs.Prelude.{ℕ, ◌+◌, List, [], ◌∷◌, Bool, cond, length}
-use Rattle.kinds.specs.declared.refusal.Verdict.{Verdict}
-use Rattle.kinds.specs.declared.refusal.Verdict.TheVariants.{Pass, Refuse}
+use Rattle.kinds.specs.Verdicts.{Verdict, Pass, Refuse}
 use Rattle.model.specs.declared.Table.{Table}
 use Rattle.model.specs.Tally.{active}
 use Rattle.model.specs.Tables.{fresh_table}

@@ -1,7 +1,7 @@
 -- Who holds the tiles: what may be concluded from the holder that oldest and vacuum name. docs/PROMISE.md has it in words.
 use Rattle.std.specs.Prelude.{ℕ, ◌+◌, ◌≤◌, ◌<◌, ◌≡◌, ◌≢◌, List, [], ◌∷◌, ◌++◌}
 use Rattle.model.specs.declared.Table.{Table}
-use Rattle.model.specs.declared.answer.Answer.TheVariants.{Oldest, Line}
+use Rattle.model.specs.Answer.{Oldest, Line}
 use Rattle.model.specs.Tally.{no_holder, first_pin}
 use Rattle.model.specs.Tables.{txid_at, xmin_at, pin_at}
 use Rattle.model.specs.Calls.{Call, oldest, vacuum, answer}

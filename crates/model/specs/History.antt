@@ -4,13 +4,12 @@ use Rattle.std.proofs.Math.Option.{Option, none, some}
 use Rattle.kinds.specs.declared.Stamp.{Stamp}
 use Rattle.kinds.specs.declared.SlotNo.{SlotNo}
 use Rattle.kinds.specs.declared.Txid.{Txid}
-use Rattle.kinds.specs.declared.refusal.Verdict.{Verdict}
-use Rattle.kinds.specs.declared.refusal.Verdict.TheVariants.{Pass, Refuse}
+use Rattle.kinds.specs.Verdicts.{Verdict, Pass, Refuse}
 use Rattle.settled.specs.declared.Snapshot.{Snapshot}
 use Rattle.model.specs.declared.Table.{Table}
 use Rattle.model.specs.Tally.{lowest_empty}
 use Rattle.model.specs.Tables.{fresh_table}
-use Rattle.model.specs.declared.answer.Answer.TheVariants.{Begun}
+use Rattle.model.specs.Answer.{Begun}
 use Rattle.model.specs.Calls.{Call, begin, own, refusal, after, answer, shown}
 use Rattle.model.specs.Deeds.{Deed, registers, ends, takes, takes_pin, frees_pin, idle, deed, same_transaction, end_of, own_of}
 use Rattle.model.specs.Accepted.{Registered}

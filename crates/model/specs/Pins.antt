@@ -2,11 +2,10 @@
 use Rattle.std.specs.Prelude.{ℕ, ◌≡◌, List, [], ◌∷◌, ◌++◌, cond, eqb}
 use Rattle.std.proofs.Math.Option.{Option, none, some}
 use Rattle.kinds.specs.declared.PinNo.{PinNo}
-use Rattle.kinds.specs.declared.refusal.Verdict.{Verdict}
-use Rattle.kinds.specs.declared.refusal.Verdict.TheVariants.{Pass, Refuse}
+use Rattle.kinds.specs.Verdicts.{Verdict, Pass, Refuse}
 use Rattle.settled.specs.declared.Snapshot.{Snapshot}
 use Rattle.model.specs.declared.Table.{Table}
-use Rattle.model.specs.declared.answer.Answer.TheVariants.{Pinned}
+use Rattle.model.specs.Answer.{Pinned}
 use Rattle.model.specs.Tally.{lowest_empty}
 use Rattle.model.specs.Tables.{fresh_table}
 use Rattle.model.specs.Calls.{Call, pin, refusal, after, answer, shown}

@@ -6,7 +6,7 @@ use Rattle.kinds.specs.declared.Txid.{Txid}
 use Rattle.kinds.specs.declared.PinNo.{PinNo}
 use Rattle.settled.specs.declared.Snapshot.{Snapshot}
 use Rattle.settled.specs.Settled.{settled_in}
-use Rattle.model.specs.declared.answer.Answer.TheVariants.{Line}
+use Rattle.model.specs.Answer.{Line}
 use Rattle.model.specs.Tables.{line_of}
 use Rattle.model.specs.Calls.{Call, vacuum, answer, shown}
 use Rattle.model.specs.Deeds.{takes_snapshot}

@@ -8,8 +8,7 @@ use Rattle.kinds.specs.Kinds.{top, pin_count, free_pins, number, slot, pin_no, t
 use Rattle.settled.specs.declared.Snapshot.{Snapshot}
 use Rattle.settled.specs.Snapshots.{no_snapshot}
 use Rattle.model.specs.declared.Table.{Table}
-use Rattle.model.specs.declared.answer.Answer.{Answer}
-use Rattle.model.specs.declared.answer.Answer.TheVariants.{Begun, Done, Pinned, Oldest, Line, Stamped, Refused}
+use Rattle.model.specs.Answer.{Answer, Begun, Done, Pinned, Oldest, Line, Stamped, Refused}
 use Rattle.model.specs.Tally.{places}
 use Rattle.model.specs.Tables.{counted, fresh_table, clock_of, line_of}
 use Rattle.model.specs.Calls.{Call, begin, end, snap, own, oldest, vacuum, stamp, finish, pin, unpin, after, answer, shown}

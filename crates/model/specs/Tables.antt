@@ -3,6 +3,7 @@ use Rattle.std.specs.Prelude.{ℕ, List, [], replicate, get_or, take}
 use Rattle.kinds.specs.Kinds.{free_pins}
 use Rattle.model.specs.declared.Counters.{Counters}
 use Rattle.model.specs.declared.Table.{Table}
+use Rattle.model.specs.declared.Columns.{Columns}
 
 abbrev pub counted : ℕ → ℕ → ℕ → Counters
 counted clock sample line = record { clock = clock; sampled_clock = sample; vacuum_line = line }
@@ -36,6 +37,9 @@ sample_of t = t.counters.sampled_clock
 -- columns and counters that are lent are a table
 abbrev pub lent : List ℕ → List ℕ → List ℕ → Counters → Table
 lent txids xmins pins was = record { txids = txids; snapshot_xmins = xmins; pins = pins; counters = was }
+
+abbrev pub lent_by : Columns → Table
+lent_by c = lent c.txids.now c.snapshot_xmins.now c.pins.now c.counters
 
 -- .. a call that reads no snapshot_xmin and no pin is lent none
 abbrev pub lent_txids : List ℕ → Counters → Table

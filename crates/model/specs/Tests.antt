@@ -7,10 +7,8 @@ use Rattle.kinds.specs.declared.Txid.{Txid}
 use Rattle.kinds.specs.declared.refusal.Refusal.TheVariants.{NoFreeSlot, InvalidSlot, SlotOwnershipMismatch, ClockExhausted}
 use Rattle.kinds.specs.declared.refusal.Refusal.TheVariants.{BadReservation, WildJump, BadClock, BadSample, NoFreePin, InvalidPin}
 use Rattle.kinds.specs.declared.refusal.Refusal.TheVariants.{FreePin}
-use Rattle.kinds.specs.declared.refusal.Verdict.{Verdict}
-use Rattle.kinds.specs.declared.refusal.Verdict.TheVariants.{Pass, Refuse}
+use Rattle.kinds.specs.Verdicts.{Verdict, Pass, Refuse, then, zero_test}
 use Rattle.kinds.specs.Kinds.{top, pin_count, txid, txid_of}
-use Rattle.kinds.specs.Verdicts.{then, zero_test}
 use Rattle.model.specs.Tally.{lowest_empty}
 
 -- 2: the slot is not below the number of slots

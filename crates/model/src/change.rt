@@ -3,7 +3,7 @@
 use crate::Counters;
 use kinds::{PinNo, SlotNo, Txid};
 
-#[derive(Clone, Copy)]
+#[derive(Clone, Copy, Debug, PartialEq, Eq)]
 pub enum SlotChange {
     // No slot and no pin moves.
     Stays,
@@ -18,7 +18,7 @@ pub enum SlotChange {
 }
 
 // The counters become these.
-#[derive(Clone, Copy)]
+#[derive(Clone, Copy, Debug, PartialEq, Eq)]
 pub struct Change {
     pub slot: SlotChange,
     pub counters: Counters,

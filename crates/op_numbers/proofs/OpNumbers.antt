@@ -1,7 +1,7 @@
 -- An op has one number and a number at most one op.
 use Prim.Native.Nat.{ℕ}
 use native.Mathlib.Omega.{arith}
-use mathlib.Core.Path.{◌≡◌, refl, ap, ◌∙◌}
+use mathlib.Core.Path.{◌≡◌, refl}
 use mathlib.Core.List.{List, [], ◌∷◌}
 use mathlib.Core.Bool.{Bool, true, false, cond}
 use lib.Dec.{eqb}
@@ -10,7 +10,7 @@ use Rattle.trace.specs.Op.{ops}
 use Rattle.trace.specs.declared.Op.{Op}
 use Rattle.trace.specs.declared.Op.TheVariants.{Begin, End, Snap, Own, Oldest, Vacuum, Stamp, Finish, Pin, Unpin}
 use Rattle.op_numbers.specs.Numbers.{op_number, try_number, first_numbered, op_numbered}
-use Rattle.op_numbers.specs.declared.OpNumbered.TheVariants.{Is, Unknown}
+use Rattle.op_numbers.specs.OpNumbered.{Is, Unknown}
 
 -- the number of an op names that op
 pub op_of_number : (o : Op) → op_numbered (op_number o) ≡ Is o

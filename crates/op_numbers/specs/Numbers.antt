@@ -3,8 +3,7 @@ use Rattle.std.specs.Prelude.{ℕ, cond, List, [], ◌∷◌, eqb}
 use Rattle.trace.specs.Op.{ops}
 use Rattle.trace.specs.declared.Op.{Op}
 use Rattle.trace.specs.declared.Op.TheVariants.{Begin, End, Snap, Own, Oldest, Vacuum, Stamp, Finish, Pin, Unpin}
-use Rattle.op_numbers.specs.declared.OpNumbered.{OpNumbered}
-use Rattle.op_numbers.specs.declared.OpNumbered.TheVariants.{Is, Unknown}
+use Rattle.op_numbers.specs.OpNumbered.{OpNumbered, Is, Unknown}
 
 -- from 1, in the order of SPEC 9.2
 abbrev pub op_number : Op → ℕ

@@ -2,18 +2,11 @@
 #![tactic(auto)]
 
 ghost use Rattle.std.specs.Prelude.{◌≡◌};
-ghost use Rattle.op_numbers.specs.Numbers.{op_number, try_number, op_numbered};
+ghost use Rattle.op_numbers.specs.Numbers.{op_number, op_numbered};
 
 use trace::Op;
 
-// The op that a number names.
-#[derive(Clone, Copy)]
-pub enum OpNumbered {
-    Is(Op),
-    Unknown,
-}
-
-// The number of an op.
+// The number of an op. No `From` and `TryFrom`: those would stand in the crate of `Op`, and the order is stated here, once.
 pub fn op_number(op: Op) -> u64
     ensures { result ≡ op_number op }
 {
@@ -31,28 +24,22 @@ pub fn op_number(op: Op) -> u64
     }
 }
 
-// `op` where n is `number`, and `other` where it isn't.
-fn try_number(n: u64, number: u64, op: Op, other: OpNumbered) -> OpNumbered
-    ensures { result ≡ try_number n number op other }
-{
-    if n == number {
-        return OpNumbered::Is(op);
-    }
-    other
-}
-
 // The op of a number.
-pub fn op_of(n: u64) -> OpNumbered
+#[tactic(auto, unfolding(crate::specs::Numbers::op_numbered, crate::specs::Numbers::try_number))]
+pub fn op_of(n: u64) -> Option<Op>
     ensures { result ≡ op_numbered n }
 {
-    let unpin = try_number(n, 10, Op::Unpin, OpNumbered::Unknown);
-    let pin = try_number(n, 9, Op::Pin, unpin);
-    let finish = try_number(n, 8, Op::Finish, pin);
-    let stamp = try_number(n, 7, Op::Stamp, finish);
-    let vacuum = try_number(n, 6, Op::Vacuum, stamp);
-    let oldest = try_number(n, 5, Op::Oldest, vacuum);
-    let own = try_number(n, 4, Op::Own, oldest);
-    let snap = try_number(n, 3, Op::Snap, own);
-    let end = try_number(n, 2, Op::End, snap);
-    try_number(n, 1, Op::Begin, end)
+    match n {
+        1 => Some(Op::Begin),
+        2 => Some(Op::End),
+        3 => Some(Op::Snap),
+        4 => Some(Op::Own),
+        5 => Some(Op::Oldest),
+        6 => Some(Op::Vacuum),
+        7 => Some(Op::Stamp),
+        8 => Some(Op::Finish),
+        9 => Some(Op::Pin),
+        10 => Some(Op::Unpin),
+        _ => None,
+    }
 }

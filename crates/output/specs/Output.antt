@@ -6,8 +6,7 @@ use Rattle.model.specs.declared.answer.Numbers.{Numbers}
 use Rattle.model.specs.Tables.{line_of}
 use Rattle.model.specs.Answers.{numbers_beside, listing}
 use Rattle.model.specs.Calls.{Call, after, answer, shown}
-use Rattle.text.specs.declared.Put.{Put}
-use Rattle.text.specs.declared.Put.TheVariants.{Past, NoRoom}
+use Rattle.text.specs.Put.{Put, Past, NoRoom}
 use Rattle.text.specs.Keys.{answer_key, slot_key, id_key, seen_key, xmin_key, xmax_key, vacuum_key, count_key, holder_key, in_key}
 use Rattle.text.specs.Line.{line_text}
 use Rattle.text.specs.Write.{spliced}

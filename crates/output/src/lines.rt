@@ -1,13 +1,12 @@
 // The text of an answer, written at a place of a lent buffer.
-ghost use Rattle.std.specs.Prelude.{◌≡◌, ◌++◌, ◌+◌, ◌*◌, ◌≤◌, length, take};
+ghost use Rattle.std.specs.Prelude.{◌≡◌, ◌++◌, ◌+◌, ◌*◌, ◌≤◌, true, length, take};
 ghost use Rattle.text.specs.Keys.{in_key};
 ghost use Rattle.text.specs.Line.{line_text};
-ghost use Rattle.output.specs.Output.{told_lines, rest_lines, holder_line, in_lines, answer_text, holder_room, fits, put_text, left_text};
+ghost use Rattle.output.specs.Output.{told_lines, rest_lines, holder_line, in_lines, answer_text, holder_room, need, fits, put_text, left_text};
 ghost use Rattle.output.specs.Wrote.{Wrote};
 
 use kinds::{SLOTS, Told};
 use model::Numbers;
-use text::Put;
 use trace::Version;
 
 // The line of `key` and n, where the caller has seen that there is room: a number takes 20 digits at most.
@@ -15,11 +14,8 @@ fn line(buf: &mut [u8], at: usize, key: &[u8], n: u64) -> usize
     requires { at + (length key.now + 21) ≤ length buf.old }
     ensures { Wrote buf.old at (line_text key.now n) buf.new result (length key.now + 21) }
 {
-    let put = text_writer::put_line(buf, at, key, n);
-    match put {
-        Put::Past(end) => end,
-        Put::NoRoom => at,
-    }
+    // A name of its own: it says the bound that the lines below add up, where text_writer's says the digits.
+    text_writer::line(buf, at, key, n)
 }
 
 // The first four lines: what the answer tells.
@@ -51,16 +47,8 @@ fn holder_line(buf: &mut [u8], at: usize, version: Version, holder: u64) -> usiz
 {
     match version {
         Version::Proc1 => at,
-        Version::Proc2 => line(buf, at, b"holder=", holder),
-        Version::Proc3 => line(buf, at, b"holder=", holder),
+        Version::Proc2 | Version::Proc3 => line(buf, at, b"holder=", holder),
     }
-}
-
-fn in_line(buf: &mut [u8], at: usize, id: u64) -> usize
-    requires { at + 24 ≤ length buf.old }
-    ensures { Wrote buf.old at (line_text in_key id) buf.new result 24 }
-{
-    line(buf, at, b"in=", id)
 }
 
 // A line for each of the first `count` ids.
@@ -69,14 +57,8 @@ fn in_lines(buf: &mut [u8], at: usize, ids: &[u64], count: usize) -> usize
     ensures { Wrote buf.old at (in_lines (take count ids.now)) buf.new result (24 * count) }
 {
     let mut past = at;
-    let mut i: usize = 0;
-    while i < ids.len() {
-        if count <= i {
-            return past;
-        }
-        let id = ids[i];
-        past = in_line(buf, past, id);
-        i += 1;
+    for &id in ids.iter().take(count) {
+        past = line(buf, past, b"in=", id);
     }
     past
 }
@@ -87,39 +69,35 @@ fn holder_room(version: Version) -> usize
 {
     match version {
         Version::Proc1 => 0,
-        Version::Proc2 => 28,
-        Version::Proc3 => 28,
+        Version::Proc2 | Version::Proc3 => 28,
     }
 }
 
 // Whether a record that lists `count` ids has room from `at` on.
 fn has_room(version: Version, size: usize, at: usize, count: usize) -> bool
-    ensures { result ≡ fits version SLOTS size at count }
+    ensures value { result ≡ fits version SLOTS size at count }
+    ensures room { result ≡ true → at + need version count ≤ size }
 {
-    if SLOTS < count {
-        return false;
-    }
-    if size < at {
-        return false;
-    }
-    let more = holder_room(version);
-    224 + more + 24 * count <= size - at
+    count <= SLOTS && 224 + holder_room(version) + 24 * count <= size.saturating_sub(at)
 }
 
 // The eight lines, or nine, and a line for each of the first `count` ids, where they have room.
-pub fn put_answer(version: Version, buf: &mut [u8], at: usize, n: Numbers, ids: &[u64]) -> Put
+pub fn put_answer(
+    version: Version,
+    buf: &mut [u8],
+    at: usize,
+    n: Numbers,
+    ids: &[u64],
+) -> Option<usize>
     ensures result_value { result ≡ put_text version SLOTS buf.old at n.count (answer_text version n (take n.count ids.now)) }
     ensures buf_after { buf.new
         ≡ left_text version SLOTS buf.old at n.count (answer_text version n (take n.count ids.now)) }
 {
-    let count = n.count;
-    if has_room(version, buf.len(), at, count) {
-        let told = n.told;
-        let four = told_lines(buf, at, told);
-        let eight = rest_lines(buf, four, n);
-        let nine = holder_line(buf, eight, version, n.holder);
-        let past = in_lines(buf, nine, ids, count);
-        return Put::Past(past);
+    if !has_room(version, buf.len(), at, n.count) {
+        return None;
     }
-    Put::NoRoom
+    let four = told_lines(buf, at, n.told);
+    let eight = rest_lines(buf, four, n);
+    let nine = holder_line(buf, eight, version, n.holder);
+    Some(in_lines(buf, nine, ids, n.count))
 }

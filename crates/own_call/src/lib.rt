@@ -5,7 +5,7 @@ ghost use Rattle.std.specs.Prelude.{◌≡◌};
 ghost use Rattle.model.specs.Tables.{lent_slots};
 ghost use Rattle.model.specs.Calls.{own, refusal, snapshot_decision, snapshot_outcome};
 
-use kinds::{SLOTS, SlotNo, Txid, Verdict};
+use kinds::{Refusal, SLOTS, SlotNo, Txid};
 use model::{Answer, Change, Counters, SlotChange, SnapshotDecision, SnapshotOutcome, Table};
 use refused::refused_snapshot;
 
@@ -17,17 +17,15 @@ pub fn own_test(
     id: Txid,
     clock: u64,
     sample: u64,
-) -> Verdict
+) -> Result<(), Refusal>
     ensures { result ≡ refusal SLOTS (lent_slots SLOTS txids.now was) (own slot id clock sample) }
 {
-    let owner = verdicts::owner_test(txids, slot, id);
-    match owner {
-        Verdict::Refuse(r) => Verdict::Refuse(r),
-        Verdict::Pass => clock_verdicts::observation_test(was.clock, clock, sample),
-    }
+    verdicts::owner_test(txids, slot, id)?;
+    clock_verdicts::observation_test(was.clock, clock, sample)
 }
 
 // On lent txids.
+#[tactic(auto, using(model::proofs::Decides::shows), unfolding(model::specs::Calls::change_accepted, model::specs::Calls::answer_accepted, model::specs::Calls::shown_accepted, model::specs::Tally::snapshot_of))]
 pub fn decide_own(
     txids: &[u64],
     was: Counters,
@@ -38,25 +36,21 @@ pub fn decide_own(
 ) -> SnapshotDecision
     ensures { result ≡ snapshot_decision SLOTS (lent_slots SLOTS txids.now was) (own slot id clock sample) }
 {
-    let verdict = own_test(txids, was, slot, id, clock, sample);
-    match verdict {
-        Verdict::Refuse(r) => return refused_snapshot(was, r),
-        Verdict::Pass => {
-            let snapshot = taken_scans::take_snapshot(txids, sample);
-            let counters = counters::observed(was, clock, sample);
-            let retains = SlotChange::Retains {
+    // Not lent as `Columns`: by its parameters the contract says which columns the call can't read.
+    if let Err(refusal) = own_test(txids, was, slot, id, clock, sample) {
+        return refused_snapshot(was, refusal);
+    }
+    let snapshot = taken_scans::take_snapshot(txids, sample);
+    SnapshotDecision {
+        change: Change {
+            slot: SlotChange::Retains {
                 slot,
                 xmin: snapshot.xmin,
-            };
-            SnapshotDecision {
-                change: Change {
-                    slot: retains,
-                    counters,
-                },
-                answer: Answer::Done,
-                snapshot,
-            }
-        }
+            },
+            counters: counters::observed(was, clock, sample),
+        },
+        answer: Ok(Answer::Done),
+        snapshot,
     }
 }
 
@@ -70,15 +64,6 @@ pub fn create_transaction_snapshot(
 ) -> SnapshotOutcome
     ensures { result ≡ snapshot_outcome SLOTS table (own slot id clock sample) }
 {
-    let was = table.counters;
-    let decided = decide_own(&table.txids, was, slot, id, clock, sample);
-    let change = decided.change;
-    let answer = decided.answer;
-    let snapshot = decided.snapshot;
-    let next = changes::apply(table, change);
-    SnapshotOutcome {
-        table: next,
-        answer,
-        snapshot,
-    }
+    let decided = decide_own(&table.txids, table.counters, slot, id, clock, sample);
+    changes::carry_out_snapshot(table, decided)
 }

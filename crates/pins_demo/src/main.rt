@@ -2,104 +2,87 @@
 // line of the file `stdout` was worked out by hand from SPEC 5.9 and 5.10, before the program had been run.
 #![tactic(auto)]
 
-use kinds::{PINS, PinNo, Txid};
-use settled::{Settled, Snapshot};
+use kinds::{PINS, PinNo, Refusal, Txid};
+use settled::Snapshot;
+use std::io;
 use table::{Answer, SnapshotOutcome, Table};
 
-fn number(label: &[u8], n: u64) {
-    io::write_all(1, label);
-    io::print_decimal(1, n);
+// The answer's number, and the pin that it carries. A call by value gives back no decision, so `plain_numbers` isn't asked here.
+fn answered(rt: &impl Print, label: &str, answer: Result<Answer, Refusal>) -> io::Result<()> {
+    let told = answer_numbers::numbers_of(answer, 0, 0, 0, 0).told;
+    print!(rt; "{label}: answer={} pin={}", told.number, told.slot)
 }
 
-// The answer's number, and the pin that it carries.
-fn answered(label: &[u8], answer: Answer) {
-    let numbers = answer_numbers::numbers_of(answer, 0, 0, 0, 0);
-    let told = numbers.told;
-    io::write_all(1, label);
-    number(b": answer=", told.number);
-    number(b" pin=", told.slot);
-}
-
-fn line_of(t: Table) {
-    let counters = t.counters;
-    number(b" | sample=", counters.sampled_clock);
-    number(b" line=", counters.vacuum_line);
-    io::write_all(1, b"\n");
+fn counters(rt: &impl Print, t: &Table) -> io::Result<()> {
+    println!(rt;
+        " | sample={} line={}",
+        t.counters.sampled_clock, t.counters.vacuum_line
+    )
 }
 
 // Whether a page may use what id 60 made.
-fn sixty(s: Snapshot) {
-    let settled = settled::is_settled(s, Txid(60));
-    match settled {
-        Settled::Yes => {
-            io::write_all(1, b" 60 settled");
-        }
-        Settled::No => {
-            io::write_all(1, b" 60 in flight");
-        }
-        Settled::Refused(_) => {
-            io::write_all(1, b" refused");
-        }
+fn sixty(s: Snapshot) -> &'static str {
+    match settled::is_settled(s, Txid(60)) {
+        Ok(true) => "60 settled",
+        Ok(false) => "60 in flight",
+        Err(_) => "refused",
     }
 }
 
-fn shown(label: &[u8], taken: SnapshotOutcome) -> Table {
-    let answer = taken.answer;
+fn shown(rt: &impl Print, label: &str, taken: SnapshotOutcome) -> io::Result<Table> {
     let s = taken.snapshot;
-    let next = taken.table;
-    answered(label, answer);
-    number(b" xmin=", s.xmin);
-    number(b" xmax=", s.xmax);
-    sixty(s);
-    line_of(next);
-    next
+    answered(rt, label, taken.answer)?;
+    print!(rt; " xmin={} xmax={} {}", s.xmin, s.xmax, sixty(s))?;
+    counters(rt, &taken.table)?;
+    Ok(taken.table)
 }
 
-fn pin(label: &[u8], t: Table, clock: u64, sample: u64) -> Table {
-    shown(label, table::create_pinned_snapshot(t, clock, sample))
+fn pin(rt: &impl Print, label: &str, t: Table, clock: u64, sample: u64) -> io::Result<Table> {
+    shown(rt, label, table::create_pinned_snapshot(t, clock, sample))
 }
 
-fn unpin(label: &[u8], t: Table, k: u16) -> Table {
+fn unpin(rt: &impl Print, label: &str, t: Table, k: u16) -> io::Result<Table> {
     let called = table::release_pin(t, PinNo(k));
-    let answer = called.answer;
-    let next = called.table;
-    answered(label, answer);
-    line_of(next);
-    next
+    answered(rt, label, called.answer)?;
+    counters(rt, &called.table)?;
+    Ok(called.table)
 }
 
-fn vacuum(label: &[u8], t: Table, clock: u64, sample: u64) -> Table {
+fn vacuum(rt: &impl Print, label: &str, t: Table, clock: u64, sample: u64) -> io::Result<Table> {
     let called = table::vacuum(t, clock, sample);
-    let answer = called.answer;
-    let next = called.table;
-    let numbers = answer_numbers::numbers_of(answer, 0, 0, 0, 0);
-    answered(label, answer);
-    number(b" holder=", numbers.holder);
-    line_of(next);
-    next
+    let holder = answer_numbers::numbers_of(called.answer, 0, 0, 0, 0).holder;
+    answered(rt, label, called.answer)?;
+    print!(rt; " holder={holder}")?;
+    counters(rt, &called.table)?;
+    Ok(called.table)
 }
 
 // Every pin is taken.
-fn all_pinned(t: Table) -> Table {
-    let mut full = t;
-    full.pins = [200u64; PINS];
-    full
+fn all_pinned(mut t: Table) -> Table {
+    t.pins = [200u64; PINS];
+    t
 }
 
-fn main() {
-    let t = vacuum(b"vacuum 100/100", table::fresh(), 100, 100);
-    let t = shown(b"plain 100/50", table::create_snapshot(t, 100, 50));
-    let t = pin(b"pin 100/50", t, 100, 50);
-    let t = vacuum(b"vacuum 200/200", t, 200, 200);
-    let t = unpin(b"unpin 0", t, 0);
-    let t = vacuum(b"vacuum 200/200", t, 200, 200);
-    let t = unpin(b"unpin 0", t, 0);
-    let t = unpin(b"unpin 64", t, 64);
-    let t = pin(b"pin 199/0", t, 199, 0);
-    let t = pin(b"pin 200/0", t, 200, 0);
+fn page(rt: &impl Print) -> io::Result<()> {
+    let t = vacuum(rt, "vacuum 100/100", table::fresh(), 100, 100)?;
+    let t = shown(rt, "plain 100/50", table::create_snapshot(t, 100, 50))?;
+    let t = pin(rt, "pin 100/50", t, 100, 50)?;
+    let t = vacuum(rt, "vacuum 200/200", t, 200, 200)?;
+    let t = unpin(rt, "unpin 0", t, 0)?;
+    let t = vacuum(rt, "vacuum 200/200", t, 200, 200)?;
+    let t = unpin(rt, "unpin 0", t, 0)?;
+    let t = unpin(rt, "unpin 64", t, 64)?;
+    let t = pin(rt, "pin 199/0", t, 199, 0)?;
+    let t = pin(rt, "pin 200/0", t, 200, 0)?;
     let full = all_pinned(t);
-    let full = pin(b"all taken, pin 200/0", full, 200, 0);
-    let full = pin(b"all taken, pin 200/200", full, 200, 200);
-    let full = unpin(b"unpin 7", full, 7);
-    pin(b"pin 200/200", full, 200, 200);
+    let full = pin(rt, "all taken, pin 200/0", full, 200, 0)?;
+    let full = pin(rt, "all taken, pin 200/200", full, 200, 200)?;
+    let full = unpin(rt, "unpin 7", full, 7)?;
+    pin(rt, "pin 200/200", full, 200, 200)?;
+    Ok(())
+}
+
+fn main(rt: HostRuntime) {
+    // Where a print fails, nobody is left to tell.
+    let _ = page(&rt);
 }

@@ -1,17 +1,14 @@
 -- A decision that is what the model says, stored and told, is what a call in place promises of the host's runs.
 use Prim.Native.Nat.{ℕ, ◌≤◌}
-use mathlib.Core.Path.{◌≡◌, refl, sym, ap, ◌∙◌}
+use mathlib.Core.Path.{◌≡◌, refl, ap, ◌∙◌}
 use mathlib.Core.Bool.{Bool, true, false, cond}
-use mathlib.Core.List.{List, []}
+use mathlib.Core.List.{List}
 use native.Mathlib.Nat.{suc-ne-zero}
-use native.Mathlib.Omega.{arith}
 use lib.Dec.{eqb, ltb}
 use lib.ListN.{length, take}
 use lib.Seq.{sets}
 use borrow.Author.Tests.{eqb-true, eqb-false, ltb-false, eq-eqb, ne_eqb, le-ltb}
-use Rattle.kinds.specs.declared.refusal.Refusal.TheVariants.{BadImage, NoRoom}
-use Rattle.kinds.specs.declared.refusal.Verdict.{Verdict}
-use Rattle.kinds.specs.declared.refusal.Verdict.TheVariants.{Pass, Refuse}
+use Rattle.kinds.specs.Verdicts.{Verdict, Pass, Refuse}
 use Rattle.kinds.specs.Refusals.{told}
 use Rattle.settled.specs.Snapshots.{no_snapshot}
 use Rattle.model.specs.declared.Counters.{Counters}
@@ -19,10 +16,11 @@ use Rattle.model.specs.declared.Table.{Table}
 use Rattle.model.specs.declared.answer.Decision.{Decision}
 use Rattle.model.specs.declared.answer.Numbers.{Numbers}
 use Rattle.model.specs.Tables.{lent_txids}
-use Rattle.model.specs.Calls.{Call, refusal, change_of, after, answer, shown_accepted, shown_by, shown, decision}
+use Rattle.model.specs.Calls.{Call, refusal, after, shown_accepted, shown_by, shown, decision}
 use Rattle.model.proofs.Lent.{reads_more, lent_decides}
 use Rattle.place.specs.Words.{size_of, table_of, words_of, stored_words}
-use Rattle.place.specs.Shapes.{head, shape_of, list_shape, answer_words, told_in, plain_numbers}
+use Rattle.answer_numbers.specs.Plain.{plain_numbers}
+use Rattle.place.specs.Shapes.{head, shape_of, list_shape, answer_words, told_in}
 use Rattle.place.specs.Calls.{said, number_by, table_by, out_by, ids_by}
 
 pub record Shaped (n table out : ℕ) : Type 0 where
@@ -61,6 +59,10 @@ pub lent_words :
     decision n (lent_txids (take n ws) was) c ≡ decision n (table_of n ws) c
 unfolding table_of
 lent_words n ws c e b = rw e (lent_decides n (table_of n ws) c b)
+
+-- .. and so is what is decided on any columns that are that table
+pub decided_on : (n : ℕ) (c : Call) {t u : Table} {d : Decision} → t ≡ u → d ≡ decision n t c → d ≡ decision n u c
+decided_on n c e d = d ∙ ap (λ (t : Table). decision n t c) e
 
 -- what is told of a call that shows nothing
 pub plain-said :

@@ -1,2 +1,3 @@
 pub mod Laid
 pub mod Called
+pub mod Shaping

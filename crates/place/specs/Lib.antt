@@ -1,3 +1,4 @@
 pub mod Words
 pub mod Shapes
 pub mod Calls
+pub mod Plain

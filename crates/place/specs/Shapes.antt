@@ -2,10 +2,9 @@
 use Rattle.std.specs.Prelude.{ℕ, cond, List, [], ◌∷◌, eqb, ltb, length}
 use Rattle.std.proofs.lemmas.List.Edits.{sets}
 use Rattle.kinds.specs.declared.refusal.Refusal.TheVariants.{BadImage, NoRoom}
+use Rattle.kinds.specs.Verdicts.{Verdict, Pass, Refuse, then}
 use Rattle.kinds.specs.Refusals.{told}
-use Rattle.model.specs.declared.answer.Decision.{Decision}
 use Rattle.model.specs.declared.answer.Numbers.{Numbers}
-use Rattle.model.specs.Answers.{numbers_of}
 use Rattle.place.specs.Words.{size_of}
 
 -- the words of an answer but for its number and its ids, and how many they are
@@ -20,10 +19,6 @@ head = 8
 unfoldable pub told_in : List ℕ → Numbers → List ℕ
 told_in out a = cond (ltb (length out) head) out (sets out 0 (answer_words a))
 
--- what is told of a call that shows no snapshot
-abbrev pub plain_numbers : Decision → Numbers
-plain_numbers d = numbers_of d.answer 0 0 0 d.change.counters.vacuum_line
-
 -- 18: the table has another length. 12: `out` is too short. 0 where both fit
 unfoldable pub shape_of : ℕ → ℕ → ℕ → ℕ
 shape_of n table out = cond (eqb table (size_of n)) (cond (ltb out head) (told NoRoom).number 0) (told BadImage).number
@@ -32,3 +27,10 @@ shape_of n table out = cond (eqb table (size_of n)) (cond (ltb out head) (told N
 unfoldable pub list_shape : ℕ → ℕ → ℕ → ℕ → ℕ
 list_shape n table out ids =
     cond (eqb (shape_of n table out) 0) (cond (ltb ids n) (told NoRoom).number 0) (shape_of n table out)
+
+-- the same as verdicts, in the same order
+unfoldable pub shape_verdict : ℕ → ℕ → ℕ → Verdict
+shape_verdict n table out = cond (eqb table (size_of n)) (cond (ltb out head) (Refuse NoRoom) Pass) (Refuse BadImage)
+
+unfoldable pub list_verdict : ℕ → ℕ → ℕ → ℕ → Verdict
+list_verdict n table out ids = then (shape_verdict n table out) (cond (ltb ids n) (Refuse NoRoom) Pass)

@@ -1,9 +1,7 @@
 -- A table of n slots as a run of words, and what storing a change leaves of them.
-use Rattle.std.specs.Prelude.{ℕ, ◌+◌, ◌*◌, cond, List, [], ◌∷◌, ◌++◌, eqb, ltb, length, take, drop, get_or, set}
+use Rattle.std.specs.Prelude.{ℕ, ◌+◌, ◌*◌, cond, List, [], ◌∷◌, ◌++◌, eqb, length, take, drop, get_or}
 use Rattle.kinds.specs.Kinds.{pin_count}
 use Rattle.model.specs.declared.Table.{Table}
-use Rattle.model.specs.declared.change.SlotChange.{SlotChange}
-use Rattle.model.specs.declared.change.SlotChange.TheVariants.{Stays, Enters, Leaves, Retains, Pins}
 use Rattle.model.specs.declared.change.Change.{Change}
 use Rattle.model.specs.Tables.{counted, lent, clock_of, sample_of, line_of}
 use Rattle.model.specs.Changes.{applied}
@@ -30,18 +28,6 @@ laid txids xmins pins rest = txids ++ (xmins ++ (pins ++ rest))
 
 unfoldable pub words_of : Table → List ℕ
 words_of t = laid t.txids t.snapshot_xmins t.pins (clock_of t ∷ sample_of t ∷ line_of t ∷ [])
-
--- word i of the column of so many places that begins at a word; nothing past the column
-unfoldable pub put_at : List ℕ → ℕ → ℕ → ℕ → ℕ → List ℕ
-put_at ws from places i x = cond (ltb i places) (set ws (from + i) x) ws
-
--- the slot or the pin of a change
-unfoldable pub slot_put : ℕ → List ℕ → SlotChange → List ℕ
-slot_put n ws Stays = ws
-slot_put n ws (Enters slot txid) = put_at (put_at ws 0 n slot.0 txid.0) n n slot.0 txid.0
-slot_put n ws (Leaves slot) = put_at (put_at ws 0 n slot.0 0) n n slot.0 0
-slot_put n ws (Retains slot xmin) = put_at ws n n slot.0 xmin
-slot_put n ws (Pins pin xmin) = put_at ws (pins_from n) pin_count pin.0 xmin
 
 -- a change made where the table lies; a run of another length is no table, and stays
 unfoldable pub stored_words : ℕ → List ℕ → Change → List ℕ

@@ -1,6 +1,7 @@
 // The numbers of an answer in a host's run.
 ghost use Rattle.std.specs.Prelude.{◌≡◌};
-ghost use Rattle.place.specs.Shapes.{told_in, plain_numbers};
+ghost use Rattle.answer_numbers.specs.Plain.{plain_numbers};
+ghost use Rattle.place.specs.Shapes.{told_in};
 
 use crate::shape::HEAD;
 use model::{Decision, Numbers};
@@ -14,14 +15,16 @@ pub fn tell(out: &mut [u64], numbers: Numbers) -> u64
     if out.len() < HEAD {
         return told.number;
     }
-    out[0] = told.slot;
-    out[1] = told.id;
-    out[2] = told.seen;
-    out[3] = numbers.xmin;
-    out[4] = numbers.xmax;
-    out[5] = numbers.vacuum_line;
-    out[6] = numbers.count as u64;
-    out[7] = numbers.holder;
+    out[..HEAD].copy_from_slice(&[
+        told.slot,
+        told.id,
+        told.seen,
+        numbers.xmin,
+        numbers.xmax,
+        numbers.vacuum_line,
+        numbers.count as u64,
+        numbers.holder,
+    ]);
     told.number
 }
 
@@ -30,8 +33,5 @@ pub fn tell_plain(out: &mut [u64], decided: Decision) -> u64
     ensures value { result ≡ (plain_numbers decided).told.number }
     ensures out_after { out.new ≡ told_in out.old (plain_numbers decided) }
 {
-    let change = decided.change;
-    let answer = decided.answer;
-    let numbers = answer_numbers::numbers_of(answer, 0, 0, 0, change.counters.vacuum_line);
-    tell(out, numbers)
+    tell(out, answer_numbers::plain_numbers(decided))
 }

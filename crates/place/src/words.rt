@@ -1,9 +1,10 @@
 // The words of a table: the txids, the snapshot_xmins, the pins, then clock, sample and line.
-ghost use Rattle.std.specs.Prelude.{◌≡◌, ◌+◌, ◌≤◌, length, get_or};
-ghost use Rattle.place.specs.Words.{size_of, table_of, put_at, slot_put, stored_words};
+ghost use Rattle.std.specs.Prelude.{◌≡◌};
+ghost use Rattle.model.specs.Tables.{lent_by};
+ghost use Rattle.place.specs.Words.{table_of, stored_words};
 
 use kinds::{PINS, SLOTS};
-use model::{Change, Counters, SlotChange};
+use model::{Change, Columns, Counters};
 
 pub const PINS_FROM: usize = 2 * SLOTS;
 
@@ -16,57 +17,29 @@ pub const LINE: usize = CLOCK + 2;
 // How many words a table has.
 pub const WORDS: usize = CLOCK + 3;
 
-// What stands at place i, or 0 past the end.
-fn word_at(words: &[u64], i: usize) -> u64
-    ensures { result ≡ get_or words.now i 0 }
-{
-    if i < words.len() {
-        return words[i];
-    }
-    0
-}
-
-// The three numbers beside the slots and the pins.
+// The three numbers beside the slots and the pins; 0 for one that a shorter run has not.
+#[tactic(auto, unfolding(crate::specs::Words::table_of))]
 pub fn counters_in(words: &[u64]) -> Counters
     ensures { result ≡ (table_of SLOTS words.now).counters }
 {
-    let clock = word_at(words, CLOCK);
-    let sampled_clock = word_at(words, SAMPLE);
-    let vacuum_line = word_at(words, LINE);
     Counters {
-        clock,
-        sampled_clock,
-        vacuum_line,
+        clock: words.get(CLOCK).copied().unwrap_or(0),
+        sampled_clock: words.get(SAMPLE).copied().unwrap_or(0),
+        vacuum_line: words.get(LINE).copied().unwrap_or(0),
     }
 }
 
-// Word i of the column that begins at `from`, where the column has it.
-fn put_at(words: &mut [u64], from: usize, places: usize, i: usize, x: u64)
-    requires { from + places ≤ length words.old }
-    ensures { words.new ≡ put_at words.old from places i x }
+// A table's columns where they lie; of a shorter run, as much of them as it has.
+pub fn columns_in(words: &[u64]) -> Columns<'_>
+    ensures { lent_by result ≡ table_of SLOTS words.now }
 {
-    if i < places {
-        words[from + i] = x;
-    }
-}
-
-// The slot or the pin of a change.
-fn store_slot(words: &mut [u64], change: SlotChange)
-    requires { length words.old ≡ size_of SLOTS }
-    ensures { words.new ≡ slot_put SLOTS words.old change }
-{
-    match change {
-        SlotChange::Stays => {}
-        SlotChange::Enters { slot, txid } => {
-            put_at(words, 0, SLOTS, slot.0 as usize, txid.0);
-            put_at(words, SLOTS, SLOTS, slot.0 as usize, txid.0);
-        }
-        SlotChange::Leaves { slot } => {
-            put_at(words, 0, SLOTS, slot.0 as usize, 0);
-            put_at(words, SLOTS, SLOTS, slot.0 as usize, 0);
-        }
-        SlotChange::Retains { slot, xmin } => put_at(words, SLOTS, SLOTS, slot.0 as usize, xmin),
-        SlotChange::Pins { pin, xmin } => put_at(words, PINS_FROM, PINS, pin.0 as usize, xmin),
+    let (txids, rest) = words.split_at(SLOTS.min(words.len()));
+    let (snapshot_xmins, rest) = rest.split_at(SLOTS.min(rest.len()));
+    Columns {
+        txids,
+        snapshot_xmins,
+        pins: &rest[..PINS.min(rest.len())],
+        counters: counters_in(words),
     }
 }
 
@@ -77,10 +50,18 @@ pub fn store(words: &mut [u64], change: Change)
     if words.len() != WORDS {
         return;
     }
-    let counters = change.counters;
-    words[CLOCK] = counters.clock;
-    words[SAMPLE] = counters.sampled_clock;
-    words[LINE] = counters.vacuum_line;
-    let slot = change.slot;
-    store_slot(words, slot);
+    let Some((txids, rest)) = words.split_first_chunk_mut::<SLOTS>() else {
+        return;
+    };
+    let Some((xmins, rest)) = rest.split_first_chunk_mut::<SLOTS>() else {
+        return;
+    };
+    let Some((pins, counters)) = rest.split_first_chunk_mut::<PINS>() else {
+        return;
+    };
+    changes::store_txid(txids, change.slot);
+    changes::store_xmin(xmins, change.slot);
+    changes::store_pin(pins, change.slot);
+    let now = change.counters;
+    counters.copy_from_slice(&[now.clock, now.sampled_clock, now.vacuum_line]);
 }

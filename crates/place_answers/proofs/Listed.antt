@@ -9,7 +9,7 @@ use lib.ListN.{length, take, replicate, length-take}
 use lib.Seq.{sets, take_all, take-append_seam}
 use borrow.Author.Tests.{eq-eqb}
 use Rattle.kinds.specs.declared.refusal.Refusal.{Refusal}
-use Rattle.kinds.specs.declared.refusal.Verdict.TheVariants.{Pass, Refuse}
+use Rattle.kinds.specs.Verdicts.{Pass, Refuse}
 use Rattle.settled.specs.Snapshots.{no_snapshot}
 use Rattle.model.specs.declared.Counters.{Counters}
 use Rattle.model.specs.declared.Table.{Table}
@@ -23,10 +23,13 @@ use Rattle.model.proofs.Decides.{refused_decides}
 use Rattle.taken_scans.specs.declared.snapshot.Taken.{Taken}
 use Rattle.taken_scans.specs.Taken.{taken_of}
 use Rattle.place.specs.Words.{table_of, stored_words}
-use Rattle.place.specs.Shapes.{answer_words, list_shape, told_in, plain_numbers}
+use Rattle.answer_numbers.specs.Plain.{plain_numbers}
+use Rattle.place.specs.Shapes.{answer_words, list_shape, told_in}
 use Rattle.place.specs.Calls.{said, number_by, table_by, out_by, ids_by}
 use Rattle.place.proofs.Called.{Listing, listing_shaped, stored_after, told-fits}
 use Rattle.place_answers.specs.Taken.{refused_with, taken_numbers}
+use Rattle.place_answers.specs.Shows.{decided_by, Passes}
+use Rattle.place_answers.specs.declared.shows.Passed.{Passed}
 
 -- a run that has a place for each slot takes them all
 pub taken_all :
@@ -97,3 +100,17 @@ module _ (shape n : ℕ) (ws : List ℕ) (c : Call) (out ids : List ℕ) where
         let all = taken_all n ws ids l.places in
         let listed = ap listing s ∙ listing-active n (take n ws) used in
         kept e (taken-said n (table_of n ws) c e (take n ws) used s (rw all at a)) k w o (i ∙ rw (all, listed))
+
+    -- .. where it passed its tests on the table
+    pub passed :
+        {t : Table} → t ≡ table_of n ws → {p : Passed} → Passes n t c p → {a : Taken} →
+        a ≡ taken_of (take (length ids) t.txids) p.sample → {d : Decision} → d ≡ decided_by p a.xmin →
+        {k : ℕ} {ws' out' ids' : List ℕ} → k ≡ (taken_numbers d a).told.number → ws' ≡ stored_words n ws d.change →
+        out' ≡ told_in out (taken_numbers d a) → ids' ≡ sets ids 0 (active (take (length ids) t.txids)) →
+        ListKept k ws' out' ids'
+    unfolding table_of taken_of
+    passed same {p} h {a} taken d k w o i =
+        let g = rw same at h in
+        let scanned : a ≡ taken_of (take (length ids) (take n ws)) p.sample = rw same at taken in
+        let whole : a ≡ taken_of (take n ws) p.sample = rw (taken_all n ws ids l.places) at scanned in
+        accepted (d ∙ rw whole g.decides) p.sample g.shows scanned k w o (rw same at i)

@@ -2,7 +2,7 @@
 use Rattle.kinds.specs.declared.refusal.Refusal.{Refusal}
 use Rattle.model.specs.declared.Counters.{Counters}
 use Rattle.model.specs.declared.change.SlotChange.TheVariants.{Stays}
-use Rattle.model.specs.declared.answer.Answer.TheVariants.{Refused}
+use Rattle.model.specs.Answer.{Refused}
 use Rattle.model.specs.declared.answer.Decision.{Decision}
 use Rattle.model.specs.declared.answer.Numbers.{Numbers}
 use Rattle.model.specs.Answers.{numbers_of}

@@ -1,13 +1,17 @@
 // What a call that lists ids leaves in the host's runs (SPEC 20): its change stored, its answer told beside what was taken.
 #![tactic(auto)]
 
+mod shows;
+
 ghost use Rattle.std.specs.Prelude.{◌≡◌};
 ghost use Rattle.place.specs.Words.{stored_words};
-ghost use Rattle.place.specs.Shapes.{told_in, plain_numbers};
+ghost use Rattle.answer_numbers.specs.Plain.{plain_numbers};
+ghost use Rattle.place.specs.Shapes.{told_in};
 ghost use Rattle.place_answers.specs.Taken.{refused_with, taken_numbers};
 
 use kinds::{Refusal, SLOTS};
-use model::{Answer, Change, Counters, Decision, SlotChange};
+use model::{Counters, Decision};
+pub use shows::{Passed, Retainer, Shows, show};
 use taken_scans::Taken;
 
 // Of an accepted call.
@@ -16,11 +20,10 @@ pub fn give(table: &mut [u64], out: &mut [u64], decided: Decision, taken: Taken)
     ensures table_after { table.new ≡ stored_words SLOTS table.old decided.change }
     ensures out_after { out.new ≡ told_in out.old (taken_numbers decided taken) }
 {
-    let change = decided.change;
-    let answer = decided.answer;
-    let line = change.counters.vacuum_line;
-    let numbers = answer_numbers::numbers_of(answer, taken.xmin, taken.xmax, taken.count, line);
-    place::store(table, change);
+    let line = decided.change.counters.vacuum_line;
+    let Taken { xmin, xmax, count } = taken;
+    let numbers = answer_numbers::numbers_of(decided.answer, xmin, xmax, count, line);
+    place::store(table, decided.change);
     place::tell(out, numbers)
 }
 
@@ -30,14 +33,7 @@ pub fn refuse(table: &mut [u64], out: &mut [u64], was: Counters, r: Refusal) -> 
     ensures table_after { table.new ≡ stored_words SLOTS table.old (refused_with was r).change }
     ensures out_after { out.new ≡ told_in out.old (plain_numbers (refused_with was r)) }
 {
-    let change = Change {
-        slot: SlotChange::Stays,
-        counters: was,
-    };
-    let decided = Decision {
-        change,
-        answer: Answer::Refused(r),
-    };
-    place::store(table, change);
+    let decided = Decision::refused(was, r);
+    place::store(table, decided.change);
     place::tell_plain(out, decided)
 }

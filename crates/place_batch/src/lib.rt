@@ -2,18 +2,10 @@
 #![tactic(auto)]
 
 ghost use Rattle.std.specs.Prelude.{◌≡◌, length};
-ghost use Rattle.kinds.specs.Refusals.{told};
 ghost use Rattle.place_batch.specs.Batched.{batch_number, batch_run, batch_out};
 
-use batch::Batched;
-use kinds::Refusal;
-
-fn number_of(refusal: Refusal) -> u64
-    ensures { result ≡ (told refusal).number }
-{
-    let said = kinds::tell(refusal);
-    said.number
-}
+use batch::BadVersion;
+use kinds::{Refusal, number_of};
 
 // Judges versions, each its maker's id and its ender's, 0 for still alive, and decides on each in `run`: 1 where it may go, else 0.
 // Answers 0, or a refusal's number; the first word of `out` has the place of the version that is bad, else 0. 12 also where `out`
@@ -29,16 +21,15 @@ pub extern "C" fn sockhurdle_batch(
     ensures run_after { run.new ≡ batch_run line versions.now run.old (length out.old) }
     ensures out_after { out.new ≡ batch_out versions.now (length run.old) out.old }
 {
-    if out.len() == 0 {
+    if out.is_empty() {
         return number_of(Refusal::NoRoom);
     }
-    let batched = batch::decide_batch(line, versions, run);
-    match batched {
-        Batched::Decided => {
+    match batch::decide_batch(line, versions, run) {
+        Ok(()) => {
             out[0] = 0;
             0
         }
-        Batched::Refused { refusal, place } => {
+        Err(BadVersion { refusal, place }) => {
             out[0] = place as u64;
             number_of(refusal)
         }

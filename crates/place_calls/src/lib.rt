@@ -3,11 +3,14 @@
 // `out` that is too short; then nothing is written.
 #![tactic(auto)]
 
+mod calls;
+
 ghost use Rattle.std.specs.Prelude.{◌≡◌};
 ghost use Rattle.kinds.specs.Kinds.{number as numbered, slot as slotNo, txid};
 ghost use Rattle.model.specs.Calls.{begin, end, stamp, finish};
 ghost use Rattle.place.specs.Calls.{number_of, table_left, out_left};
 
+use calls::{Begin, End, Finish, Publish};
 use kinds::{SLOTS, SlotNo, Stamp, Txid};
 
 // Registers a transaction with a number reserved from the clock; `out` has its slot and its id.
@@ -17,16 +20,7 @@ pub extern "C" fn sockhurdle_begin(table: &mut [u64], number: u64, out: &mut [u6
     ensures table_after { table.new ≡ table_left SLOTS table.old out.old (begin (numbered number)) }
     ensures out_after { out.new ≡ out_left SLOTS table.old out.old (begin (numbered number)) }
 {
-    let shape = place::shape_test(table.len(), out.len());
-    if shape != 0 {
-        return shape;
-    }
-    let words = &table[..];
-    let was = place::counters_in(words);
-    let decided = table::decide_begin(&words[..SLOTS], was, Stamp(number));
-    let change = decided.change;
-    place::store(table, change);
-    place::tell_plain(out, decided)
+    place::run(table, out, Begin(Stamp(number)))
 }
 
 // Ends the registration of `id` in its slot.
@@ -36,16 +30,7 @@ pub extern "C" fn sockhurdle_end(table: &mut [u64], slot: u16, id: u64, out: &mu
     ensures table_after { table.new ≡ table_left SLOTS table.old out.old (end (slotNo slot) (txid id)) }
     ensures out_after { out.new ≡ out_left SLOTS table.old out.old (end (slotNo slot) (txid id)) }
 {
-    let shape = place::shape_test(table.len(), out.len());
-    if shape != 0 {
-        return shape;
-    }
-    let words = &table[..];
-    let was = place::counters_in(words);
-    let decided = table::decide_end(&words[..SLOTS], was, SlotNo(slot), Txid(id));
-    let change = decided.change;
-    place::store(table, change);
-    place::tell_plain(out, decided)
+    place::run(table, out, End(SlotNo(slot), Txid(id)))
 }
 
 // Takes a publication stamp; `out` has it as id.
@@ -55,16 +40,7 @@ pub extern "C" fn sockhurdle_stamp(table: &mut [u64], number: u64, out: &mut [u6
     ensures table_after { table.new ≡ table_left SLOTS table.old out.old (stamp (numbered number)) }
     ensures out_after { out.new ≡ out_left SLOTS table.old out.old (stamp (numbered number)) }
 {
-    let shape = place::shape_test(table.len(), out.len());
-    if shape != 0 {
-        return shape;
-    }
-    let words = &table[..];
-    let was = place::counters_in(words);
-    let decided = table::decide_stamp(was, Stamp(number));
-    let change = decided.change;
-    place::store(table, change);
-    place::tell_plain(out, decided)
+    place::run(table, out, Publish(Stamp(number)))
 }
 
 // Ends a registration and takes a publication stamp, in one step; `out` has the stamp as id.
@@ -80,14 +56,5 @@ pub extern "C" fn sockhurdle_finish(
     ensures table_after { table.new ≡ table_left SLOTS table.old out.old (finish (slotNo slot) (txid id) (numbered number)) }
     ensures out_after { out.new ≡ out_left SLOTS table.old out.old (finish (slotNo slot) (txid id) (numbered number)) }
 {
-    let shape = place::shape_test(table.len(), out.len());
-    if shape != 0 {
-        return shape;
-    }
-    let words = &table[..];
-    let was = place::counters_in(words);
-    let decided = table::decide_finish(&words[..SLOTS], was, SlotNo(slot), Txid(id), Stamp(number));
-    let change = decided.change;
-    place::store(table, change);
-    place::tell_plain(out, decided)
+    place::run(table, out, Finish(SlotNo(slot), Txid(id), Stamp(number)))
 }

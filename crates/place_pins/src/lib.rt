@@ -3,14 +3,15 @@
 // run is too short; then nothing is written. A refused snapshot leaves `ids`.
 #![tactic(auto)]
 
+mod calls;
+
 ghost use Rattle.std.specs.Prelude.{◌≡◌};
 ghost use Rattle.kinds.specs.Kinds.{pin_no};
 ghost use Rattle.model.specs.Calls.{pin as pinned, unpin};
 ghost use Rattle.place.specs.Calls.{number_of, table_left, out_left, list_number, list_table, list_out, list_ids};
 
-use kinds::{PINS, PinNo, Refusal, SLOTS, Verdict};
-use model::{Answer, Change, Decision, SlotChange};
-use place::{CLOCK, PINS_FROM};
+use calls::{Pin, Release};
+use kinds::{PinNo, SLOTS};
 
 // A snapshot that the line respects until its pin is released; `out` has the pin, and the ids in flight stand in the first places of
 // `ids`.
@@ -27,38 +28,7 @@ pub extern "C" fn sockhurdle_pin(
     ensures out_after { out.new ≡ list_out SLOTS table.old out.old ids.old (pinned clock sample) }
     ensures ids_after { ids.new ≡ list_ids SLOTS table.old out.old ids.old (pinned clock sample) }
 {
-    let shape = place::list_shape(table.len(), out.len(), ids.len());
-    if shape != 0 {
-        return shape;
-    }
-    let words = &table[..];
-    let was = place::counters_in(words);
-    let verdict = clock_verdicts::observation_test(was.clock, clock, sample);
-    match verdict {
-        Verdict::Refuse(r) => return place_answers::refuse(table, out, was, r),
-        Verdict::Pass => {
-            let at = scans::lowest_empty(&words[PINS_FROM..CLOCK]);
-            if at < PINS {
-                let place = at as u16;
-                let pin = PinNo(place);
-                let used = kinds::greater(sample, was.vacuum_line);
-                let taken = taken_scans::take_into(&words[..SLOTS], used, ids);
-                let counters = counters::observed(was, clock, sample);
-                let decided = Decision {
-                    change: Change {
-                        slot: SlotChange::Pins {
-                            pin,
-                            xmin: taken.xmin,
-                        },
-                        counters,
-                    },
-                    answer: Answer::Pinned(pin),
-                };
-                return place_answers::give(table, out, decided, taken);
-            }
-            place_answers::refuse(table, out, was, Refusal::NoFreePin)
-        }
-    }
+    place_answers::show(table, out, ids, Pin { clock, sample })
 }
 
 // Releases a pin: it is free again, and nothing else moves.
@@ -68,14 +38,5 @@ pub extern "C" fn sockhurdle_unpin(table: &mut [u64], pin: u16, out: &mut [u64])
     ensures table_after { table.new ≡ table_left SLOTS table.old out.old (unpin (pin_no pin)) }
     ensures out_after { out.new ≡ out_left SLOTS table.old out.old (unpin (pin_no pin)) }
 {
-    let shape = place::shape_test(table.len(), out.len());
-    if shape != 0 {
-        return shape;
-    }
-    let words = &table[..];
-    let was = place::counters_in(words);
-    let decided = unpin_call::decide_unpin(&words[PINS_FROM..CLOCK], was, PinNo(pin));
-    let change = decided.change;
-    place::store(table, change);
-    place::tell_plain(out, decided)
+    place::run(table, out, Release(PinNo(pin)))
 }

@@ -1,67 +1,43 @@
--- What the plain snapshot and the transaction's decide and show on the table that words say.
-use Prim.Native.Nat.{ℕ, ◌≤◌}
-use mathlib.Core.Path.{◌≡◌, refl, sym, ◌∙◌}
-use mathlib.Core.List.{List}
-use native.Mathlib.Omega.{arith}
-use lib.ListN.{length, take, length-take}
-use lib.Seq.{take_all}
+-- What the plain snapshot and the transaction's decide and show where they pass their tests.
+use Prim.Native.Nat.{ℕ}
+use mathlib.Core.Path.{◌≡◌, sym, ◌∙◌}
 use Rattle.kinds.specs.declared.SlotNo.{SlotNo}
 use Rattle.kinds.specs.declared.Txid.{Txid}
-use Rattle.kinds.specs.declared.refusal.Verdict.{Verdict}
-use Rattle.kinds.specs.declared.refusal.Verdict.TheVariants.{Pass, Refuse}
+use Rattle.kinds.specs.declared.refusal.Refusal.{Refusal}
+use Rattle.kinds.specs.Verdicts.{Verdict, Pass, Refuse}
 use Rattle.model.specs.declared.Counters.{Counters}
-use Rattle.model.specs.declared.change.SlotChange.TheVariants.{Stays, Retains}
-use Rattle.model.specs.declared.answer.Answer.TheVariants.{Done}
-use Rattle.model.specs.Tally.{snapshot_of}
-use Rattle.model.specs.Tables.{lent_slots}
-use Rattle.model.specs.Changes.{change, observed}
+use Rattle.model.specs.declared.Table.{Table}
+use Rattle.model.specs.Tables.{clock_of, lent_slots}
+use Rattle.model.specs.Changes.{observed}
 use Rattle.model.specs.Tests.{observation_test}
-use Rattle.model.specs.Calls.{snap, own, refusal, change_accepted, answer_accepted, shown_accepted, shown, decision}
+use Rattle.model.specs.Calls.{snap, own, refusal, change_accepted, answer_accepted, shown_accepted, shown}
 use Rattle.model.proofs.Decides.{accepted_decides}
-use Rattle.taken_scans.specs.declared.snapshot.Taken.{Taken}
-use Rattle.taken_scans.specs.Taken.{taken_of}
-use Rattle.place.specs.Words.{table_of}
-use Rattle.place_answers.proofs.Listed.{taken_all}
+use Rattle.own_call.proofs.Cut.{own_refusal}
+use Rattle.place_answers.specs.declared.shows.Retainer.TheVariants.{Nobody, Slot}
+use Rattle.place_answers.specs.Shows.{Passes}
 
-module _ (n : ℕ) (ws : List ℕ) (clock sample : ℕ) {was : Counters} (same : was ≡ (table_of n ws).counters) where
-  pub snap_test :
-      {v : Verdict} → v ≡ observation_test was.clock clock sample → refusal n (table_of n ws) (snap clock sample) ≡ v
+module _ (n : ℕ) (t : Table) (clock sample : ℕ) where
+  pub snap_refused :
+      {r : Refusal} → observation_test (clock_of t) clock sample ≡ Refuse r → refusal n t (snap clock sample) ≡ Refuse r
   unfolding refusal
-  snap_test e = rw (e, same)
+  snap_refused e = e
 
-  pub snap_decided :
-      refusal n (table_of n ws) (snap clock sample) ≡ Pass → {k : Counters} → k ≡ observed clock sample was →
-      record { change = change Stays k; answer = Done } ≡ decision n (table_of n ws) (snap clock sample)
-  unfolding change_accepted answer_accepted
-  snap_decided v e = rw (e, same) (accepted_decides n (table_of n ws) (snap clock sample) v)
+  pub snap_passes :
+      observation_test (clock_of t) clock sample ≡ Pass → {k : Counters} → k ≡ observed clock sample t.counters →
+      Passes n t (snap clock sample) (record { sample = sample; retainer = Nobody; counters = k })
+  unfolding refusal change_accepted answer_accepted shown_accepted shown
+  snap_passes e k = record { decides = rw k (accepted_decides n t (snap clock sample) e); shows = rw e }
 
   module _ (slot : SlotNo) (id : Txid) where
-    pub own_test :
-        {v : Verdict} → v ≡ refusal n (lent_slots n (take n ws) was) (own slot id clock sample) →
-        refusal n (table_of n ws) (own slot id clock sample) ≡ v
-    unfolding refusal table_of
-    own_test e =
-        let few : length (take n ws) ≤ n = omega (arith, length-take n ws) in
-        rw (e, same, take_all n (take n ws) few)
+    -- the owner is looked up among the first n slots
+    pub own_tested :
+        {v : Verdict} → v ≡ refusal n (lent_slots n t.txids t.counters) (own slot id clock sample) →
+        refusal n t (own slot id clock sample) ≡ v
+    unfolding refusal
+    own_tested e = sym (e ∙ own_refusal n t.txids t.counters slot id clock sample)
 
-    pub own_decided :
-        (ids : List ℕ) → n ≤ length ids → refusal n (table_of n ws) (own slot id clock sample) ≡ Pass → {k : Counters} →
-        k ≡ observed clock sample was → {a : Taken} → a ≡ taken_of (take (length ids) (take n ws)) sample →
-        record { change = change (Retains slot a.xmin) k; answer = Done }
-        ≡ decision n (table_of n ws) (own slot id clock sample)
-    unfolding change_accepted answer_accepted taken_of table_of
-    own_decided ids h v e a =
-        rw (a, taken_all n ws ids h, e, same) (accepted_decides n (table_of n ws) (own slot id clock sample) v)
-
-module _ (n : ℕ) (ws : List ℕ) (clock sample : ℕ) where
-  pub snap-shown :
-      refusal n (table_of n ws) (snap clock sample) ≡ Pass →
-      shown n (table_of n ws) (snap clock sample) ≡ snapshot_of n (take n ws) sample
-  unfolding shown shown_accepted table_of
-  snap-shown v = rw v
-
-  pub own-shown :
-      (slot : SlotNo) (id : Txid) → refusal n (table_of n ws) (own slot id clock sample) ≡ Pass →
-      shown n (table_of n ws) (own slot id clock sample) ≡ snapshot_of n (take n ws) sample
-  unfolding shown shown_accepted table_of
-  own-shown slot id v = rw v
+    pub own_passes :
+        refusal n t (own slot id clock sample) ≡ Pass → {k : Counters} → k ≡ observed clock sample t.counters →
+        Passes n t (own slot id clock sample) (record { sample = sample; retainer = Slot slot; counters = k })
+    unfolding change_accepted answer_accepted shown_accepted shown
+    own_passes e k = record { decides = rw k (accepted_decides n t (own slot id clock sample) e); shows = rw e }

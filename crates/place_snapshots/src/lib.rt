@@ -4,13 +4,15 @@
 // leaves `ids`.
 #![tactic(auto)]
 
+mod calls;
+
 ghost use Rattle.std.specs.Prelude.{◌≡◌};
 ghost use Rattle.kinds.specs.Kinds.{slot as slotNo, txid};
 ghost use Rattle.model.specs.Calls.{snap, own};
 ghost use Rattle.place.specs.Calls.{list_number, list_table, list_out, list_ids};
 
-use kinds::{SLOTS, SlotNo, Txid, Verdict};
-use model::{Answer, Change, Decision, SlotChange};
+use calls::{Own, Snap};
+use kinds::{SLOTS, SlotNo, Txid};
 
 // A plain snapshot, for a reader that isn't registered: the line doesn't respect it.
 #[unsafe(no_mangle)]
@@ -26,28 +28,7 @@ pub extern "C" fn sockhurdle_snap(
     ensures out_after { out.new ≡ list_out SLOTS table.old out.old ids.old (snap clock sample) }
     ensures ids_after { ids.new ≡ list_ids SLOTS table.old out.old ids.old (snap clock sample) }
 {
-    let shape = place::list_shape(table.len(), out.len(), ids.len());
-    if shape != 0 {
-        return shape;
-    }
-    let words = &table[..];
-    let was = place::counters_in(words);
-    let verdict = clock_verdicts::observation_test(was.clock, clock, sample);
-    match verdict {
-        Verdict::Refuse(r) => return place_answers::refuse(table, out, was, r),
-        Verdict::Pass => {
-            let taken = taken_scans::take_into(&words[..SLOTS], sample, ids);
-            let counters = counters::observed(was, clock, sample);
-            let decided = Decision {
-                change: Change {
-                    slot: SlotChange::Stays,
-                    counters,
-                },
-                answer: Answer::Done,
-            };
-            place_answers::give(table, out, decided, taken)
-        }
-    }
+    place_answers::show(table, out, ids, Snap { clock, sample })
 }
 
 // A transaction's snapshot; its slot retains the xmin until the transaction's next one, or its end.
@@ -66,29 +47,11 @@ pub extern "C" fn sockhurdle_own(
     ensures out_after { out.new ≡ list_out SLOTS table.old out.old ids.old (own (slotNo slot) (txid id) clock sample) }
     ensures ids_after { ids.new ≡ list_ids SLOTS table.old out.old ids.old (own (slotNo slot) (txid id) clock sample) }
 {
-    let shape = place::list_shape(table.len(), out.len(), ids.len());
-    if shape != 0 {
-        return shape;
-    }
-    let words = &table[..];
-    let was = place::counters_in(words);
-    let verdict = own_call::own_test(&words[..SLOTS], was, SlotNo(slot), Txid(id), clock, sample);
-    match verdict {
-        Verdict::Refuse(r) => return place_answers::refuse(table, out, was, r),
-        Verdict::Pass => {
-            let taken = taken_scans::take_into(&words[..SLOTS], sample, ids);
-            let counters = counters::observed(was, clock, sample);
-            let decided = Decision {
-                change: Change {
-                    slot: SlotChange::Retains {
-                        slot: SlotNo(slot),
-                        xmin: taken.xmin,
-                    },
-                    counters,
-                },
-                answer: Answer::Done,
-            };
-            place_answers::give(table, out, decided, taken)
-        }
-    }
+    let own = Own {
+        slot: SlotNo(slot),
+        id: Txid(id),
+        clock,
+        sample,
+    };
+    place_answers::show(table, out, ids, own)
 }

@@ -1,23 +1,12 @@
 // A table's words that the host makes or finds (SPEC 20): how many they are, the fresh table, and the table check.
 #![tactic(auto)]
 
-ghost use Rattle.std.specs.Prelude.{◌≡◌, length, replicate};
+ghost use Rattle.std.specs.Prelude.{◌≡◌};
 ghost use Rattle.place.specs.Words.{size_of};
 ghost use Rattle.place_tables.specs.Tables.{fresh_number, fresh_after, check_number};
 
 use kinds::{Refusal, SLOTS};
-use place::{CLOCK, LINE, PINS_FROM, SAMPLE, WORDS};
-
-// All words 0.
-fn clear(words: &mut [u64])
-    ensures { words.new ≡ replicate (length words.old) 0 }
-{
-    let mut i: usize = 0;
-    while i < words.len() {
-        words[i] = 0;
-        i += 1;
-    }
-}
+use place::{CLOCK, LINE, SAMPLE, WORDS};
 
 // How many words a table has.
 #[unsafe(no_mangle)]
@@ -29,15 +18,15 @@ pub extern "C" fn sockhurdle_words() -> usize
 
 // Makes a run of words the fresh table, and answers 0; 18 for a run of another length, which stays.
 #[unsafe(no_mangle)]
+#[tactic(auto, unfolding(crate::specs::Tables::fresh_number, crate::specs::Tables::fresh_after))]
 pub extern "C" fn sockhurdle_fresh(table: &mut [u64]) -> u64
     ensures result_value { result ≡ fresh_number SLOTS table.old }
     ensures table_after { table.new ≡ fresh_after SLOTS table.old }
 {
     if table.len() != WORDS {
-        let said = kinds::tell(Refusal::BadImage);
-        return said.number;
+        return kinds::number_of(Refusal::BadImage);
     }
-    clear(table);
+    table.fill(0);
     table[CLOCK] = 1;
     table[SAMPLE] = 1;
     table[LINE] = 1;
@@ -46,21 +35,13 @@ pub extern "C" fn sockhurdle_fresh(table: &mut [u64]) -> u64
 
 // Whether words that somebody else wrote are a table that passes the check: 1 for yes, 0 for no, 18 for another length.
 #[unsafe(no_mangle)]
+#[tactic(auto, unfolding(crate::specs::Tables::check_number))]
 pub extern "C" fn sockhurdle_check(table: &[u64]) -> u64
     ensures { result ≡ check_number SLOTS table.now }
 {
     if table.len() != WORDS {
-        let said = kinds::tell(Refusal::BadImage);
-        return said.number;
+        return kinds::number_of(Refusal::BadImage);
     }
-    let counters = place::counters_in(table);
-    if table_check::check_columns(
-        &table[..SLOTS],
-        &table[SLOTS..PINS_FROM],
-        &table[PINS_FROM..CLOCK],
-        counters,
-    ) {
-        return 1;
-    }
-    0
+    let passes = table_check::check_columns(place::columns_in(table));
+    u64::from(passes)
 }

@@ -3,12 +3,14 @@
 // `out` that is too short; then nothing is written.
 #![tactic(auto)]
 
+mod calls;
+
 ghost use Rattle.std.specs.Prelude.{◌≡◌};
 ghost use Rattle.model.specs.Calls.{oldest, vacuum};
 ghost use Rattle.place.specs.Calls.{number_of, table_left, out_left};
 
+use calls::{Oldest, Vacuum};
 use kinds::SLOTS;
-use place::{CLOCK, PINS_FROM};
 
 // The oldest retained xmin, which `out` has as xmin, and who holds it.
 #[unsafe(no_mangle)]
@@ -22,23 +24,7 @@ pub extern "C" fn sockhurdle_oldest(
     ensures table_after { table.new ≡ table_left SLOTS table.old out.old (oldest clock sample) }
     ensures out_after { out.new ≡ out_left SLOTS table.old out.old (oldest clock sample) }
 {
-    let shape = place::shape_test(table.len(), out.len());
-    if shape != 0 {
-        return shape;
-    }
-    let words = &table[..];
-    let was = place::counters_in(words);
-    let decided = table::decide_oldest(
-        &words[..SLOTS],
-        &words[SLOTS..PINS_FROM],
-        &words[PINS_FROM..CLOCK],
-        was,
-        clock,
-        sample,
-    );
-    let change = decided.change;
-    place::store(table, change);
-    place::tell_plain(out, decided)
+    place::run(table, out, Oldest { clock, sample })
 }
 
 // Raises the line as far as no reader needs what is below it; `out` has the line, and who holds it back.
@@ -53,21 +39,5 @@ pub extern "C" fn sockhurdle_vacuum(
     ensures table_after { table.new ≡ table_left SLOTS table.old out.old (vacuum clock sample) }
     ensures out_after { out.new ≡ out_left SLOTS table.old out.old (vacuum clock sample) }
 {
-    let shape = place::shape_test(table.len(), out.len());
-    if shape != 0 {
-        return shape;
-    }
-    let words = &table[..];
-    let was = place::counters_in(words);
-    let decided = table::decide_vacuum(
-        &words[..SLOTS],
-        &words[SLOTS..PINS_FROM],
-        &words[PINS_FROM..CLOCK],
-        was,
-        clock,
-        sample,
-    );
-    let change = decided.change;
-    place::store(table, change);
-    place::tell_plain(out, decided)
+    place::run(table, out, Vacuum { clock, sample })
 }

@@ -2,8 +2,7 @@
 use Rattle.std.specs.Prelude.{ℕ, List}
 use Rattle.std.specs.Borrow.{Bor}
 use Rattle.trace.specs.Record.{record_at}
-use Rattle.trace.specs.declared.RecordAt.{RecordAt}
-use Rattle.trace.specs.declared.RecordAt.TheVariants.{Is, Broken}
+use Rattle.trace.specs.RecordAt.{RecordAt, Is, Broken}
 use Rattle.reader.specs.declared.Reader.{Reader}
 use Rattle.reader.specs.declared.Step.{Step}
 

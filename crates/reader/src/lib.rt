@@ -6,7 +6,7 @@ ghost use Rattle.std.specs.Prelude.{◌≡◌};
 ghost use Rattle.trace.specs.Record.{record_at};
 ghost use Rattle.reader.specs.Reader.{standing, past_of, step_of};
 
-use trace::RecordAt;
+use trace::Record;
 
 // The lent trace, and the place in it that is read next.
 #[derive(Clone, Copy)]
@@ -18,7 +18,7 @@ pub struct Reader<'a> {
 // What a reader found, and the reader moved on.
 #[derive(Clone, Copy)]
 pub struct Step<'a> {
-    pub found: RecordAt,
+    pub found: Result<(Record, usize), usize>,
     pub reader: Reader<'a>,
 }
 
@@ -30,12 +30,12 @@ pub fn at_place<'a>(text: &'a [u8], at: usize) -> Reader<'a>
 }
 
 // The place past what was found; where nothing was found, the place itself.
-fn place_past(found: RecordAt, at: usize) -> usize
+fn place_past(found: Result<(Record, usize), usize>, at: usize) -> usize
     ensures { result ≡ past_of found at }
 {
     match found {
-        RecordAt::Is(_, past) => past,
-        RecordAt::Broken(_) => at,
+        Ok((_, past)) => past,
+        Err(_) => at,
     }
 }
 
@@ -52,7 +52,7 @@ pub fn next<'a>(r: Reader<'a>) -> Step<'a>
 }
 
 // The record at a place of a text, and the place past it.
-pub fn next_record(text: &[u8], at: usize) -> RecordAt
+pub fn next_record(text: &[u8], at: usize) -> Result<(Record, usize), usize>
     ensures { result ≡ record_at text.now at }
 {
     let step = next(at_place(text, at));

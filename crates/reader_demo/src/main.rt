@@ -6,73 +6,71 @@ ghost use Rattle.std.specs.Prelude.{◌≡◌};
 ghost use Rattle.reader.specs.Reader.{step_of};
 
 use reader::Reader;
-use trace::{Op, Record, RecordAt};
+use std::fmt;
+use trace::{Op, Record};
 
-// An op's line; the answer, whether it was written, is not used.
-fn op_line(op: Op) -> bool {
+// An op's name in a trace.
+fn name(op: Op) -> &'static str {
     match op {
-        Op::Begin => io::write_all(1, b"op=begin\n"),
-        Op::End => io::write_all(1, b"op=end\n"),
-        Op::Snap => io::write_all(1, b"op=snap\n"),
-        Op::Own => io::write_all(1, b"op=own\n"),
-        Op::Oldest => io::write_all(1, b"op=oldest\n"),
-        Op::Vacuum => io::write_all(1, b"op=vacuum\n"),
-        Op::Stamp => io::write_all(1, b"op=stamp\n"),
-        Op::Finish => io::write_all(1, b"op=finish\n"),
-        Op::Pin => io::write_all(1, b"op=pin\n"),
-        Op::Unpin => io::write_all(1, b"op=unpin\n"),
+        Op::Begin => "begin",
+        Op::End => "end",
+        Op::Snap => "snap",
+        Op::Own => "own",
+        Op::Oldest => "oldest",
+        Op::Vacuum => "vacuum",
+        Op::Stamp => "stamp",
+        Op::Finish => "finish",
+        Op::Pin => "pin",
+        Op::Unpin => "unpin",
     }
 }
 
-fn line(key: &[u8], n: u64) {
-    io::write_all(1, key);
-    io::print_decimal(1, n);
-    io::write_all(1, b"\n");
-}
+// What stands at a place: the record and the place past it, or the line that breaks a rule.
+#[derive(Clone, Copy)]
+struct Found(Result<(Record, usize), usize>);
 
-fn record(r: Record) {
-    let op = r.op;
-    op_line(op);
-    line(b"slot=", r.slot as u64);
-    line(b"id=", r.id);
-    line(b"stamp=", r.stamp);
-    line(b"clock=", r.clock);
-    line(b"sample=", r.sample);
-}
-
-// Shows what was found: the record and the place past it, or the line that breaks a rule.
-fn show(found: RecordAt) {
-    match found {
-        RecordAt::Is(r, past) => {
-            record(r);
-            line(b"place=", past as u64);
+impl fmt::Display for Found {
+    fn fmt<W: fmt::Write>(&self, f: &mut fmt::Formatter<W>) -> fmt::Result {
+        match self.0 {
+            Ok((r, past)) => {
+                writeln!(f, "op={}", name(r.op))?;
+                writeln!(f, "slot={}\nid={}\nstamp={}", r.slot, r.id, r.stamp)?;
+                writeln!(f, "clock={}\nsample={}", r.clock, r.sample)?;
+                write!(f, "place={past}")
+            }
+            Err(k) => write!(f, "broken={k}"),
         }
-        RecordAt::Broken(k) => line(b"broken=", k as u64),
     }
+}
+
+// Where a print fails, nobody is left to tell.
+fn show(rt: &impl Print, found: Result<(Record, usize), usize>) {
+    let _ = println!(rt; "{}", Found(found));
 }
 
 // Asks the reader, shows what it found, and hands it on.
-fn show_next<'a>(r: Reader<'a>) -> Reader<'a>
+fn show_next<'a>(rt: &impl Print, r: Reader<'a>) -> Reader<'a>
     ensures { result ≡ (step_of r.entry).reader }
 {
     let step = reader::next(r);
-    show(step.found);
+    show(rt, step.found);
     step.reader
 }
 
 // One reader walks through the text from a place on: two records, and the end.
-fn walk(text: &[u8], at: usize) {
+fn walk(rt: &impl Print, text: &[u8], at: usize) {
     let first = reader::at_place(text, at);
-    let second = show_next(first);
-    let end = show_next(second);
-    show_next(end);
+    let second = show_next(rt, first);
+    let end = show_next(rt, second);
+    show_next(rt, end);
 }
 
-fn main() {
+fn main(rt: HostRuntime) {
     walk(
+        &rt,
         b"trace=proc-1\nop=begin\nslot=0\nid=0\nstamp=5\nclock=0\nsample=0\nop=snap\nslot=0\nid=0\nstamp=0\nclock=9\nsample=3\n",
         trace::first_record(),
     );
     let broken = b"trace=proc-1\nop=begin\nslot=9\n";
-    show(reader::next_record(broken, trace::first_record()));
+    show(&rt, reader::next_record(broken, trace::first_record()));
 }

@@ -1,16 +1,16 @@
 -- The table check of a run of slot records.
-use Rattle.std.specs.Prelude.{ℕ, List, map, Bool, replicate}
+use Rattle.std.specs.Prelude.{ℕ, List, map, Bool}
 use Rattle.model.specs.Check.{passes}
 use Rattle.model.specs.declared.Table.{Table}
 use Rattle.model.specs.Tables.{counted, lent}
 use Rattle.record_check.specs.declared.Slot.{Slot}
-use Rattle.record_check.specs.declared.Columns.{Columns}
 use Rattle.record_check.specs.declared.Rest.{Rest}
 
-abbrev pub empty_slot : Slot
-empty_slot = record { txid = 0; snapshot_xmin = 0 }
-
 -- the columns of a run, one number for each record
+pub record Columns : Type 0 where
+  pub txids : List ℕ
+  pub snapshot_xmins : List ℕ
+
 abbrev pub txids_of : List Slot → List ℕ
 txids_of run = map (λ slot. slot.txid) run
 
@@ -19,9 +19,6 @@ xmins_of run = map (λ slot. slot.snapshot_xmin) run
 
 abbrev pub columns_of : List Slot → Columns
 columns_of run = record { txids = txids_of run; snapshot_xmins = xmins_of run }
-
-abbrev pub zero_columns : ℕ → Columns
-zero_columns n = record { txids = replicate n 0; snapshot_xmins = replicate n 0 }
 
 -- the table whose slots a run holds
 abbrev pub table_of : List Slot → Rest → Table

@@ -1,36 +1,39 @@
-// The runs that the cases start from.
-ghost use Rattle.std.specs.Prelude.{◌<◌, length};
+// The runs that the cases start from, and the check of one.
+ghost use Rattle.std.specs.Prelude.{◌≡◌, ◌<◌, ◌≤◌, length, take};
+ghost use Rattle.record_check.specs.Run.{run_passes};
 
-use crate::lend::ROOM;
-use kinds::{PINS, SLOTS};
-use record_check::{Rest, Slot};
+use kinds::SLOTS;
+use record_check::{Rest, Slot, check_run};
+use std::array;
+
+// Room for one record more than a table has slots.
+pub const ROOM: usize = SLOTS + 1;
+
+const EMPTY: Slot = Slot {
+    txid: 0,
+    snapshot_xmin: 0,
+};
 
 // No slot is taken.
 pub fn empty() -> [Slot; ROOM] {
-    let slot = Slot {
-        txid: 0,
-        snapshot_xmin: 0,
-    };
-    [slot; ROOM]
+    [EMPTY; ROOM]
 }
 
 // One record replaced.
-pub(crate) fn put(run: [Slot; ROOM], at: usize, txid: u64, snapshot_xmin: u64) -> [Slot; ROOM]
+pub(crate) fn put(mut run: [Slot; ROOM], at: usize, txid: u64, snapshot_xmin: u64) -> [Slot; ROOM]
     requires { at < length run }
 {
-    let mut after = run;
-    after[at] = Slot {
+    run[at] = Slot {
         txid,
         snapshot_xmin,
     };
-    after
+    run
 }
 
 // What stands beside the slots: all pins free.
 pub fn beside(clock: u64, sample: u64, line: u64) -> Rest {
-    let pins = kinds::free_pins();
     Rest {
-        pins,
+        pins: kinds::free_pins(),
         clock,
         sample,
         line,
@@ -38,12 +41,11 @@ pub fn beside(clock: u64, sample: u64, line: u64) -> Rest {
 }
 
 // One pin replaced, where there is one.
-pub fn pinned(rest: Rest, k: usize, x: u64) -> Rest {
-    let mut after = rest;
-    if k < PINS {
-        after.pins[k] = x;
+pub fn pinned(mut rest: Rest, k: usize, x: u64) -> Rest {
+    if let Some(pin) = rest.pins.get_mut(k) {
+        *pin = x;
     }
-    after
+    rest
 }
 
 // Three slots are taken; with clock 12, sample 2 and line 4 it passes.
@@ -53,15 +55,22 @@ pub fn good() -> [Slot; ROOM] {
 
 // Each slot is taken, slot i by i + 1.
 pub fn full() -> [Slot; ROOM] {
-    let mut run = empty();
-    let mut i: usize = 0;
-    while i < SLOTS {
-        let id = (i as u64) + 1;
-        run[i] = Slot {
+    array::from_fn(|i| {
+        if i == SLOTS {
+            return EMPTY;
+        }
+        let id = i as u64 + 1;
+        Slot {
             txid: id,
             snapshot_xmin: id,
-        };
-        i += 1;
-    }
-    run
+        }
+    })
+}
+
+// The check of the first `count` records. It stays: a part of what a call answers, lent straight in an argument, got no proof.
+pub(crate) fn check_first(run: [Slot; ROOM], count: usize, rest: Rest) -> bool
+    requires { count ≤ length run }
+    ensures { result ≡ run_passes SLOTS (take count run) rest }
+{
+    check_run(&run[..count], rest)
 }

@@ -4,7 +4,7 @@ use mathlib.Core.List.{[], ◌∷◌}
 use Rattle.trace.specs.declared.Op.TheVariants.{Begin, Finish, Pin, Unpin}
 use Rattle.op_numbers.specs.Numbers.{try_number, op_numbered}
 use Rattle.record_rows.specs.Rows.{row_of, may_be, allowed_by, of_op, record_row}
-use Rattle.record_rows.specs.declared.RowIs.TheVariants as row
+use Rattle.record_rows.specs.RowIs as row
 
 record Rows : Type 0 where
   -- begin with the stamp 5

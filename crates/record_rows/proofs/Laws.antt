@@ -16,9 +16,9 @@ use Rattle.trace.specs.declared.Op.{Op}
 use Rattle.trace.specs.declared.Record.{Record}
 use Rattle.op_numbers.specs.Numbers.{op_number, op_numbered}
 use Rattle.record_rows.specs.Rows.{row_of, may_be, allowed_by, of_op, on_numbered, record_row}
-use Rattle.op_numbers.specs.declared.OpNumbered.{OpNumbered}
-use Rattle.op_numbers.specs.declared.OpNumbered.TheVariants as numbered
-use Rattle.record_rows.specs.declared.RowIs.TheVariants as row
+use Rattle.op_numbers.specs.OpNumbered.{OpNumbered}
+use Rattle.op_numbers.specs.OpNumbered as numbered
+use Rattle.record_rows.specs.RowIs as row
 use Rattle.op_numbers.proofs.OpNumbers.{op_of_number, number_of_op}
 
 -- a number within its limit may stand there

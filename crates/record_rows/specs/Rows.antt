@@ -6,10 +6,10 @@ use Rattle.trace.specs.Op.{reads_of}
 use Rattle.trace.specs.declared.Op.{Op}
 use Rattle.trace.specs.declared.Record.{Record}
 use Rattle.op_numbers.specs.Numbers.{op_number, op_numbered}
-use Rattle.op_numbers.specs.declared.OpNumbered.{OpNumbered}
-use Rattle.op_numbers.specs.declared.OpNumbered.TheVariants as numbered
-use Rattle.record_rows.specs.declared.RowIs.{RowIs}
-use Rattle.record_rows.specs.declared.RowIs.TheVariants as row
+use Rattle.op_numbers.specs.OpNumbered.{OpNumbered}
+use Rattle.op_numbers.specs.OpNumbered as numbered
+use Rattle.record_rows.specs.RowIs.{RowIs}
+use Rattle.record_rows.specs.RowIs as row
 
 abbrev pub row_of : Record → List ℕ
 row_of r = op_number r.op ∷ r.slot ∷ r.id ∷ r.stamp ∷ r.clock ∷ r.sample ∷ []

@@ -5,11 +5,10 @@ mod rows;
 
 pub use rows::{record_of, row_of};
 
-// The record that a row is; or no op has its number, its slot is above 65,535, or a number other
-// than 0 stands in a field that the op doesn't read.
-#[derive(Clone, Copy)]
-pub enum RowIs {
-    Record(trace::Record),
+// Why a row is no record: no op has its number, its slot is above 65,535, or a number other than 0 stands in a field that
+// the op doesn't read.
+#[derive(Clone, Copy, Debug, PartialEq, Eq)]
+pub enum NoRecord {
     UnknownOp,
     SlotTooLarge,
     UnreadNumber,

@@ -1,74 +1,50 @@
 // A record as a row, and the record that a row is.
 ghost use Rattle.std.specs.Prelude.{◌≡◌};
-ghost use Rattle.record_rows.specs.Rows.{row_of, may_be, allowed_by, of_op, record_row};
+ghost use Rattle.record_rows.specs.Rows.{row_of, allowed_by, record_row};
 
-use crate::RowIs;
-use op_numbers::OpNumbered;
+use crate::NoRecord;
 use text::Reads;
-use trace::{Op, Record};
-
-const MOST_SLOT: u64 = 65535;
+use trace::Record;
 
 // The row of a record.
 pub fn row_of(r: Record) -> [u64; 6]
     ensures { result ≡ row_of r }
 {
-    let named = r.op;
-    let op = op_numbers::op_number(named);
-    let slot = r.slot as u64;
+    let op = op_numbers::op_number(r.op);
+    let slot = u64::from(r.slot);
     [op, slot, r.id, r.stamp, r.clock, r.sample]
 }
 
-// Whether a field that is read, or isn't, may have this number.
-fn may_be(reads: bool, n: u64) -> bool
-    ensures { result ≡ may_be reads n }
+// Whether 0 stands in each field that isn't read.
+#[tactic(auto, unfolding(crate::specs::Rows::allowed_by, crate::specs::Rows::may_be))]
+fn unread_are_zero(reads: Reads, r: Record) -> bool
+    ensures { result ≡ allowed_by reads r.slot r.id r.stamp r.clock r.sample }
 {
-    if reads {
-        return true;
-    }
-    n == 0
-}
-
-// Whether each of the five numbers may stand in its field.
-fn allowed_by(reads: Reads, slot: u64, id: u64, stamp: u64, clock: u64, sample: u64) -> bool
-    ensures { result ≡ allowed_by reads slot id stamp clock sample }
-{
-    let slot_may = may_be(reads.slot, slot);
-    let id_may = may_be(reads.id, id);
-    let stamp_may = may_be(reads.fourth, stamp);
-    let clock_may = may_be(reads.clock, clock);
-    let sample_may = may_be(reads.clock, sample);
-    slot_may & (id_may & (stamp_may & (clock_may & sample_may)))
-}
-
-// The record of an op and five numbers.
-fn of_op(op: Op, slot: u64, id: u64, stamp: u64, clock: u64, sample: u64) -> RowIs
-    ensures { result ≡ of_op op slot id stamp clock sample }
-{
-    if MOST_SLOT < slot {
-        return RowIs::SlotTooLarge;
-    }
-    if allowed_by(trace::reads_of(op), slot, id, stamp, clock, sample) {
-        let slot_no = slot as u16;
-        return RowIs::Record(Record {
-            op,
-            slot: slot_no,
-            id,
-            stamp,
-            clock,
-            sample,
-        });
-    }
-    RowIs::UnreadNumber
+    (reads.slot || r.slot == 0)
+        && (reads.id || r.id == 0)
+        && (reads.fourth || r.stamp == 0)
+        && (reads.clock || r.clock == 0)
+        && (reads.clock || r.sample == 0)
 }
 
 // The record that a row is, or the first reason why it is none.
-pub fn record_of(row: [u64; 6]) -> RowIs
+#[tactic(auto, unfolding(crate::specs::Rows::record_row, crate::specs::Rows::of_op))]
+pub fn record_of(row: [u64; 6]) -> Result<Record, NoRecord>
     ensures { result ≡ record_row row }
 {
-    let numbered = op_numbers::op_of(row[0]);
-    match numbered {
-        OpNumbered::Is(op) => of_op(op, row[1], row[2], row[3], row[4], row[5]),
-        OpNumbered::Unknown => RowIs::UnknownOp,
+    let [number, slot, id, stamp, clock, sample] = row;
+    let op = op_numbers::op_of(number).ok_or(NoRecord::UnknownOp)?;
+    let slot = u16::try_from(slot).map_err(|_| NoRecord::SlotTooLarge)?;
+    let record = Record {
+        op,
+        slot,
+        id,
+        stamp,
+        clock,
+        sample,
+    };
+    if !unread_are_zero(trace::reads_of(op), record) {
+        return Err(NoRecord::UnreadNumber);
     }
+    Ok(record)
 }

@@ -4,22 +4,21 @@
 ghost use Rattle.std.specs.Prelude.{◌≡◌};
 ghost use Rattle.settled.specs.Snapshots.{no_snapshot};
 ghost use Rattle.model.specs.declared.change.SlotChange.TheVariants.{Stays};
-ghost use Rattle.model.specs.declared.answer.Answer.TheVariants.{Refused};
+ghost use Rattle.model.specs.Answer.{Refused};
 ghost use Rattle.model.specs.Changes.{change};
 
 use kinds::{Refusal, SLOTS};
-use model::{Answer, Change, Counters, SlotChange, SnapshotDecision};
+use model::{Change, Counters, SlotChange, SnapshotDecision};
 
-pub fn refused_snapshot(was: Counters, r: Refusal) -> SnapshotDecision
-    ensures { result ≡ record { change = change Stays was; answer = Refused r; snapshot = no_snapshot SLOTS } }
+pub fn refused_snapshot(was: Counters, refusal: Refusal) -> SnapshotDecision
+    ensures { result ≡ record { change = change Stays was; answer = Refused refusal; snapshot = no_snapshot SLOTS } }
 {
-    let snapshot = settled::no_snapshot();
     SnapshotDecision {
         change: Change {
             slot: SlotChange::Stays,
             counters: was,
         },
-        answer: Answer::Refused(r),
-        snapshot,
+        answer: Err(refusal),
+        snapshot: settled::no_snapshot(),
     }
 }

@@ -2,7 +2,7 @@
 -- after the other are one text (crate output, proofs/Wrote).
 use Prim.Native.Nat.{ℕ, ◌+◌, ◌≤◌, ◌<◌, ◌^◌}
 use mathlib.Core.Path.{◌≡◌, sym, ◌∙◌}
-use mathlib.Core.Bool.{Bool, true, false}
+use mathlib.Core.Logic.{◌⊎◌, inl, inr}
 use mathlib.Core.List.{List, ◌++◌, append-nil}
 use native.Mathlib.Nat.{zero-add}
 use native.Mathlib.Omega.{arith}
@@ -44,14 +44,7 @@ module _
           let one = rw (zero-add (length first)) at (splice_append xs 0 first (line_text agree_key 1) (omega arith)) in
           w.left ∙ rw (p, k) one
 
-      pub ends_2 : Ends Proc2 count xs zs end
+      pub ends_agreed : (v : Version) → (v ≡ Proc2) ⊎ (v ≡ Proc3) → Ends v count xs zs end
       unfolding last_text agree_line
-      ends_2 = record { size = both-size; text = both-text }
-
-      pub ends_3 : Ends Proc3 count xs zs end
-      unfolding last_text agree_line
-      ends_3 = record { size = both-size; text = both-text }
-
--- an answer is one or the other
-pub no_other : {b : Bool} → b ≡ true → b ≡ false → ⊥
-no_other p q = let h : ◌≡◌ {A = Bool} true false = sym p ∙ q in let z : ◌≡◌ {A = ℕ} 0 1 = cc in omega arith
+      ends_agreed v (inl e) = rw e record { size = both-size; text = both-text }
+      ends_agreed v (inr e) = rw e record { size = both-size; text = both-text }

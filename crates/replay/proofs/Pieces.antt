@@ -7,6 +7,7 @@ use mathlib.Core.List.{List, [], ◌∷◌, append_assoc, append-nil}
 use native.Mathlib.Omega.{arith}
 use lib.IntN.{ℤ}
 use lib.ListN.{length, take, drop, length-append, length-drop}
+use lib.Seq.{take_all}
 use Rattle.model.specs.declared.Table.{Table}
 use Rattle.model.specs.Tables.{fresh_table}
 use Rattle.model.specs.Facts.{Good}
@@ -25,12 +26,9 @@ use Rattle.output.specs.Output.{need}
 use Rattle.output.proofs.Wrote.{holder_few}
 use Rattle.replay_text.specs.Replay.{text_of, broken_text, agree_line, last_text, replay_by, replay_of}
 use Rattle.replay_part.specs.Part.{part_of}
-use Rattle.replay.specs.Sent.{parts_of, pieces_by, pieces_of, handed, stopped, PieceNext, WentFits, is_trace, AllWent, SomeWent, SentFits}
+use Rattle.replay.specs.Sent.{parts_of, pieces_by, pieces_of, handed, stopped, PieceNext, WentFits, is_trace, AllWent, SentFits, Sent, Failed}
 use Rattle.replay.specs.declared.border.Handed.{Handed}
 use Rattle.replay.specs.declared.border.Stopped.{Stopped}
-use Rattle.replay.specs.declared.border.Went.{Went}
-use Rattle.replay.specs.declared.border.Went.TheVariants.{On, Failed}
-use Rattle.replay.specs.declared.out.Sent.{Sent}
 use Rattle.replay.proofs.Parts.{parts_join}
 use Rattle.replay_part.proofs.Room.{part_good, part_goes_on}
 use Rattle.replay.proofs.Next.{begins_with}
@@ -84,30 +82,24 @@ unfolding parts_of
 no_parts zero v n t = refl
 no_parts (suc k) v n t = refl
 
--- what handing a piece on answers
-pub went_on : (h : Handed) {w : Went} {r : Handed} → WentFits h w → w ≡ On r → r ≡ handed h.to (h.pieces + 1)
-went_on h f e = rw e at f
-
-pub went_stopped : (h : Handed) {w : Went} {r : Stopped} → WentFits h w → w ≡ Failed r → r ≡ stopped h.to h.pieces
-went_stopped h f e = rw e at f
-
 module _ {n : ℕ} {s : List ℕ} (h : Handed) where
-  -- a text that was put at a buffer's start is the piece that comes next
+  -- the text that is next is the piece that comes next
   pub piece_next :
-      (xs : List ℕ) {t ys : List ℕ} {size : ℕ} {later : List (List ℕ)} → length (pieces_of n s) < 2 ^ 64 →
-      drop h.pieces (pieces_of n s) ≡ t ∷ later → size ≡ length t → ys ≡ spliced xs 0 t → PieceNext n s h size ys
-  piece_next xs {t} {ys} {size} {later} few e k put =
-      let first : take size ys ≡ t = rw k (begins_with xs t put) in
-      record { few = few; later = later; next = e ∙ ap (λ (x : List ℕ). x ∷ later) (sym first) }
+      {t piece : List ℕ} {later : List (List ℕ)} → length (pieces_of n s) < 2 ^ 64 → drop h.pieces (pieces_of n s) ≡ t ∷ later →
+      piece ≡ t → PieceNext n s h (length piece) piece
+  piece_next {piece = piece} {later = later} few e same =
+      let whole = take_all (length piece) piece (omega arith) ∙ same in
+      record { few = few; later = later; next = e ∙ ap (λ (x : List ℕ). x ∷ later) (sym whole) }
 
   -- where a piece comes next, not all have gone
   pub still : {size : ℕ} {buf : List ℕ} → PieceNext n s h size buf → h.pieces < length (pieces_of n s)
   still p = omega (arith, sym (length-drop h.pieces (pieces_of n s)) ∙ ap length p.next)
 
-  pub some_went :
-      {size : ℕ} {buf : List ℕ} {to : ℤ} {r : Stopped} → PieceNext n s h size buf → h.to ≡ to →
-      r ≡ stopped h.to h.pieces → SomeWent n s to r
-  some_went p same e = record { same = rw e same; pieces = rw e (still p) }
+  -- a write that failed ends the replay
+  pub sent_some :
+      {size : ℕ} {buf : List ℕ} {to : ℤ} {r : Stopped} → need Proc2 n ≤ 65536 → PieceNext n s h size buf → h.to ≡ to →
+      r ≡ stopped h.to h.pieces → SentFits n s to (Failed r)
+  sent_some room p same e = record { text = pieces_joined n s room; ended = record { same = rw e same; pieces = rw e (still p) } }
 
   -- where one piece is left, all have gone when it has
   pub all_went :

@@ -6,7 +6,7 @@ use mathlib.Core.Bool.{true, false}
 use mathlib.Core.List.{List, [], ◌∷◌, ◌++◌}
 use native.Mathlib.Omega.{arith}
 use lib.IntN.{ℤ}
-use lib.ListN.{length, drop}
+use lib.ListN.{length, take, drop}
 use lib.Seq.{drop-drop}
 use Rattle.model.specs.declared.Table.{Table}
 use Rattle.model.specs.Tables.{fresh_table}
@@ -14,7 +14,7 @@ use Rattle.model.specs.Facts.{Good}
 use Rattle.model.proofs.Moves.{good-fresh}
 use Rattle.text.specs.Write.{spliced}
 use Rattle.trace.specs.declared.Record.{Record}
-use Rattle.trace.specs.declared.Reading.TheVariants.{Whole, Broken}
+use Rattle.trace.specs.Reading.{Whole, Broken}
 use Rattle.grammar.specs.Texts as texts
 use Rattle.grammar.specs.Texts.{Read}
 use Rattle.trace.specs.declared.Version.{Version}
@@ -34,6 +34,7 @@ use Rattle.replay.specs.declared.border.Handed.{Handed}
 use Rattle.replay_part.specs.declared.Progress.{Progress}
 use Rattle.replay.specs.Sent.{parts_of, pieces_of, handed, is_trace, PieceNext, AllWent}
 use Rattle.replay_part.proofs.Room.{part_good, part_goes_on}
+use Rattle.replay.proofs.Next.{begins_with}
 use Rattle.replay.proofs.Pieces.{pieces_few, no_parts, piece_next, all_went}
 
 -- refusal 9 is the one piece of a text that is no trace
@@ -45,10 +46,8 @@ module _ (n : ℕ) (s : List ℕ) (line : ℕ) (e : reading s ≡ Broken line) w
   unfolding pieces_of
   one_piece = rw breaks
 
-  pub broken_next :
-      (to : ℤ) (xs : List ℕ) {ys : List ℕ} {size : ℕ} → size ≡ length (broken_text line) → ys ≡ spliced xs 0 (broken_text line) →
-      PieceNext n s (handed to 0) size ys
-  broken_next to xs k put = piece_next (handed to 0) xs (rw one_piece (omega arith)) one_piece k put
+  pub broken_next : (to : ℤ) {piece : List ℕ} → piece ≡ broken_text line → PieceNext n s (handed to 0) (length piece) piece
+  broken_next to same = piece_next (handed to 0) (rw one_piece (omega arith)) one_piece same
 
   pub broken_all : {to : ℤ} {r : Handed} → r ≡ handed to (0 + 1) → AllWent n s to false r
   broken_all {to} g = all_went (handed to 0) (ap is_trace breaks) (one_piece) refl g
@@ -65,21 +64,6 @@ pub record Sending (v : Version) (n : ℕ) (s : List ℕ) (count : ℕ) (to : �
   pub most : ℕ
   pub enough : length (records_from s at) ≤ most
   pub rest : drop h.pieces (pieces_of n s) ≡ to_come most v n s count t at
-
--- n is the number of slots of the table that a run begins with
-pub from-fresh :
-    {v : Version} {n : ℕ} {t₀ : Table} {s : List ℕ} {count : ℕ} {to : ℤ} {t : Table} {at : ℕ} {h : Handed} → t₀ ≡ fresh_table n →
-    Sending v (length t₀.txids) s count to t at h → Sending v n s count to t at h
-from-fresh {v} {n} {t₀} e w =
-    let size = ap (λ (t : Table). length t.txids) e ∙ (good-fresh n).txid_column in
-    rw size at w
-
-pub to_fresh :
-    {v : Version} {n : ℕ} {t₀ : Table} {s : List ℕ} {count : ℕ} {to : ℤ} {t : Table} {at : ℕ} {h : Handed} → t₀ ≡ fresh_table n →
-    Sending v n s count to t at h → Sending v (length t₀.txids) s count to t at h
-to_fresh {v} {n} {t₀} e w =
-    let size = ap (λ (t : Table). length t.txids) e ∙ (good-fresh n).txid_column in
-    rw size w
 
 module _ (v : Version) (n : ℕ) (s : List ℕ) (count : ℕ) where
   pub is_whole : reading s ≡ Whole v count → is_trace (trace_of s) ≡ true
@@ -133,8 +117,8 @@ module _ (v : Version) (n : ℕ) (s : List ℕ) (count : ℕ) where
               }
 
       module _ (size : length xs ≡ 65536) (room : need Proc2 n ≤ 65536) (more : at ≡ length s → ⊥) where
-        pub part_next : PieceNext n s h r.filled ys
-        part_next = piece_next h xs w.few (split size room more).next p.filled p.text
+        pub part_next : PieceNext n s h (length (take r.filled ys)) (take r.filled ys)
+        part_next = piece_next h w.few (split size room more).next (begins_with xs _ p.filled p.text)
 
         pub part_less : length (records_from s r.at) < length (records_from s at)
         part_less = (split size room more).less
@@ -158,10 +142,8 @@ module _ (v : Version) (n : ℕ) (s : List ℕ) (count : ℕ) where
       last-piece : drop h.pieces (pieces_of n s) ≡ last_text v count ∷ []
       last-piece = w.rest ∙ rw (none_left any_form any_facts s at over, no_parts w.most v n t)
 
-      pub last_next :
-          (xs : List ℕ) {ys : List ℕ} {size : ℕ} → size ≡ length (last_text v count) →
-          ys ≡ spliced xs 0 (last_text v count) → PieceNext n s h size ys
-      last_next xs k put = piece_next h xs w.few last-piece k put
+      pub last_next : {piece : List ℕ} → piece ≡ last_text v count → PieceNext n s h (length piece) piece
+      last_next same = piece_next h w.few last-piece same
 
       pub last_all :
           {fd : ℤ} {r : Handed} → reading s ≡ Whole v count → h.to ≡ fd →

@@ -2,7 +2,7 @@
 use Prim.Native.Nat.{ℕ}
 use mathlib.Core.Path.{◌≡◌, sym, ◌∙◌}
 use mathlib.Core.List.{List}
-use Rattle.replay.specs.declared.into.Replayed.{Replayed}
+use Rattle.replay.specs.Replayed.{Replayed}
 use Rattle.replay.specs.Into.{IntoFits}
 
 pub into_unique :

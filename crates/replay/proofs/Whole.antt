@@ -15,7 +15,7 @@ use Rattle.text.specs.Line.{line_text}
 use Rattle.text.specs.Write.{spliced, written}
 use Rattle.text.proofs.Splice.{splice_none, splice_append}
 use Rattle.trace.specs.declared.Record.{Record}
-use Rattle.trace.specs.declared.Reading.TheVariants as reads
+use Rattle.trace.specs.Reading as reads
 use Rattle.grammar.specs.Texts.{Broken}
 use Rattle.trace.specs.declared.Version.{Version}
 use Rattle.trace.specs.Trace.{trace_grammar, trace_format, trace_of, reading, records_from, first_record, Boundary}
@@ -27,8 +27,7 @@ use Rattle.grammar.proofs.Walk.{none_left, end_only}
 use Rattle.replay_text.specs.Replay.{broken_text}
 use Rattle.replay_part.specs.Part.{Part, part_of, PartFits}
 use Rattle.replay.specs.Into.{Into, whole, cut, text_in, into_end, into_of, BrokenFits, EndFits, replayed, IntoFits}
-use Rattle.replay.specs.declared.into.Replayed.{Replayed}
-use Rattle.replay.specs.declared.into.Replayed.TheVariants.{Written, NoRoom}
+use Rattle.replay.specs.Replayed.{Replayed, Written, NoRoom}
 
 module _ (n : ℕ) (s xs : List ℕ) where
   -- what is left at the buffer's start says all of it

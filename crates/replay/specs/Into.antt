@@ -8,8 +8,7 @@ use Rattle.trace.specs.declared.Record.{Record}
 use Rattle.grammar.specs.Texts.{Read, Whole, Broken}
 use Rattle.trace.specs.declared.Version.{Version}
 use Rattle.trace.specs.Trace.{trace_of}
-use Rattle.replay.specs.declared.into.Replayed.{Replayed}
-use Rattle.replay.specs.declared.into.Replayed.TheVariants.{Written, NoRoom}
+use Rattle.replay.specs.Replayed.{Replayed, Written, NoRoom}
 use Rattle.replay_text.specs.Replay.{broken_text}
 use Rattle.replay_part.specs.Part.{part_of}
 

@@ -1,2 +1,4 @@
 pub mod Into
+pub mod Replayed
 pub mod Sent
+pub mod Went

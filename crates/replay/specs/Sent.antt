@@ -1,5 +1,5 @@
 -- A replay to a file descriptor: the pieces in which its text is handed on, and what the replay promises.
-use Rattle.std.specs.Prelude.{ℕ, zero, suc, ◌+◌, ◌<◌, ◌^◌, ◌≡◌, Bool, true, false, List, [], ◌∷◌, ◌++◌, ℤ, length, take, drop}
+use Rattle.std.specs.Prelude.{ℕ, zero, suc, ◌+◌, ◌<◌, ◌^◌, ◌≡◌, Bool, true, false, List, [], ◌∷◌, ◌++◌, ℤ, length, take, drop, Result, Ok, Err}
 use Rattle.model.specs.declared.Table.{Table}
 use Rattle.model.specs.Tables.{fresh_table}
 use Rattle.text.specs.Line.{joined}
@@ -10,12 +10,25 @@ use Rattle.trace.specs.declared.Version.{Version}
 use Rattle.trace.specs.Trace.{trace_of}
 use Rattle.replay.specs.declared.border.Handed.{Handed}
 use Rattle.replay.specs.declared.border.Stopped.{Stopped}
-use Rattle.replay.specs.declared.border.Went.{Went}
-use Rattle.replay.specs.declared.border.Went.TheVariants as went
-use Rattle.replay.specs.declared.out.Sent.{Sent}
-use Rattle.replay.specs.declared.out.Sent.TheVariants.{All, Refused, Failed}
+use Rattle.replay.specs.Went.{Went}
+use Rattle.replay.specs.Went as went
 use Rattle.replay_text.specs.Replay.{broken_text, last_text, replay_of}
 use Rattle.replay_part.specs.Part.{part_of}
+use Rattle.replay.specs.declared.out.Gone.{Gone}
+use Rattle.replay.specs.declared.out.Gone.TheVariants as gone
+
+-- how a replay to a descriptor ended
+abbrev pub Sent : Type 0
+Sent = Result Gone Stopped
+
+pattern abbrev pub All : Handed → Sent
+All h = Ok (gone.All h)
+
+pattern abbrev pub Refused : Handed → Sent
+Refused h = Ok (gone.Refused h)
+
+pattern abbrev pub Failed : Stopped → Sent
+Failed p = Err p
 
 -- the parts of a run, each as many records as have room in size bytes; the first number is at least how many records there are
 unfoldable pub parts_of : ℕ → Version → ℕ → ℕ → Table → List Record → List (List ℕ)

@@ -7,6 +7,6 @@ mod last;
 mod out;
 
 pub use border::{Handed, Stopped};
-pub use into::{Replayed, replay_into};
-pub use out::{Sent, replay_to};
+pub use into::replay_into;
+pub use out::{Gone, replay_to};
 pub use trace::LONGEST;

@@ -12,8 +12,7 @@ use borrow.Author.Tests.{eq-eqb, ne_eqb, eqb-true, eqb-false}
 use Rattle.model.specs.declared.Table.{Table}
 use Rattle.model.specs.Calls.{after, shown}
 use Rattle.trace.specs.declared.Record.{Record}
-use Rattle.trace.specs.declared.RecordAt.{RecordAt}
-use Rattle.trace.specs.declared.RecordAt.TheVariants.{Is, Broken}
+use Rattle.trace.specs.RecordAt.{RecordAt, Is, Broken}
 use Rattle.trace.specs.declared.Version.{Version}
 use Rattle.trace.specs.Record.{record_at}
 use Rattle.trace.proofs.Shape.{any_facts}

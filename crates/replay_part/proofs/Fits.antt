@@ -1,5 +1,5 @@
 -- Where a run starts at a record of a trace, or at its end, the run from that place on is the part of the records that are left.
-use Prim.Native.Nat.{ℕ, ◌+◌, ◌≤◌}
+use Prim.Native.Nat.{ℕ, ◌+◌}
 use mathlib.Core.Path.{◌≡◌, refl, sym, ap, ◌∙◌}
 use mathlib.Core.Bool.{Bool, true, false}
 use mathlib.Core.List.{List, ◌++◌}
@@ -11,7 +11,7 @@ use Rattle.model.specs.declared.Table.{Table}
 use Rattle.model.specs.Calls.{after, shown}
 use Rattle.text.specs.Write.{spliced}
 use Rattle.trace.specs.declared.Record.{Record}
-use Rattle.trace.specs.declared.RecordAt.TheVariants.{Is}
+use Rattle.trace.specs.RecordAt.{Is}
 use Rattle.trace.specs.declared.Version.{Version}
 use Rattle.trace.specs.Record.{any_form, record_at}
 use Rattle.trace.specs.Trace.{records_from, Boundary}

@@ -11,12 +11,13 @@ use borrow.Author.Tests.{le-leb}
 use Rattle.model.specs.declared.Table.{Table}
 use Rattle.model.specs.Changes.{applied}
 use Rattle.model.specs.Calls.{Call, after, shown}
-use Rattle.text.specs.declared.Put.TheVariants.{Past, NoRoom}
+use Rattle.model.proofs.Stores.{stored_txid_lem, stored_txid_long}
+use Rattle.text.specs.Put.{Past, NoRoom}
 use Rattle.text.specs.Write.{spliced}
 use Rattle.text.proofs.Splice.{splice_none, splice_append}
 use Rattle.trace.specs.declared.Record.{Record}
 use Rattle.trace.specs.declared.Version.{Version}
-use Rattle.trace.specs.declared.RecordAt.TheVariants.{Is, Broken}
+use Rattle.trace.specs.RecordAt.{Is, Broken}
 use Rattle.trace.specs.Record.{record_at}
 use Rattle.output.specs.Output.{printed, fits, put_text, left_text}
 use Rattle.step.specs.Named.{call_of}
@@ -101,8 +102,8 @@ module _ (v : Version) (n : ℕ) (s : List ℕ) (from : ℕ) (t₀ : Table) (xs 
     pub running_more :
         (r : Record) (e : ℕ) {o : Ran} {zs : List ℕ} {past : ℕ} {u : Table} → record_at s at ≡ Is r e →
         RanThere v n t (call_of r) ys filled zs o → o.put ≡ Past past → length zs ≡ length ys → u ≡ applied t o.change →
-        length u.txids ≡ n → Running v n s from t₀ xs zs u e past
-    running_more r e {o} {zs} {past} {u} q a p k made few' =
+        Running v n s from t₀ xs zs u e past
+    running_more r e {o} {zs} {past} {u} q a p k made =
         let out = printed v n t (call_of r) in
         let many = (shown n t (call_of r)).count in
         let put = sym p ∙ a.put in
@@ -111,6 +112,8 @@ module _ (v : Version) (n : ℕ) (s : List ℕ) (from : ℕ) (t₀ : Table) (xs 
         let left = put-left v n ys filled many out put a.left in
         let bound = inside_of ys filled out (omega (arith, w.size, w.inside)) (ap length (sym left) ∙ k) in
         let next : u ≡ after n t (call_of r) = made ∙ a.table in
+        let slot = o.change.slot in
+        let long = ap length (sym (stored_txid_lem n t.txids w.few slot)) ∙ stored_txid_long n t.txids w.few slot in
         record {
           done = w.done ++ out;
           text =
@@ -118,7 +121,7 @@ module _ (v : Version) (n : ℕ) (s : List ℕ) (from : ℕ) (t₀ : Table) (xs 
           size = k ∙ w.size;
           count = omega (arith, end, w.count, length-append w.done out);
           inside = omega (arith, end, bound, w.size);
-          few = few';
+          few = ap (λ (t : Table). length t.txids) made ∙ long ∙ w.few;
           rest = w.rest ∙ rw (course_next v n (length xs) s at filled t r e q ok, next, end, append_assoc);
         }
 

@@ -7,8 +7,7 @@ ghost use Rattle.replay_part.specs.Course.{course_of, progress_of};
 
 use kinds::SLOTS;
 use table::Table;
-use text::Put;
-use trace::{RecordAt, Version};
+use trace::Version;
 
 // Where a part of a run stopped: the table, the place of the next record, the bytes written.
 #[derive(Clone, Copy)]
@@ -24,52 +23,23 @@ pub fn run_part(version: Version, s: &[u8], from: usize, table: Table, buf: &mut
     ensures buf_after { buf.new
         ≡ spliced buf.old 0 (course_of version SLOTS (length buf.old) s.now from 0 table).text }
 {
-    let mut t = table;
-    let mut at = from;
-    let mut filled: usize = 0;
-    while at != s.len() {
-        let found = reader::next_record(s, at);
-        let RecordAt::Is(r, next) = found else {
-            return Progress {
-                table: t,
-                at,
-                filled,
-            };
+    let mut run = Progress {
+        table,
+        at: from,
+        filled: 0,
+    };
+    // No `for`: where the next record stands is known only once this one was read.
+    while run.at != s.len() {
+        let Ok((record, next)) = reader::next_record(s, run.at) else {
+            return run;
         };
-        let was = t.counters;
-        let ran = step::run_record(
-            version,
-            &t.txids,
-            &t.snapshot_xmins,
-            &t.pins,
-            was,
-            r,
-            buf,
-            filled,
-        );
-        let put = ran.put;
-        let change = ran.change;
-        let Put::Past(past) = put else {
-            return Progress {
-                table: t,
-                at,
-                filled,
-            };
+        let ran = step::run_record(version, run.table.lend(), record, buf, run.filled);
+        let Some(past) = ran.put else {
+            return run;
         };
-        let slot = change.slot;
-        table::store_txid(&mut t.txids, slot);
-        table::store_xmin(&mut t.snapshot_xmins, slot);
-        table::store_pin(&mut t.pins, slot);
-        let counters = change.counters;
-        t.counters.clock = counters.clock;
-        t.counters.sampled_clock = counters.sampled_clock;
-        t.counters.vacuum_line = counters.vacuum_line;
-        filled = past;
-        at = next;
+        table::store(&mut run.table, ran.change);
+        run.filled = past;
+        run.at = next;
     }
-    Progress {
-        table: t,
-        at,
-        filled,
-    }
+    run
 }

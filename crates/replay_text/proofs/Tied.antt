@@ -4,8 +4,7 @@ use Prim.Native.Nat.{ℕ}
 use mathlib.Core.Path.{◌≡◌, refl, sym, ap, ◌∙◌}
 use mathlib.Core.List.{List, [], ◌∷◌, ◌++◌, append_assoc}
 use lib.ListN.{length}
-use Rattle.kinds.specs.declared.refusal.Verdict.{Verdict}
-use Rattle.kinds.specs.declared.refusal.Verdict.TheVariants.{Pass, Refuse}
+use Rattle.kinds.specs.Verdicts.{Verdict, Pass, Refuse}
 use Rattle.model.specs.declared.Table.{Table}
 use Rattle.model.specs.Tables.{fresh_table, line_of}
 use Rattle.model.specs.Answers.{xmin_told, numbers_of}

@@ -3,7 +3,7 @@ use Rattle.std.specs.Prelude.{ℕ, ◌≡◌, List, [], ◌∷◌, ◌++◌, len
 use Rattle.settled.specs.declared.Snapshot.{Snapshot}
 use Rattle.model.specs.Tables.{fresh_table}
 use Rattle.model.specs.Answers.{tells_of, xmin_told, holder_told, listing}
-use Rattle.model.specs.declared.answer.Answer.{Answer}
+use Rattle.model.specs.Answer.{Answer}
 use Rattle.model.specs.Calls.{answer, shown}
 use Rattle.model.specs.History.{reached}
 use Rattle.model.specs.Promise.{line_after}

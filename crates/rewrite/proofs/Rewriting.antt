@@ -2,24 +2,26 @@
 use Prim.Native.Nat.{ℕ, ◌≤◌}
 use native.Mathlib.Omega.{arith}
 use mathlib.Core.Path.{◌≡◌, refl, sym, ap, ◌∙◌}
+use mathlib.Core.Bool.{Bool, true, false, cond}
 use mathlib.Core.List.{List}
+use lib.Dec.{leb}
 use lib.ListN.{length, take, drop, length-append, length-drop}
 use lib.Seq.{take_at}
-use borrow.Author.Tests.{le-leb}
+use borrow.Author.Tests.{le-leb, leb-true}
 use Rattle.kinds.specs.declared.refusal.Refusal.{Refusal}
-use Rattle.kinds.specs.declared.refusal.Refusal.TheVariants.{BadTrace}
+use Rattle.kinds.specs.declared.refusal.Refusal.TheVariants.{BadTrace, NoRoom}
 use Rattle.grammar.specs.Texts.{Read, Whole, Broken}
 use Rattle.trace.specs.Trace.{trace_of}
 use Rattle.trace.specs.declared.Version.{Version}
 use Rattle.trace.specs.declared.Record.{Record}
 use Rattle.trace_writer.specs.Writing.{wrote_of, left_of}
 use Rattle.rows_reader.specs.Reading.{rows_of, in_front, read_of, rows_left}
-use Rattle.trace_writer.specs.declared.Wrote.{Wrote}
-use Rattle.trace_writer.specs.declared.Wrote.TheVariants as wrote
-use Rattle.rows_reader.specs.declared.RowsRead.TheVariants.{Rows, Refused}
+use Rattle.trace_writer.specs.Wrote.{Wrote}
+use Rattle.trace_writer.specs.Wrote as wrote
+use Rattle.rows_reader.specs.RowsRead.{Rows, Refused}
 use Rattle.rows_reader.proofs.Filling.{rows_many}
 use Rattle.trace_writer.proofs.Laws.{again_wrote, again_left_lem, most-records}
-use Rattle.rewrite.specs.Again.{again_of, again_left}
+use Rattle.rewrite.specs.Again.{again_by, again_of, again_left}
 
 front_many : (rows run : List (List ℕ)) → length rows ≤ length run → length (in_front rows run) ≡ length run
 unfolding in_front
@@ -69,8 +71,9 @@ module _ (s : List ℕ) (run : List (List ℕ)) (enough : 1489 ≤ length run) w
       go (Broken k) q = absurd (let a = sym (by-broken s (length run) enough k q) ∙ h in let z : ◌≡◌ {A = ℕ} 0 1 = cc in omega arith)
       go (Whole w rs) q =
           let a = sym (by_whole s (length run) enough w rs q) ∙ h in
-          let same : w ≡ v = cc in
-          let many : length rs ≡ n = cc in
+          let pair : ◌≡◌ {A = Version × ℕ} (w, length rs) (v, n) = cc in
+          let same = ap (λ (x : Version × ℕ). x.0) pair in
+          let many = ap (λ (x : Version × ℕ). x.1) pair in
           let l = e ∙ left-whole w rs q in
           let k = rows_many rs in
           let most = most-records s w rs q in
@@ -91,3 +94,16 @@ again s v n left xs g p q =
       rw g.whole (p ∙ rw g.rows (again_wrote s v rs (length xs) g.whole)),
       rw g.whole (q ∙ rw g.rows (again_left_lem s v rs xs g.whole)),
     )
+
+-- what was written lies inside the buffer
+pub inside : (s : List ℕ) (size : ℕ) {n : ℕ} → again_of s size ≡ wrote.Length n → n ≤ size
+unfolding again_of
+inside s size {n} = go (trace_of s)
+  where
+    fits : (b : Bool) → leb (length s) size ≡ b → cond b (wrote.Length (length s)) (wrote.Refused NoRoom) ≡ wrote.Length n → n ≤ size
+    fits true p e = let same : length s ≡ n = cc in omega (arith, leb-true (length s) size p)
+    fits false p e = absurd (let z : ◌≡◌ {A = ℕ} 0 1 = cc in omega arith)
+
+    go : (x : Read Version Record) → again_by s size x ≡ wrote.Length n → n ≤ size
+    go (Broken k) e = absurd (let z : ◌≡◌ {A = ℕ} 0 1 = cc in omega arith)
+    go (Whole v rs) e = fits (leb (length s) size) refl e

@@ -6,8 +6,7 @@ use Rattle.grammar.specs.Texts.{Read, Whole, Broken}
 use Rattle.trace.specs.Trace.{trace_of}
 use Rattle.trace.specs.declared.Version.{Version}
 use Rattle.trace.specs.declared.Record.{Record}
-use Rattle.trace_writer.specs.declared.Wrote.{Wrote}
-use Rattle.trace_writer.specs.declared.Wrote.TheVariants.{Length, Refused}
+use Rattle.trace_writer.specs.Wrote.{Wrote, Length, Refused}
 
 -- the length of the text itself; 9 with its line where it is no trace, 12 where it has no room
 abbrev pub again_by : List ℕ → ℕ → Read Version Record → Wrote

@@ -4,58 +4,38 @@
 
 mod again;
 
-use kinds::Refusal;
-use trace_writer::Wrote;
+use kinds::Told;
+use std::io;
 
-// The standard descriptors.
 const STDIN_FILENO: i32 = 0;
-
-const STDOUT_FILENO: i32 = 1;
-
-const STDERR_FILENO: i32 = 2;
 
 // One byte more than a trace may have, to know that there is one.
 const ROOM: usize = trace::LONGEST + 1;
 
-fn refuse(r: Refusal) {
-    let told = kinds::tell(r);
-    io::write_all(STDERR_FILENO, b"rewrite: refusal ");
-    io::print_decimal(STDERR_FILENO, told.number);
-    io::write_all(STDERR_FILENO, b" at line ");
-    io::print_decimal(STDERR_FILENO, told.at);
-    io::write_all(STDERR_FILENO, b"; nothing was written\n");
-}
-
 // Writes a trace again, or says why not.
-fn send(s: &[u8]) {
-    let mut out = [0u8; ROOM];
-    let wrote = again::rewrite(s, &mut out);
-    match wrote {
-        Wrote::Length(n) => {
-            if n <= ROOM {
-                let went = io::write_all(STDOUT_FILENO, &out[..n]);
-                if !went {
-                    io::write_all(
-                        STDERR_FILENO,
-                        b"rewrite: the output could not be written; what arrived is a beginning of it\n",
-                    );
-                }
-            }
+fn send(rt: &(impl Print + Eprint), s: &[u8]) -> io::Result<()> {
+    let mut out = [0; ROOM];
+    match again::rewrite(s, &mut out) {
+        Ok(n) => rt.write_all(&out[..n]).or_else(|_| {
+            eprintln!(rt;
+                "rewrite: the output could not be written; what arrived is a beginning of it"
+            )
+        }),
+        Err(refusal) => {
+            let Told { number, at, .. } = kinds::tell(refusal);
+            eprintln!(rt; "rewrite: refusal {number} at line {at}; nothing was written")
         }
-        Wrote::Refused(r) => refuse(r),
     }
 }
 
-// A read that fails is not the end of the input.
-fn main() {
-    let mut input = [0u8; ROOM];
+// A read that fails is not the end of the input: its size is then above the buffer's.
+fn main(rt: HostRuntime) {
+    // An array: with no heap, no memory can run out.
+    let mut input = [0; ROOM];
     let size = exports::sockhurdle_read(STDIN_FILENO, &mut input);
-    if size <= ROOM {
-        send(&input[..size]);
-    } else {
-        io::write_all(
-            STDERR_FILENO,
-            b"rewrite: the input could not be read; nothing was written\n",
-        );
-    }
+    // Where standard error can't be written either, nobody is left to tell.
+    let _told = match input.get(..size) {
+        Some(text) => send(&rt, text),
+        None => eprintln!(rt; "rewrite: the input could not be read; nothing was written"),
+    };
 }

@@ -3,17 +3,26 @@
 use Prim.Native.Nat.{ℕ, ◌+◌, ◌≤◌, ◌<◌, min}
 use native.Mathlib.Omega.{arith}
 use native.Mathlib.Numerals.{add-one}
-use mathlib.Core.Path.{◌≡◌, refl, ap}
-use mathlib.Core.List.{List, [], ◌∷◌, ◌++◌}
+use mathlib.Core.Path.{◌≡◌, refl, sym, ap}
+use mathlib.Core.Bool.{Bool, true, false, cond}
+use mathlib.Core.List.{List, []}
 use lib.ListN.{length, drop, get_or, drop_of_length-le, length-append}
 use lib.Seq.{drop-cons}
 use Rattle.trace.specs.Record.{record_text}
+use Rattle.trace.specs.Version.{allowed}
 use Rattle.trace.specs.declared.Record.{Record}
 use Rattle.trace.specs.declared.Version.{Version}
-use Rattle.rows_measure.specs.Measuring.{Records, Are, BadRow, with_first, on_judged, row_under, records_of}
+use Rattle.std.specs.Prelude.{Ok, Err, Some, None}
+use Rattle.std.specs.Bool.{then_some}
+use Rattle.std.specs.Result.{result_ok}
+use Rattle.record_rows.specs.Rows.{record_row}
+use Rattle.record_rows.specs.RowIs.{RowIs}
+use Rattle.record_rows.specs.declared.NoRecord.{NoRecord}
+use Rattle.record_rows.specs.declared.NoRecord.TheVariants as none
+use Rattle.rows_measure.specs.Measuring.{Records, Are, BadRow, with_first, on_judged, judged, row_under, records_of}
 use Rattle.rows_measure.specs.Measuring.{records_text, too_long, sized}
-use Rattle.rows_measure.specs.declared.Judged.TheVariants.{Good, Bad}
-use Rattle.rows_measure.specs.declared.Measured.TheVariants as measure
+use Rattle.rows_measure.specs.Judged.{Good, Bad}
+use Rattle.rows_measure.specs.Measured as measure
 use Rattle.rows_measure.proofs.Lengths.{records_none, records-first}
 
 -- one record more is counted
@@ -21,6 +30,27 @@ pub sized-first : (n : ℕ) (r : Record) (x : Records) → sized n (with_first r
 sized-first n r BadRow = refl
 sized-first n r (Are rs) =
     ap measure.Length (omega (arith, ap length (records-first r rs), length-append (record_text r) (records_text rs)))
+
+-- a row that is no record is bad, whatever the reason
+pub judged_err : (v : Version) (e : NoRecord) → judged v (Err e) ≡ Bad
+judged_err v none.UnknownOp = refl
+judged_err v none.SlotTooLarge = refl
+judged_err v none.UnreadNumber = refl
+
+then_good : (b : Bool) (r : Record) → then_some b r ≡ cond b (Good r) Bad
+then_good true r = refl
+then_good false r = refl
+
+module _ (v : Version) (x : List ℕ) where
+  pub row_none : (is : RowIs) → is ≡ record_row x → result_ok is ≡ None → Bad ≡ row_under v x
+  unfolding row_under
+  row_none (Err e) p q = rw (← p) (sym (judged_err v e))
+  row_none (Ok r) p q = absurd (let z : ◌≡◌ {A = ℕ} 0 1 = cc in omega arith)
+
+  pub row_some : (is : RowIs) (r : Record) → is ≡ record_row x → result_ok is ≡ Some r → then_some (allowed v r.op) r ≡ row_under v x
+  unfolding row_under
+  row_some (Ok y) r p q = let same : y ≡ r = cc in rw (← p, same) (then_good (allowed v r.op) r)
+  row_some (Err e) r p q = absurd (let z : ◌≡◌ {A = ℕ} 0 1 = cc in omega arith)
 
 pub bad_run : (rs : List Record) → BadRow ≡ Are rs → ⊥
 bad_run rs h = let z : ◌≡◌ {A = ℕ} 0 1 = cc in omega arith

@@ -1,2 +1,4 @@
+pub mod Judged
+pub mod Measured
 pub mod Measuring
 pub mod TwoLines

@@ -8,12 +8,11 @@ use Rattle.trace.specs.Trace.{first_record}
 use Rattle.trace.specs.declared.Version.{Version}
 use Rattle.trace.specs.declared.Record.{Record}
 use Rattle.record_rows.specs.Rows.{record_row}
-use Rattle.record_rows.specs.declared.RowIs.{RowIs}
-use Rattle.record_rows.specs.declared.RowIs.TheVariants as row
-use Rattle.rows_measure.specs.declared.Judged.{Judged}
-use Rattle.rows_measure.specs.declared.Judged.TheVariants.{Good, Bad}
-use Rattle.rows_measure.specs.declared.Measured.{Measured}
-use Rattle.rows_measure.specs.declared.Measured.TheVariants as measure
+use Rattle.record_rows.specs.RowIs.{RowIs}
+use Rattle.record_rows.specs.RowIs as row
+use Rattle.rows_measure.specs.Judged.{Judged, Good, Bad}
+use Rattle.rows_measure.specs.Measured.{Measured}
+use Rattle.rows_measure.specs.Measured as measure
 
 -- a row is bad where it is no record, or names an op that the header doesn't allow
 abbrev pub allowed_record : Version → Record → Judged

@@ -2,126 +2,64 @@
 // writes a byte.
 #![tactic(auto)]
 
-ghost use Rattle.std.specs.Prelude.{◌+◌, ◌≤◌, min, ◌≡◌, length};
-ghost use Rattle.text.specs.Decimal.{decimal};
-ghost use Rattle.trace.specs.Op.{op_name};
+ghost use Rattle.std.specs.Prelude.{◌≡◌, length};
 ghost use Rattle.trace.specs.Record.{record_text};
-ghost use Rattle.rows_measure.specs.Measuring.{allowed_record, row_under, too_long, measured};
+ghost use Rattle.rows_measure.specs.Measuring.{row_under, measured};
+ghost use Rattle.rows_measure.specs.TwoLines.{op_and_slot_key};
 
-use record_rows::RowIs;
+use text_writer::digits_in;
 use trace::{Op, Record, Version};
 
 // Any length above the longest stands for all of them, so that no sum can pass the machine's numbers.
 const TOO_LONG: usize = 65537;
 
-// The record that a row is under a header, or a row that is refusal 20.
-#[derive(Clone, Copy)]
-pub enum Judged {
-    Good(Record),
-    Bad,
-}
-
-// The length of a run's text, at most 65,537; or some row is refusal 20.
-#[derive(Clone, Copy)]
-pub enum Measured {
-    Length(usize),
-    BadRow,
-}
-
-fn allowed_record(version: Version, r: Record) -> Judged
-    ensures { result ≡ allowed_record version r }
-{
-    let op = r.op;
-    if trace::allows(version, op) {
-        return Judged::Good(r);
-    }
-    Judged::Bad
-}
-
-pub fn row_under(version: Version, row: [u64; 6]) -> Judged
+// The record that a row is under a header.
+pub fn row_under(version: Version, row: [u64; 6]) -> Option<Record>
     ensures { result ≡ row_under version row }
 {
-    let is = record_rows::record_of(row);
-    match is {
-        RowIs::Record(r) => allowed_record(version, r),
-        RowIs::UnknownOp => Judged::Bad,
-        RowIs::SlotTooLarge => Judged::Bad,
-        RowIs::UnreadNumber => Judged::Bad,
-    }
+    let r = record_rows::record_of(row).ok()?;
+    trace::allows(version, r.op).then_some(r)
 }
 
-// The length of an op's name, with its newline.
-fn name_length(op: Op) -> usize
-    ensures value { result ≡ length (op_name op) }
-    ensures upper_bound { result ≤ 7 }
+// The lines of an op and of its slot are one key and one number. This is their key.
+pub fn op_and_slot_key(op: Op) -> &'static [u8]
+    ensures { result.now ≡ op_and_slot_key op }
 {
     match op {
-        Op::Begin => 6,
-        Op::End => 4,
-        Op::Snap => 5,
-        Op::Own => 4,
-        Op::Oldest => 7,
-        Op::Vacuum => 7,
-        Op::Stamp => 6,
-        Op::Finish => 7,
-        Op::Pin => 4,
-        Op::Unpin => 6,
+        Op::Begin => b"op=begin\nslot=",
+        Op::End => b"op=end\nslot=",
+        Op::Snap => b"op=snap\nslot=",
+        Op::Own => b"op=own\nslot=",
+        Op::Oldest => b"op=oldest\nslot=",
+        Op::Vacuum => b"op=vacuum\nslot=",
+        Op::Stamp => b"op=stamp\nslot=",
+        Op::Finish => b"op=finish\nslot=",
+        Op::Pin => b"op=pin\nslot=",
+        Op::Unpin => b"op=unpin\nslot=",
     }
 }
 
-fn digits(n: u64) -> usize
-    ensures value { result ≡ length (decimal n) }
-    ensures upper_bound { result ≤ 20 }
-{
-    text_writer::digits_in(n)
-}
-
-// Six keys with their `=` and five newlines are 35 bytes; the name brings its own newline.
+// The keys of the other four lines with their `=`, and five newlines, are 27 bytes.
 fn record_length(r: Record) -> usize
     ensures { result ≡ length (record_text r) }
 {
-    let op = r.op;
-    let name = name_length(op);
-    let slot = digits(r.slot as u64);
-    let id = digits(r.id);
-    let stamp = digits(r.stamp);
-    let clock = digits(r.clock);
-    let sample = digits(r.sample);
-    35 + name + slot + id + stamp + clock + sample
-}
-
-// The sum, held at one above the longest.
-fn held_sum(total: usize, n: usize) -> usize
-    ensures { result ≡ min (total + n) too_long }
-{
-    if TOO_LONG <= total {
-        return TOO_LONG;
-    }
-    if TOO_LONG - total <= n {
-        return TOO_LONG;
-    }
-    total + n
+    let key = op_and_slot_key(r.op).len();
+    let slot = digits_in(r.slot as u64);
+    let id = digits_in(r.id);
+    let stamp = digits_in(r.stamp);
+    let clock = digits_in(r.clock);
+    let sample = digits_in(r.sample);
+    27 + key + slot + id + stamp + clock + sample
 }
 
 // A bad row is looked for in the whole run, also where the text is known to be too long: 20 comes before 12.
-pub fn measure(version: Version, rows: &[[u64; 6]]) -> Measured
+pub fn measure(version: Version, rows: &[[u64; 6]]) -> Option<usize>
     ensures { result ≡ measured version rows.now }
 {
     let mut total = trace::first_record();
-    let mut i: usize = 0;
-    while i < rows.len() {
-        let row = rows[i];
-        let judged = row_under(version, row);
-        match judged {
-            Judged::Good(r) => {
-                let n = record_length(r);
-                total = held_sum(total, n);
-                i += 1;
-            }
-            Judged::Bad => {
-                return Measured::BadRow;
-            }
-        }
+    for row in rows {
+        let r = row_under(version, *row)?;
+        total = total.saturating_add(record_length(r)).min(TOO_LONG);
     }
-    Measured::Length(total)
+    Some(total)
 }

@@ -2,19 +2,40 @@
 use Prim.Native.Nat.{ℕ, ◌≤◌, ◌<◌}
 use native.Mathlib.Omega.{arith}
 use mathlib.Core.Path.{◌≡◌, refl, sym, ap, ◌∙◌}
-use mathlib.Core.Bool.{true, false, cond}
+use Rattle.std.specs.Prelude.{Result, Ok, Err}
+use Rattle.std.specs.Result.{MatchResult, IsErrAnd}
 use mathlib.Core.List.{List}
 use lib.ListN.{length}
 use borrow.Author.Tests.{le-leb, lt-leb}
 use Rattle.kinds.specs.declared.refusal.Refusal.TheVariants as refusal
 use Rattle.trace.specs.Trace.{first_record, trace_grammar, trace_format, reading, records_from}
 use Rattle.trace.specs.declared.Version.{Version}
-use Rattle.trace.specs.declared.Reading.TheVariants as read
+use Rattle.trace.specs.Reading as read
 use Rattle.grammar.proofs.Laws.{opened, count_breaks}
 use Rattle.trace.proofs.Shape.{trace_grammar_lem}
 use Rattle.trace.proofs.Answers.{reading_is}
 use Rattle.rows_reader.specs.Reading.{rows_of, in_front, read_of, rows_left}
-use Rattle.rows_reader.specs.declared.RowsRead.TheVariants.{Rows, Refused}
+use Rattle.rows_reader.specs.RowsRead.{Rows, Refused}
+
+-- what stood before a refusal took another's place: the same where none did, and the one that it is made of
+module _ {T E D : Type 0} (Gives : E → D → Type 0) (r : Result T E) (m : Result T D) where
+  pub passed : {x : T} → MatchResult r (λ y. m ≡ Ok y) (λ e. IsErrAnd m (Gives e)) → m ≡ Ok x → r ≡ Ok x
+  passed {x} = go r m
+    where
+      go : (r : Result T E) (m : Result T D) → MatchResult r (λ y. m ≡ Ok y) (λ e. IsErrAnd m (Gives e)) → m ≡ Ok x → r ≡ Ok x
+      go (Ok y) m h e = let same : y ≡ x = cc in ap Ok same
+      go (Err d) (Ok y) h e = absurd h
+      go (Err d) (Err e') h e = absurd (let z : ◌≡◌ {A = ℕ} 0 1 = cc in omega arith)
+
+  pub told : {d : D} (f : E → D) → ((e : E) (g : D) → Gives e g → g ≡ f e) → MatchResult r (λ y. m ≡ Ok y) (λ e. IsErrAnd m (Gives e))
+      → m ≡ Err d → (e : E) × (r ≡ Err e) × (d ≡ f e)
+  told {d} f makes = go r m
+    where
+      go : (r : Result T E) (m : Result T D) → MatchResult r (λ y. m ≡ Ok y) (λ e. IsErrAnd m (Gives e)) → m ≡ Err d
+          → (e : E) × (r ≡ Err e) × (d ≡ f e)
+      go (Ok y) m h e = absurd (let z : ◌≡◌ {A = ℕ} 0 1 = cc in omega arith)
+      go (Err x) (Ok y) h e = absurd h
+      go (Err x) (Err g) h e = let same : d ≡ g = cc in (x, refl, same ∙ makes x g h)
 
 module _ (s : List ℕ) (run : List (List ℕ)) where
   pub read_broken : (line : ℕ) → reading s ≡ read.Broken line

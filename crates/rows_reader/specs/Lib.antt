@@ -1,1 +1,2 @@
 pub mod Reading
+pub mod RowsRead

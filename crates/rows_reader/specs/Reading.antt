@@ -6,8 +6,7 @@ use Rattle.trace.specs.Trace.{trace_of}
 use Rattle.trace.specs.declared.Version.{Version}
 use Rattle.trace.specs.declared.Record.{Record}
 use Rattle.record_rows.specs.Rows.{row_of}
-use Rattle.rows_reader.specs.declared.RowsRead.{RowsRead}
-use Rattle.rows_reader.specs.declared.RowsRead.TheVariants.{Rows, Refused}
+use Rattle.rows_reader.specs.RowsRead.{RowsRead, Rows, Refused}
 
 -- the rows of some records
 unfoldable pub rows_of : List Record → List (List ℕ)

@@ -6,14 +6,7 @@ ghost use Rattle.trace.specs.Trace.{first_record, records_from, Boundary};
 ghost use Rattle.rows_reader.specs.Reading.{rows_of, in_front, read_of, rows_left};
 
 use kinds::Refusal;
-use trace::{Reading, RecordAt, Version};
-
-// The header of a trace and how many rows were written, or refusal 9 or 12, with nothing written.
-#[derive(Clone, Copy)]
-pub enum RowsRead {
-    Rows(Version, usize),
-    Refused(Refusal),
-}
+use trace::Version;
 
 // A row for each record of a text that was read, where the run has room for them.
 fn fill_rows(s: &[u8], rows: &mut [[u64; 6]])
@@ -22,37 +15,25 @@ fn fill_rows(s: &[u8], rows: &mut [[u64; 6]])
     ensures { rows.new ≡ in_front (rows_of (records_from s.now first_record)) rows.old }
 {
     let mut at = trace::first_record();
-    let mut i: usize = 0;
-    while at != s.len() {
-        let found = trace_lines::record_at(s, at);
-        match found {
-            RecordAt::Is(r, e) => {
-                let row = record_rows::row_of(r);
-                rows[i] = row;
-                at = e;
-                i += 1;
-            }
-            RecordAt::Broken(_) => {
-                return;
-            }
-        }
+    // Past the last record none is read.
+    for row in rows.iter_mut() {
+        let Ok((r, past)) = trace_lines::record_at(s, at) else {
+            return;
+        };
+        *row = record_rows::row_of(r);
+        at = past;
     }
 }
 
 // The rows of a text, at the run's start. Refusal 9, then 12; neither writes a row.
-pub fn read_rows(s: &[u8], rows: &mut [[u64; 6]]) -> RowsRead
+pub fn read_rows(s: &[u8], rows: &mut [[u64; 6]]) -> Result<(Version, usize), Refusal>
     ensures value { result ≡ read_of s.now (length rows.old) }
     ensures rows_after { rows.new ≡ rows_left s.now rows.old }
 {
-    let reading = trace_lines::read_trace(s);
-    match reading {
-        Reading::Broken(line) => RowsRead::Refused(Refusal::BadTrace(line as u64)),
-        Reading::Whole(version, n) => {
-            if rows.len() < n {
-                return RowsRead::Refused(Refusal::NoRoom);
-            }
-            fill_rows(s, rows);
-            RowsRead::Rows(version, n)
-        }
+    let (version, n) = trace_lines::read_trace(s).map_err(|line| Refusal::BadTrace(line as u64))?;
+    if rows.len() < n {
+        return Err(Refusal::NoRoom);
     }
+    fill_rows(s, rows);
+    Ok((version, n))
 }

@@ -1,7 +1,6 @@
-// The scans of the slots for one of them, over lent columns of any length.
+// The scans of the slots for one of them, over lent columns of any length. Eight slots are one turn, asked as a whole.
 #![tactic(auto)]
 
-mod eight;
 mod holder;
 mod lowest;
 

@@ -7,19 +7,17 @@ use native.Mathlib.Omega.{arith}
 use lib.ListN.{length, take, drop, length-take}
 use lib.Seq.{take-append_seam}
 use borrow.Author.Tests.{le-leb}
-use Rattle.kinds.specs.declared.refusal.Verdict.{Verdict}
-use Rattle.kinds.specs.declared.refusal.Verdict.TheVariants.{Pass, Refuse}
+use Rattle.kinds.specs.Verdicts.{Verdict, Pass, Refuse}
 use Rattle.settled.specs.Snapshots.{no_snapshot}
 use Rattle.model.specs.declared.Table.{Table}
-use Rattle.model.specs.Tally.{active, snapshot_of}
+use Rattle.model.specs.Tally.{snapshot_of}
 use Rattle.model.specs.Calls.{Call, begin, end, snap, own, oldest, vacuum, stamp, finish, pin, unpin}
 use Rattle.model.specs.Calls.{refusal, shown_accepted, shown_by, shown}
 use Rattle.model.specs.Answers.{numbers_of}
 use Rattle.model.specs.History.{reached}
 use Rattle.model.proofs.Tally.{active-length}
 use Rattle.model.proofs.Facts.{good-reached}
-use Rattle.text.specs.declared.Put.{Put}
-use Rattle.text.specs.declared.Put.TheVariants.{Past, NoRoom}
+use Rattle.text.specs.Put.{Put, Past, NoRoom}
 use Rattle.text.specs.Write.{spliced}
 use Rattle.trace.specs.declared.Version.{Version}
 use Rattle.trace.specs.declared.Version.TheVariants.{Proc1, Proc2, Proc3}
@@ -81,7 +79,7 @@ module _ (v : Version) (n : ℕ) (rows : List (List ℕ)) (row : List ℕ) {s : 
         let b : ◌≡◌ {A = ℕ} 0 1 = cc in
         omega arith
 
-    pub end_is :
+    end_is :
         {p : Put} {end : ℕ} → p ≡ put_text v n zeros 0 s.numbers.count (said_text v s) → p ≡ Past end →
         end ≡ length (said_text v s)
     unfolding put_text
@@ -91,7 +89,7 @@ module _ (v : Version) (n : ℕ) (rows : List (List ℕ)) (row : List ℕ) {s : 
         omega arith
 
     -- what stands in front is the second engine's text
-    pub front_is :
+    front_is :
         {buf : List ℕ} {end : ℕ} → buf ≡ left_text v n zeros 0 s.numbers.count (said_text v s) →
         end ≡ length (said_text v s) → take end buf ≡ second_text v n rows row
     unfolding left_text spliced
@@ -100,15 +98,28 @@ module _ (v : Version) (n : ℕ) (rows : List (List ℕ)) (row : List ℕ) {s : 
         rw (z, left) (take-append_seam (said_text v s) (drop (0 + length (said_text v s)) zeros) ∙ ap (said_text v) e)
 
     -- .. and all of it stands inside
-    pub front_count :
+    front_count :
         {buf : List ℕ} {end : ℕ} → buf ≡ left_text v n zeros 0 s.numbers.count (said_text v s) →
         end ≡ length (said_text v s) → end ≡ length (take end buf)
     front_count {buf} {end} q z = z ∙ ap (λ (u : Said). length (said_text v u)) e ∙ sym (ap length (front_is q z))
 
-    pub front_inside :
+    front_inside :
         {buf : List ℕ} {end : ℕ} → buf ≡ left_text v n zeros 0 s.numbers.count (said_text v s) →
         end ≡ length (said_text v s) → end ≤ length buf
     front_inside {buf} {end} q z = let m = length-take end buf in let k = front_count q z in omega arith
+
+    -- so the front of what was put is that text whole
+    pub record Stands (buf : List ℕ) (end : ℕ) : Type 0 where
+      pub front : take end buf ≡ second_text v n rows row
+      pub count : end ≡ length (take end buf)
+      pub inside : end ≤ length buf
+
+    pub stands :
+        {p : Put} {buf : List ℕ} {end : ℕ} → p ≡ put_text v n zeros 0 s.numbers.count (said_text v s) →
+        buf ≡ left_text v n zeros 0 s.numbers.count (said_text v s) → p ≡ Past end → Stands buf end
+    stands q l z =
+        let past = end_is q z in
+        record { front = front_is l past; count = front_count l past; inside = front_inside l past }
 
 -- it is what the call prints on the table that the list reaches, so what was printed there agrees
 pub prints_same :

@@ -3,31 +3,20 @@
 #![tactic(auto)]
 
 use kinds::{Stamp, Txid};
-use settled::Settled;
+use std::io;
 use table::{Answer, Table};
 
-fn say(words: &[u8], number: u64) {
-    io::write_all(1, words);
-    io::print_decimal(1, number);
-}
-
 // Whether a version that `ender` replaced may go. Beside a refusal none may.
-fn vacuum(t: Table, clock: u64, ender: Txid) -> Table {
+fn vacuum(rt: &impl Print, t: Table, clock: u64, ender: Txid) -> io::Result<Table> {
     let called = table::vacuum(t, clock, clock);
-    let answer = called.answer;
-    if let Answer::Line { line, holder } = answer {
-        say(b"line ", line);
-        say(b", holder ", holder);
-        if ender.0 < line {
-            io::write_all(1, b": the old tile goes\n");
-        } else {
-            io::write_all(1, b": the old tile stays\n");
-        }
+    if let Ok(Answer::Line { line, holder }) = called.answer {
+        let old = if ender.0 < line { "goes" } else { "stays" };
+        println!(rt; "line {line}, holder {holder}: the old tile {old}")?;
     }
-    called.table
+    Ok(called.table)
 }
 
-fn main() {
+fn host(rt: &impl Print) -> io::Result<()> {
     // The table, which the lock guards, and the shared clock: the next number to be given out.
     let mut t = table::fresh();
     let mut clock: u64 = 1;
@@ -35,9 +24,8 @@ fn main() {
     let begun = table::begin_transaction(t, Stamp(clock));
     clock += 1;
     t = begun.table;
-    let answer = begun.answer;
-    let Answer::Begun { slot, id: old } = answer else {
-        return;
+    let Ok(Answer::Begun { slot, id: old }) = begun.answer else {
+        return Ok(());
     };
     // It is done. Had it been given up, it would take back what it did, and then call `end_transaction`.
     let done = table::finish_transaction(t, slot, old, Stamp(clock));
@@ -47,31 +35,31 @@ fn main() {
     let begun = table::begin_transaction(t, Stamp(clock));
     clock += 1;
     t = begun.table;
-    let answer = begun.answer;
-    let Answer::Begun { slot, id: new } = answer else {
-        return;
+    let Ok(Answer::Begun { slot, id: new }) = begun.answer else {
+        return Ok(());
     };
     // A page opens while that one is at work, and pins what it sees. One load of the clock serves as clock and as sample.
     let page = table::create_pinned_snapshot(t, clock, clock);
     t = page.table;
-    let answer = page.answer;
-    let Answer::Pinned(pin) = answer else {
-        return;
+    let Ok(Answer::Pinned(pin)) = page.answer else {
+        return Ok(());
     };
     let done = table::finish_transaction(t, slot, new, Stamp(clock));
     clock += 1;
     t = done.table;
     // The page shows the second version if it may use it, else the first. This needs no lock.
-    let tile = match settled::is_settled(page.snapshot, new) {
-        Settled::Yes => new,
-        Settled::No => old,
-        Settled::Refused(_) => old,
-    };
-    say(b"the page shows the tile of ", tile.0);
-    io::write_all(1, b"\n");
-    t = vacuum(t, clock, new);
+    let may_use_new = settled::is_settled(page.snapshot, new).unwrap_or(false);
+    let tile = if may_use_new { new } else { old };
+    println!(rt; "the page shows the tile of {}", tile.0)?;
+    t = vacuum(rt, t, clock, new)?;
     // The page closes.
     let closed = table::release_pin(t, pin);
     t = closed.table;
-    vacuum(t, clock, new);
+    vacuum(rt, t, clock, new)?;
+    Ok(())
+}
+
+fn main(rt: HostRuntime) {
+    // Where a print fails, nobody is left to tell.
+    let _ = host(&rt);
 }

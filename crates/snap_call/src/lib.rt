@@ -5,29 +5,26 @@ ghost use Rattle.std.specs.Prelude.{◌≡◌};
 ghost use Rattle.model.specs.Tables.{lent_slots};
 ghost use Rattle.model.specs.Calls.{snap, snapshot_decision, snapshot_outcome};
 
-use kinds::{SLOTS, Verdict};
+use kinds::SLOTS;
 use model::{Answer, Change, Counters, SlotChange, SnapshotDecision, SnapshotOutcome, Table};
 use refused::refused_snapshot;
 
 // On lent txids. Refusals 7, 8, in this order.
+#[tactic(auto, using(model::proofs::Decides::shows), unfolding(model::specs::Calls::refusal, model::specs::Calls::change_accepted, model::specs::Calls::answer_accepted, model::specs::Calls::shown_accepted))]
 pub fn decide_snap(txids: &[u64], was: Counters, clock: u64, sample: u64) -> SnapshotDecision
     ensures { result ≡ snapshot_decision SLOTS (lent_slots SLOTS txids.now was) (snap clock sample) }
 {
-    let verdict = clock_verdicts::observation_test(was.clock, clock, sample);
-    match verdict {
-        Verdict::Refuse(r) => return refused_snapshot(was, r),
-        Verdict::Pass => {
-            let snapshot = taken_scans::take_snapshot(txids, sample);
-            let counters = counters::observed(was, clock, sample);
-            SnapshotDecision {
-                change: Change {
-                    slot: SlotChange::Stays,
-                    counters,
-                },
-                answer: Answer::Done,
-                snapshot,
-            }
-        }
+    // Not lent as `Columns`: by its parameters the contract says which columns the call can't read.
+    if let Err(refusal) = clock_verdicts::observation_test(was.clock, clock, sample) {
+        return refused_snapshot(was, refusal);
+    }
+    SnapshotDecision {
+        change: Change {
+            slot: SlotChange::Stays,
+            counters: counters::observed(was, clock, sample),
+        },
+        answer: Ok(Answer::Done),
+        snapshot: taken_scans::take_snapshot(txids, sample),
     }
 }
 
@@ -35,15 +32,6 @@ pub fn decide_snap(txids: &[u64], was: Counters, clock: u64, sample: u64) -> Sna
 pub fn create_snapshot(table: Table, clock: u64, sample: u64) -> SnapshotOutcome
     ensures { result ≡ snapshot_outcome SLOTS table (snap clock sample) }
 {
-    let was = table.counters;
-    let decided = decide_snap(&table.txids, was, clock, sample);
-    let change = decided.change;
-    let answer = decided.answer;
-    let snapshot = decided.snapshot;
-    let next = changes::apply(table, change);
-    SnapshotOutcome {
-        table: next,
-        answer,
-        snapshot,
-    }
+    let decided = decide_snap(&table.txids, table.counters, clock, sample);
+    changes::carry_out_snapshot(table, decided)
 }

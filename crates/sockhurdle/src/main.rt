@@ -7,26 +7,15 @@ const STDIN_FILENO: i32 = 0;
 
 const STDOUT_FILENO: i32 = 1;
 
-const STDERR_FILENO: i32 = 2;
-
-fn main() {
-    let status = exports::sockhurdle_run(STDIN_FILENO, STDOUT_FILENO);
-    if status == 1 {
-        io::write_all(
-            STDERR_FILENO,
-            b"sockhurdle: the output could not be written; what arrived is a beginning of it\n",
-        );
-    }
-    if status == 2 {
-        io::write_all(
-            STDERR_FILENO,
-            b"sockhurdle: the input could not be read; nothing was run\n",
-        );
-    }
-    if status == 3 {
-        io::write_all(
-            STDERR_FILENO,
-            b"sockhurdle: the input is no trace; nothing was run\n",
-        );
-    }
+fn main(rt: HostRuntime) {
+    // Where standard error can't be written either, nobody is left to tell.
+    // The statuses are the export's, which C takes as numbers.
+    let _told = match exports::sockhurdle_run(STDIN_FILENO, STDOUT_FILENO) {
+        1 => eprintln!(rt;
+            "sockhurdle: the output could not be written; what arrived is a beginning of it"
+        ),
+        2 => eprintln!(rt; "sockhurdle: the input could not be read; nothing was run"),
+        3 => eprintln!(rt; "sockhurdle: the input is no trace; nothing was run"),
+        _ => Ok(()),
+    };
 }

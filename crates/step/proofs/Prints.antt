@@ -1,26 +1,27 @@
 -- What is put for a decided call is what the call prints.
 use Prim.Native.Nat.{ℕ, ◌≤◌}
-use mathlib.Core.Path.{◌≡◌, refl, ap}
+use mathlib.Core.Path.{◌≡◌, refl, ap, ◌∙◌}
 use mathlib.Core.Bool.{false}
 use mathlib.Core.List.{List}
 use lib.ListN.{length}
 use borrow.Author.Tests.{le-leb}
 use Rattle.kinds.specs.declared.refusal.Refusal.{Refusal}
-use Rattle.kinds.specs.declared.refusal.Verdict.{Verdict}
-use Rattle.kinds.specs.declared.refusal.Verdict.TheVariants.{Pass, Refuse}
+use Rattle.kinds.specs.Verdicts.{Verdict, Pass, Refuse}
 use Rattle.settled.specs.Snapshots.{no_snapshot}
 use Rattle.model.specs.declared.Table.{Table}
 use Rattle.model.specs.declared.answer.Decision.{Decision}
 use Rattle.model.specs.declared.answer.SnapshotDecision.{SnapshotDecision}
 use Rattle.model.specs.Tables.{clock_of}
 use Rattle.model.specs.Tests.{observation_test}
-use Rattle.model.specs.Calls.{Call, pin, refusal, change_of, after, answer, shown_accepted, shown_by, shown, decision, snapshot_decision}
+use Rattle.model.specs.Calls.{Call, pin, refusal, after, shown_accepted, shown_by, shown, decision, snapshot_decision}
+use Rattle.model.specs.Changes.{refused_decision}
 use Rattle.model.specs.Deeds.{opens}
+use Rattle.std.specs.Result.{MatchResult}
 use Rattle.model.proofs.Decides.{refused_shows}
 use Rattle.trace.specs.declared.Version.{Version}
 use Rattle.output.specs.Output.{printed}
 use Rattle.step.specs.declared.Ran.{Ran}
-use Rattle.step.specs.Put.{refused_call, plain_ran, plain_left, listing_ran, listing_left}
+use Rattle.step.specs.Put.{listing_ran, listing_left, PlainPut, ListingPut}
 use Rattle.step.specs.Step.{ran, ran_left}
 
 -- a call that shows nothing where it is accepted shows nothing
@@ -39,33 +40,52 @@ pub refused-at_once :
 unfolding refusal
 refused-at_once n t clock sample e = rw e
 
--- a snapshot call that is refused lists nothing
+-- a snapshot call puts its text: one that is refused lists nothing, and what was decided where it passed is its decision
 module _
-    (v : Version) (n : ℕ) (t : Table) (c : Call) (xs : List ℕ) (at : ℕ) {r : Refusal} (free : opens c ≡ false)
-    (e : refusal n t c ≡ Refuse r) where
-  pub refused-ran : plain_ran v n (refused_call t.counters r) xs at ≡ listing_ran v n (snapshot_decision n t c) xs at
+    (v : Version) (n : ℕ) (t : Table) (c : Call) (xs : List ℕ) (at : ℕ) {ys : List ℕ} {o : Ran} (free : opens c ≡ false) where
+  refused-put :
+      {r : Refusal} → refusal n t c ≡ Refuse r → PlainPut v n (refused_decision t.counters r) xs at ys o →
+      ListingPut v n (snapshot_decision n t c) xs at ys o
   unfolding no_snapshot
-  refused-ran = ap (λ (d : SnapshotDecision). listing_ran v n d xs at) (refused_shows n t c free e)
+  refused-put e p =
+      let d = refused_shows n t c free e in
+      record {
+        ran = p.ran ∙ ap (λ (d : SnapshotDecision). listing_ran v n d xs at) d;
+        left = p.left ∙ ap (λ (d : SnapshotDecision). listing_left v n d xs at) d;
+      }
 
-  pub refused-left : plain_left v n (refused_call t.counters r) xs at ≡ listing_left v n (snapshot_decision n t c) xs at
-  unfolding no_snapshot
-  refused-left = ap (λ (d : SnapshotDecision). listing_left v n d xs at) (refused_shows n t c free e)
+  pub listing-put :
+      (Decided : SnapshotDecision → Type 0) (verdict : Verdict) →
+      ((d : SnapshotDecision) → Decided d → d ≡ snapshot_decision n t c) →
+      ((r : Refusal) → verdict ≡ Refuse r → refusal n t c ≡ Refuse r) →
+      MatchResult verdict (λ _. (d : SnapshotDecision) × Decided d × ListingPut v n d xs at ys o)
+      (λ r. PlainPut v n (refused_decision t.counters r) xs at ys o) →
+      ListingPut v n (snapshot_decision n t c) xs at ys o
+  listing-put Decided Pass is refused (d, decided, p) = rw (is d decided) at p
+  listing-put Decided (Refuse r) is refused p = refused-put (refused r refl) p
 
-module _ (v : Version) (n : ℕ) (t : Table) (c : Call) (few : length t.txids ≤ n) (xs : List ℕ) (at : ℕ) where
-  module _ {d : Decision} (e : d ≡ decision n t c) (none : shown_accepted n t c ≡ no_snapshot n) where
-    pub plain-ran : plain_ran v n d xs at ≡ ran v n t c xs at
-    unfolding decision after no_snapshot printed ran
-    plain-ran = rw (e, le-leb (length t.txids) n few, shows_none n t c none)
+-- what running a call promises
+pub record Prints (v : Version) (n : ℕ) (t : Table) (c : Call) (xs : List ℕ) (at : ℕ) (ys : List ℕ) (o : Ran) : Type 0 where
+  pub ran : o ≡ ran v n t c xs at
+  pub left : ys ≡ ran_left v n t c xs at
 
-    pub plain-left : plain_left v n d xs at ≡ ran_left v n t c xs at
-    unfolding decision after no_snapshot printed ran_left
-    plain-left = rw (e, le-leb (length t.txids) n few, shows_none n t c none)
+module _
+    {v : Version} {n : ℕ} {t : Table} {c : Call} {xs : List ℕ} {at : ℕ} {ys : List ℕ} {o : Ran} (few : length t.txids ≤ n) where
+  pub plain-prints :
+      {d : Decision} → d ≡ decision n t c → shown_accepted n t c ≡ no_snapshot n → PlainPut v n d xs at ys o →
+      Prints v n t c xs at ys o
+  unfolding decision after no_snapshot printed ran ran_left
+  plain-prints e none p =
+      record {
+        ran = p.ran ∙ rw (e, le-leb (length t.txids) n few, shows_none n t c none);
+        left = p.left ∙ rw (e, le-leb (length t.txids) n few, shows_none n t c none);
+      }
 
-  module _ {d : SnapshotDecision} (e : d ≡ snapshot_decision n t c) where
-    pub listing-ran : listing_ran v n d xs at ≡ ran v n t c xs at
-    unfolding snapshot_decision after printed ran
-    listing-ran = rw (e, le-leb (length t.txids) n few)
-
-    pub listing-left : listing_left v n d xs at ≡ ran_left v n t c xs at
-    unfolding snapshot_decision after printed ran_left
-    listing-left = rw (e, le-leb (length t.txids) n few)
+  pub listing-prints :
+      {d : SnapshotDecision} → d ≡ snapshot_decision n t c → ListingPut v n d xs at ys o → Prints v n t c xs at ys o
+  unfolding snapshot_decision after printed ran ran_left
+  listing-prints e p =
+      record {
+        ran = p.ran ∙ rw (e, le-leb (length t.txids) n few);
+        left = p.left ∙ rw (e, le-leb (length t.txids) n few);
+      }

@@ -1,75 +1,35 @@
 // The text of what was decided.
-ghost use Rattle.std.specs.Prelude.{◌≡◌};
-ghost use Rattle.step.specs.Put.{refused_call, plain_ran, plain_left, listing_ran, listing_left};
+ghost use Rattle.step.specs.Put.{PlainPut, ListingPut};
 
 use crate::Ran;
-use kinds::{Refusal, SLOTS};
-use table::{Answer, Change, Counters, Decision, SlotChange};
+use kinds::SLOTS;
+use table::{Decision, SnapshotDecision};
 use trace::Version;
 
 // Of a call that shows no snapshot.
 pub fn put_plain(version: Version, decided: Decision, buf: &mut [u8], at: usize) -> Ran
-    ensures result_value { result ≡ plain_ran version SLOTS decided buf.old at }
-    ensures buf_after { buf.new ≡ plain_left version SLOTS decided buf.old at }
+    ensures { PlainPut version SLOTS decided buf.old at buf.new result }
 {
+    let numbers = answer_numbers::plain_numbers(decided);
+    let put = output::put_answer(version, buf, at, numbers, &[]);
     let change = decided.change;
-    let answer = decided.answer;
-    let numbers = answer_numbers::numbers_of(answer, 0, 0, 0, change.counters.vacuum_line);
-    let no_ids = [0u64; 1];
-    let put = output::put_answer(version, buf, at, numbers, &no_ids);
     Ran { put, change }
 }
 
-// Of a snapshot call that is refused. It shows a snapshot of zeros, which no list is made for.
-pub fn put_refused(version: Version, was: Counters, r: Refusal, buf: &mut [u8], at: usize) -> Ran
-    ensures result_value { result ≡ plain_ran version SLOTS (refused_call was r) buf.old at }
-    ensures buf_after { buf.new ≡ plain_left version SLOTS (refused_call was r) buf.old at }
+// Of a snapshot call, which lists the ids in flight. What was decided is lent: by value its snapshot would be copied.
+pub fn put_listing(version: Version, decided: &SnapshotDecision, buf: &mut [u8], at: usize) -> Ran
+    ensures { ListingPut version SLOTS decided.now buf.old at buf.new result }
 {
-    let decided = Decision {
-        change: Change {
-            slot: SlotChange::Stays,
-            counters: was,
-        },
-        answer: Answer::Refused(r),
-    };
-    put_plain(version, decided, buf, at)
-}
-
-// Of a snapshot call, which lists the ids in flight. It takes the parts of what was decided, the ids lent: handed on whole, they
-// would be copied.
-pub fn put_listing(
-    version: Version,
-    change: Change,
-    answer: Answer,
-    xmin: u64,
-    xmax: u64,
-    count: usize,
-    ids: &[u64],
-    buf: &mut [u8],
-    at: usize,
-) -> Ran
-    ensures result_value { result ≡ listing_ran version SLOTS
-        (record {
-          change = change;
-          answer = answer;
-          snapshot = record { xmin = xmin; xmax = xmax; ids = ids.now; count = count };
-        })
-        buf.old at }
-    ensures buf_after { buf.new ≡ listing_left version SLOTS
-        (record {
-          change = change;
-          answer = answer;
-          snapshot = record { xmin = xmin; xmax = xmax; ids = ids.now; count = count };
-        })
-        buf.old at }
-{
+    let change = decided.change;
+    let line = change.counters.vacuum_line;
+    let shown = &decided.snapshot;
     let numbers = answer_numbers::numbers_of(
-        answer,
-        xmin,
-        xmax,
-        count,
-        change.counters.vacuum_line,
+        decided.answer,
+        shown.xmin,
+        shown.xmax,
+        shown.count,
+        line,
     );
-    let put = output::put_answer(version, buf, at, numbers, ids);
+    let put = output::put_answer(version, buf, at, numbers, &shown.ids);
     Ran { put, change }
 }

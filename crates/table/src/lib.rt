@@ -8,15 +8,15 @@ ghost use Rattle.std.specs.Prelude.{◌≡◌};
 ghost use Rattle.model.specs.Tables.{fresh_table};
 
 pub use begin_call::{begin_transaction, decide_begin};
-pub use changes::{apply, store_pin, store_txid, store_xmin};
+pub use changes::{apply, store, store_pin, store_txid, store_xmin};
 pub use clock_verdicts::observation_test;
 pub use end_call::{decide_end, end_transaction};
 pub use finish_call::{decide_finish, finish_transaction};
 pub use holds::{promise_holds, rows_hold};
 use kinds::SLOTS;
 pub use model::{
-    Answer, Change, Counters, Decision, Outcome, SlotChange, SnapshotDecision, SnapshotOutcome,
-    Table,
+    Answer, Change, Columns, Counters, Decision, Outcome, SlotChange, SnapshotDecision,
+    SnapshotOutcome, Table,
 };
 pub use oldest_call::{decide_oldest, oldest_snapshot_xmin};
 pub use own_call::{create_transaction_snapshot, decide_own, own_test};
@@ -30,13 +30,10 @@ pub use vacuum_call::{decide_vacuum, vacuum};
 pub fn fresh() -> Table
     ensures { result ≡ fresh_table SLOTS }
 {
-    let txids = kinds::zeros();
-    let snapshot_xmins = kinds::zeros();
-    let pins = kinds::free_pins();
     Table {
-        txids,
-        snapshot_xmins,
-        pins,
+        txids: kinds::zeros(),
+        snapshot_xmins: kinds::zeros(),
+        pins: kinds::free_pins(),
         counters: Counters {
             clock: 1,
             sampled_clock: 1,

@@ -7,30 +7,21 @@ mod slots;
 
 ghost use Rattle.std.specs.Prelude.{◌≡◌};
 ghost use Rattle.model.specs.Check.{table_passes};
-ghost use Rattle.model.specs.Tables.{lent};
+ghost use Rattle.model.specs.Tables.{lent_by};
 
 use kinds::SLOTS;
-use model::{Counters, Table};
+use model::{Columns, Table};
 
 // The check on lent columns of any length.
-pub fn check_columns<'a>(
-    txids: &'a [u64],
-    xmins: &'a [u64],
-    pins: &'a [u64],
-    counters: Counters,
-) -> bool
-    ensures { result ≡ table_passes SLOTS (lent txids.now xmins.now pins.now counters) }
+#[tactic(auto, unfolding(model::specs::Check::passes))]
+pub fn check_columns(columns: Columns<'_>) -> bool
+    ensures { result ≡ table_passes SLOTS (lent_by columns.entry) }
 {
-    let clock = counters.clock;
-    let line = counters.vacuum_line;
-    if numbers::numbers_pass(txids.len(), clock, counters.sampled_clock, line) {
-        if slots::slots_pass(txids, xmins, clock, line) {
-            if differ::txids_differ(txids) {
-                return pins::pins_pass(pins, clock, line);
-            }
-        }
-    }
-    false
+    let counters = columns.counters;
+    numbers::numbers_pass(columns.txids.len(), counters)
+        && slots::slots_pass(columns.txids, columns.snapshot_xmins, counters)
+        && differ::txids_differ(columns.txids)
+        && pins::pins_pass(columns.pins, counters)
 }
 
 // Whether a table passes the check (SPEC 6.1). Every table that calls from fresh leave does; not every table that
@@ -38,6 +29,5 @@ pub fn check_columns<'a>(
 pub fn check_table(table: Table) -> bool
     ensures { result ≡ table_passes SLOTS table }
 {
-    let counters = table.counters;
-    check_columns(&table.txids, &table.snapshot_xmins, &table.pins, counters)
+    check_columns(table.lend())
 }

@@ -3,22 +3,16 @@ ghost use Rattle.std.specs.Prelude.{◌≡◌};
 ghost use Rattle.model.specs.Check.{numbers_pass};
 
 use kinds::SLOTS;
+use model::Counters;
 
 // There are as many slots as a table has; 1 ≤ sample ≤ clock; 1 ≤ line ≤ clock.
-pub fn numbers_pass(size: usize, clock: u64, sample: u64, line: u64) -> bool
-    ensures { result ≡ numbers_pass SLOTS size clock sample line }
+pub fn numbers_pass(size: usize, counters: Counters) -> bool
+    ensures { result
+        ≡ numbers_pass SLOTS size counters.clock counters.sampled_clock counters.vacuum_line }
 {
-    if size != SLOTS {
-        return false;
-    }
-    if sample < 1 {
-        return false;
-    }
-    if clock < sample {
-        return false;
-    }
-    if line < 1 {
-        return false;
-    }
-    line <= clock
+    size == SLOTS
+        && 1 <= counters.sampled_clock
+        && counters.sampled_clock <= counters.clock
+        && 1 <= counters.vacuum_line
+        && counters.vacuum_line <= counters.clock
 }

@@ -1,44 +1,20 @@
 // The part of the check that reads the pins.
 ghost use Rattle.std.specs.Prelude.{◌≡◌};
-ghost use Rattle.model.specs.Check.{pin_passes, pins_pass, pin_column_passes};
+ghost use Rattle.model.specs.Check.{pin_passes, pin_column_passes};
 
 use kinds::PINS;
+use model::Counters;
 
 // A taken pin is from the line to the clock.
-pub fn pin_passes(xmin: u64, clock: u64, line: u64) -> bool
-    ensures { result ≡ pin_passes clock line xmin }
+fn pin_passes(xmin: u64, counters: Counters) -> bool
+    ensures { result ≡ pin_passes counters.clock counters.vacuum_line xmin }
 {
-    if xmin == 0 {
-        return true;
-    }
-    if xmin < line {
-        return false;
-    }
-    xmin <= clock
-}
-
-// Every pin passes.
-pub fn each_pin_passes(pins: &[u64], clock: u64, line: u64) -> bool
-    ensures { result ≡ pins_pass clock line pins.now }
-{
-    let mut i: usize = 0;
-    while i < pins.len() {
-        let good = pin_passes(pins[i], clock, line);
-        i += 1;
-        if good {
-            continue;
-        }
-        return false;
-    }
-    true
+    xmin == 0 || (counters.vacuum_line <= xmin && xmin <= counters.clock)
 }
 
 // There are as many pins as a table has, and every one passes.
-pub fn pins_pass(pins: &[u64], clock: u64, line: u64) -> bool
-    ensures { result ≡ pin_column_passes clock line pins.now }
+pub fn pins_pass(pins: &[u64], counters: Counters) -> bool
+    ensures { result ≡ pin_column_passes counters.clock counters.vacuum_line pins.now }
 {
-    if pins.len() != PINS {
-        return false;
-    }
-    each_pin_passes(pins, clock, line)
+    pins.len() == PINS && pins.iter().all(|&xmin| pin_passes(xmin, counters))
 }

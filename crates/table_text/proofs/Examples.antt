@@ -2,7 +2,7 @@
 use mathlib.Core.Path.{◌≡◌, refl}
 use Prim.Native.Nat.{ℕ, zero, suc}
 use mathlib.Core.List.{List, [], ◌∷◌, ◌++◌}
-use lib.ListN.{replicate, set}
+use lib.ListN.{set}
 use Rattle.kinds.specs.Kinds.{free_pins}
 use Rattle.model.specs.declared.Table.{Table}
 use Rattle.model.specs.Tables.{counted, lent}
@@ -34,8 +34,8 @@ slots = header ++ bytes "txid=1\nxmin=1\ntxid=2\nxmin=1\n"
 record Read : Type 0 where
   text : table_text two ≡ (bytes "table=proc-1\ntxid=12\nxmin=7\ntxid=0\nxmin=0\n" ++ pinned ++ bytes "clock=20\nsample=15\nline=3\n")
   good : table_of 2 (bytes "table=proc-1\ntxid=12\nxmin=7\ntxid=0\nxmin=0\n" ++ pinned ++ bytes "clock=20\nsample=15\nline=3\n") ≡ whole two
-  -- beside a broken text stands a table of zeros; nothing at all is line 1
-  empty : table_of 2 [] ≡ record { table = lent (replicate 2 0) (replicate 2 0) free_pins (counted 0 0 0); broken = 1 }
+  -- nothing at all is line 1
+  empty : table_of 2 [] ≡ broken_at 2 1
   -- the header of a trace, a later version, no newline
   header_other : table_of 2 (bytes "trace=proc-1\n") ≡ broken_at 2 1
   header_later : table_of 2 (bytes "table=proc-2\n") ≡ broken_at 2 1
@@ -66,7 +66,7 @@ record Read : Type 0 where
 read : Read
 unfolding
     free_pins pin_rules pin_numbers table_text lines_under table_rules numbers_of line_texts joined line_text number_text decimal decimal_in
-    table_of table_from broken_at lines_at field_at number_at number_from number_tail starts
+    table_of table_from lines_at field_at number_at number_from number_tail starts
 read = record {
   text = refl;
   good = refl;

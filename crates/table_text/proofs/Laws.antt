@@ -1,7 +1,7 @@
 -- The text of a table is read as that table, and a text that is read as a table is its text.
-use Prim.Native.Nat.{ℕ, zero, suc, ◌+◌, ◌*◌, ◌≤◌, ◌<◌}
+use Prim.Native.Nat.{ℕ, zero, suc, ◌+◌}
 use native.Mathlib.Omega.{arith}
-use mathlib.Core.Path.{◌≡◌, refl, sym, ap, ◌∙◌}
+use mathlib.Core.Path.{◌≡◌, refl, sym, ap, subst, ◌∙◌}
 use mathlib.Core.Bool.{Bool, true, false, cond}
 use mathlib.Core.List.{List, [], ◌∷◌, ◌++◌, append-nil}
 use lib.Dec.{eqb}
@@ -15,10 +15,9 @@ use Rattle.model.specs.Tables.{lent}
 use Rattle.text.specs.Bytes.{starts}
 use Rattle.text.specs.Line.{Lines, Read, Breaks, Within, none, also, line_texts, joined, lines_at}
 use Rattle.text.proofs.Bytes.{starts_of, starts_text}
-use Rattle.text.proofs.Lines.{lines_of, lines_text, lines_open}
+use Rattle.text.proofs.Lines.{lines_of, lines_text}
 use Rattle.table_text.specs.TableText.{header, first_slot, pin_rules, table_rules, pin_numbers, numbers_of, lines_under, table_text, Expressible}
 use Rattle.table_text.specs.TableText.{counters_from, with_slot, table_from, broken_at, whole, past_last, lines_read, table_of}
-use Rattle.table_text.specs.declared.TableRead.{TableRead}
 
 -- pins and counters and their numbers are one for one
 pin-places : (pins : List ℕ) (c : Counters) → take (length pins) (pin_numbers pins c) ≡ pins
@@ -49,7 +48,7 @@ places_none zero ns w = refl
 places_none (suc m) _ (also {n = x} {ns = ns} _ _ w) = ap suc (places_none m ns w)
 
 -- numbers and tables of n slots are one for one
-from-numbers : (n : ℕ) (xs ys pins : List ℕ) (c : Counters) → length xs ≡ n → length ys ≡ n → length pins ≡ pin_count
+pub from-numbers : (n : ℕ) (xs ys pins : List ℕ) (c : Counters) → length xs ≡ n → length ys ≡ n → length pins ≡ pin_count
     → table_from n (numbers_of xs ys pins c) ≡ lent xs ys pins c
 unfolding table_from numbers_of
 from-numbers zero [] [] pins c h k l = from_none pins c l
@@ -100,7 +99,9 @@ table_of_text n t x =
 
 -- so no two tables that it can express have one text
 pub one_table : (n : ℕ) (t u : Table) → Expressible n t → Expressible n u → table_text t ≡ table_text u → t ≡ u
-one_table n t u x y e = ap (λ (r : TableRead). r.table) (sym (table_of_text n t x) ∙ ap (table_of n) e ∙ table_of_text n u y)
+one_table n t u x y e =
+    let same = sym (table_of_text n t x) ∙ ap (table_of n) e ∙ table_of_text n u y in
+    cc
 
 -- a text that is read as a table is its text
 pub record Accepted (n : ℕ) (s : List ℕ) (t : Table) : Type 0 where
@@ -123,23 +124,23 @@ module _ (n : ℕ) (s : List ℕ) where
         expressible = record { txids = places.0; xmins = places.1; pins = pins; numbers = rw same lines.within };
       }
 
-  pub text_of_table : (table_of n s).broken ≡ 0 → Accepted n s (table_of n s).table
-  unfolding table_of broken_at
-  text_of_table = head (starts header s) refl
+  pub text_of_table : (t : Table) → table_of n s ≡ whole t → Accepted n s t
+  unfolding table_of
+  text_of_table t = head (starts header s) refl
     where
       ended : (ns : List ℕ) (e : ℕ) → starts header s ≡ true → lines_at s first_slot 2 (table_rules n pin_count) ≡ Read ns e
-          → (b : Bool) → eqb e (length s) ≡ b → (cond b (whole (table_from n ns)) (broken_at n (past_last n))).broken ≡ 0
-          → Accepted n s (cond b (whole (table_from n ns)) (broken_at n (past_last n))).table
-      ended ns e h q false l z = absurd (omega arith)
-      ended ns e h q true l z = read_whole ns e h q (eqb-true e (length s) l)
+          → (b : Bool) → eqb e (length s) ≡ b → cond b (whole (table_from n ns)) (broken_at n (past_last n)) ≡ whole t → Accepted n s t
+      ended ns e h q false l z = absurd cc
+      ended ns e h q true l z =
+          let same : table_from n ns ≡ t = cc in
+          subst (Accepted n s) same (read_whole ns e h q (eqb-true e (length s) l))
 
-      under : starts header s ≡ true → (x : Lines) → lines_at s first_slot 2 (table_rules n pin_count) ≡ x → (lines_read n s x).broken ≡ 0
-          → Accepted n s (lines_read n s x).table
+      under : starts header s ≡ true → (x : Lines) → lines_at s first_slot 2 (table_rules n pin_count) ≡ x → lines_read n s x ≡ whole t
+          → Accepted n s t
       under h (Read ns e) q z = ended ns e h q (eqb e (length s)) refl z
-      under h (Breaks k) q z = absurd (omega (arith, (lines_open (table_rules n pin_count) s first_slot 2 k q).which))
+      under h (Breaks k) q z = absurd cc
 
       head : (b : Bool) → starts header s ≡ b
-          → (cond b (lines_read n s (lines_at s first_slot 2 (table_rules n pin_count))) (broken_at n 1)).broken ≡ 0
-          → Accepted n s (cond b (lines_read n s (lines_at s first_slot 2 (table_rules n pin_count))) (broken_at n 1)).table
-      head false h z = absurd (omega arith)
+          → cond b (lines_read n s (lines_at s first_slot 2 (table_rules n pin_count))) (broken_at n 1) ≡ whole t → Accepted n s t
+      head false h z = absurd cc
       head true h z = under h (lines_at s first_slot 2 (table_rules n pin_count)) refl z

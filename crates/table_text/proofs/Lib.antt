@@ -1,3 +1,3 @@
-pub mod Reading
 pub mod Laws
+mod Reading
 mod Examples

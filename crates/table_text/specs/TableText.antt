@@ -1,6 +1,6 @@
 -- The text of a table, and what is read of a text (SPEC 16.4).
-use Rattle.std.specs.Prelude.{ℕ, zero, suc, ◌+◌, ◌*◌, ◌≡◌, cond, List, [], ◌∷◌, ◌++◌, eqb, length, replicate, get_or, take, drop}
-use Rattle.kinds.specs.Kinds.{pin_count, free_pins}
+use Rattle.std.specs.Prelude.{ℕ, zero, suc, ◌+◌, ◌*◌, ◌≡◌, cond, List, [], ◌∷◌, ◌++◌, eqb, length, get_or, take, drop, Result, Ok, Err}
+use Rattle.kinds.specs.Kinds.{pin_count}
 use Rattle.model.specs.declared.Counters.{Counters}
 use Rattle.model.specs.declared.Table.{Table}
 use Rattle.model.specs.Tables.{counted, lent}
@@ -8,7 +8,6 @@ use Rattle.text.specs.Bytes.{bytes, starts}
 use Rattle.text.specs.Keys.{txid_key, xmin_key, clock_key, sample_key, line_key}
 use Rattle.text.specs.Line.{Rule, Lines, Read, Breaks, Within, line_texts, joined, lines_at}
 use Rattle.text.specs.FiveLines.{most}
-use Rattle.table_text.specs.declared.TableRead.{TableRead}
 
 -- line 1, and the place past it
 abbrev pub header : List ℕ
@@ -72,12 +71,15 @@ unfoldable pub table_from : ℕ → List ℕ → Table
 table_from zero ns = lent [] [] (take pin_count ns) (counters_from (drop pin_count ns))
 table_from (suc n) ns = with_slot (get_or ns 0 0) (get_or ns 1 0) (table_from n (drop 2 ns))
 
--- beside a text that breaks a rule stands a table of zeros
-unfoldable pub broken_at : ℕ → ℕ → TableRead
-broken_at n line = record { table = lent (replicate n 0) (replicate n 0) free_pins (counted 0 0 0); broken = line }
+-- what a text is read as: a table, or the first line that breaks a rule
+abbrev pub TableRead : Type 0
+TableRead = Result Table ℕ
+
+abbrev pub broken_at : ℕ → ℕ → TableRead
+broken_at n line = Err line
 
 abbrev pub whole : Table → TableRead
-whole t = record { table = t; broken = 0 }
+whole t = Ok t
 
 -- nothing stands past the last line; what does is on the line after it
 abbrev pub past_last : ℕ → ℕ

@@ -1,23 +1,11 @@
 // The lines of a table's text, written at a place where the caller has seen that they have room.
-ghost use Rattle.std.specs.Prelude.{◌+◌, ◌≤◌, ◌≡◌, length};
-ghost use Rattle.text.specs.Line.{line_text};
+ghost use Rattle.std.specs.Prelude.{◌+◌, ◌≤◌, length};
 ghost use Rattle.text.specs.Placed.{Placed};
 ghost use Rattle.table_text.specs.TableText.{header, lines_under};
 ghost use Rattle.table_measure.specs.Lines.{slot_lines, counter_lines, pin_lines};
 
-use model::Counters;
-use text::Put;
-
-fn line(buf: &mut [u8], at: usize, key: &[u8], n: u64) -> usize
-    requires { at + length (line_text key.now n) ≤ length buf.old }
-    ensures { Placed buf.old at (line_text key.now n) buf.new result }
-{
-    let put = text_writer::put_line(buf, at, key, n);
-    match put {
-        Put::Past(end) => end,
-        Put::NoRoom => at,
-    }
-}
+use model::{Counters, Table};
+use text_writer::line;
 
 // Line 1 is a key and a number too.
 pub fn first_line(buf: &mut [u8], at: usize) -> usize
@@ -45,41 +33,25 @@ fn counter_lines(buf: &mut [u8], at: usize, counters: Counters) -> usize
 }
 
 // The lines after the slots: pin after pin, then the counters.
-fn pin_lines(buf: &mut [u8], at: usize, pins: &[u64], counters: Counters) -> usize
-    requires { at + length (pin_lines pins.now counters) ≤ length buf.old }
-    ensures { Placed buf.old at (pin_lines pins.now counters) buf.new result }
+fn pin_lines(buf: &mut [u8], at: usize, table: &Table) -> usize
+    requires { at + length (pin_lines table.now.pins table.now.counters) ≤ length buf.old }
+    ensures { Placed buf.old at (pin_lines table.now.pins table.now.counters) buf.new result }
 {
     let mut past = at;
-    let mut k: usize = 0;
-    while k < pins.len() {
-        let xmin = pins[k];
+    for &xmin in &table.pins {
         past = line(buf, past, b"pin=", xmin);
-        k += 1;
     }
-    counter_lines(buf, past, counters)
+    counter_lines(buf, past, table.counters)
 }
 
 // All lines under line 1: slot after slot, then those of pins and counters.
-pub fn lines_under<'a>(
-    buf: &mut [u8],
-    at: usize,
-    txids: &'a [u64],
-    xmins: &'a [u64],
-    pins: &'a [u64],
-    counters: Counters,
-) -> usize
-    requires xmins_len { length xmins.now ≡ length txids.now }
-    requires counters_in_bounds { at + length (lines_under txids.now xmins.now pins.now counters) ≤ length buf.old }
-    ensures { Placed buf.old at
-        (lines_under txids.now xmins.now pins.now counters) buf.new result }
+pub fn lines_under(buf: &mut [u8], at: usize, table: &Table) -> usize
+    requires { let t = table.now in at + length (lines_under t.txids t.snapshot_xmins t.pins t.counters) ≤ length buf.old }
+    ensures { let t = table.now in Placed buf.old at (lines_under t.txids t.snapshot_xmins t.pins t.counters) buf.new result }
 {
     let mut past = at;
-    let mut i: usize = 0;
-    while i < txids.len() {
-        let txid = txids[i];
-        let xmin = xmins[i];
+    for (&txid, &xmin) in table.txids.iter().zip(&table.snapshot_xmins) {
         past = slot_lines(buf, past, txid, xmin);
-        i += 1;
     }
-    pin_lines(buf, past, pins, counters)
+    pin_lines(buf, past, table)
 }

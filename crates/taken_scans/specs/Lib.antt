@@ -1,2 +1,2 @@
-pub mod Empty
+pub mod Found
 pub mod Taken

@@ -1,7 +1,7 @@
-// What the taken slots hold, over lent columns of any length: the oldest xmin, and the ids of a snapshot.
+// What the taken slots hold, over lent columns of any length: the oldest xmin, and the ids of a snapshot. Eight slots are one turn, and
+// a turn of empty slots is passed over whole.
 #![tactic(auto)]
 
-mod eight;
 mod oldest;
 mod snapshot;
 

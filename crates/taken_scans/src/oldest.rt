@@ -2,32 +2,41 @@
 ghost use Rattle.std.specs.Prelude.{◌≡◌};
 ghost use Rattle.model.specs.Tally.{oldest_of};
 
-use crate::eight::all_empty;
-use turns::shorter;
+// The smallest of `low` and the snapshot_xmin of those of these slots that are taken.
+fn lowest_among<'a>(txids: &'a [u64], xmins: &'a [u64], low: u64) -> u64
+    ensures { result ≡ oldest_of txids.now xmins.now low }
+{
+    let mut lowest = low;
+    for (txid, xmin) in txids.iter().zip(xmins) {
+        if *txid != 0 {
+            lowest = lowest.min(*xmin);
+        }
+    }
+    lowest
+}
+
+// The same of one turn. Never inlined: where the compiler sees the slots read beside the comparison of the eight, it compares them one by
+// one, and a scan of empty slots takes twice the time.
+#[inline(never)]
+fn lowest_in_turn<'a>(txids: &'a [u64; 8], xmins: &'a [u64; 8], low: u64) -> u64
+    ensures { result ≡ oldest_of txids.now xmins.now low }
+{
+    lowest_among(txids, xmins, low)
+}
 
 // The smallest of the sample and the snapshot_xmin of taken slots.
 pub fn oldest_retained<'a>(txids: &'a [u64], xmins: &'a [u64], sample: u64) -> u64
     ensures { result ≡ oldest_of txids.now xmins.now sample }
 {
-    let end = shorter(txids.len(), xmins.len());
+    let end = txids.len().min(xmins.len());
+    let (turns, rest) = txids[..end].as_chunks::<8>();
+    let (beside, beside_rest) = xmins[..end].as_chunks::<8>();
     let mut low = sample;
-    let mut i: usize = 0;
-    while i < end {
-        let left = end - i;
-        if 8 <= left {
-            if all_empty(txids, i) {
-                i += 8;
-                continue;
-            }
+    for (eight, retained) in turns.iter().zip(beside) {
+        if turns::holds_only(eight, 0) {
+            continue;
         }
-        let stop = i + shorter(8, left);
-        while i < stop {
-            let at = i;
-            i += 1;
-            if txids[at] != 0 {
-                low = kinds::lesser(low, xmins[at]);
-            }
-        }
+        low = lowest_in_turn(eight, retained, low);
     }
-    low
+    lowest_among(rest, beside_rest, low)
 }

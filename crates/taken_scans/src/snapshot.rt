@@ -1,13 +1,12 @@
 // The scan that the snapshot calls make.
-ghost use Rattle.std.specs.Prelude.{◌≡◌, length, take};
+ghost use Rattle.std.specs.Prelude.{◌≡◌, ◌+◌, ◌≤◌, length, take};
 ghost use Rattle.std.proofs.lemmas.List.Edits.{sets};
 ghost use Rattle.model.specs.Tally.{active, snapshot_of};
+ghost use Rattle.taken_scans.specs.Found.{found_in};
 ghost use Rattle.taken_scans.specs.Taken.{taken_of};
 
-use crate::eight::all_empty;
 use kinds::SLOTS;
 use settled::Snapshot;
-use turns::shorter;
 
 // A snapshot without its ids.
 #[derive(Clone, Copy)]
@@ -17,51 +16,65 @@ pub struct Taken {
     pub count: usize,
 }
 
+// What a scan has found so far: how many ids, the smallest of the sample and them, and the largest of them.
+#[derive(Clone, Copy)]
+struct Found {
+    count: usize,
+    low: u64,
+    high: u64,
+}
+
+// The ids of those of these slots that are taken, written after the ids that were found before.
+fn gather(slots: &[u64], before: Found, ids: &mut [u64]) -> Found
+    requires { before.count + length slots.now ≤ length ids.old }
+    ensures value { result ≡ found_in slots.now before }
+    ensures ids_after { ids.new ≡ sets ids.old before.count (active slots.now) }
+{
+    let mut found = before;
+    for &id in slots {
+        if id != 0 {
+            ids[found.count] = id;
+            found.count += 1;
+            found.low = found.low.min(id);
+            found.high = found.high.max(id);
+        }
+    }
+    found
+}
+
 // A snapshot with this sample, into a lent run: the ids go into the first places, the others stay. A slot past the run's places is
 // not read.
 pub fn take_into(txids: &[u64], sample: u64, ids: &mut [u64]) -> Taken
     ensures value { result ≡ taken_of (take (length ids.old) txids.now) sample }
     ensures ids_after { ids.new ≡ sets ids.old 0 (active (take (length ids.old) txids.now)) }
 {
-    let end = shorter(ids.len(), txids.len());
-    let mut count: usize = 0;
-    let mut low = sample;
-    let mut high: u64 = 0;
-    let mut i: usize = 0;
-    while i < end {
-        let left = end - i;
-        if 8 <= left {
-            if all_empty(txids, i) {
-                i += 8;
-                continue;
-            }
+    let end = ids.len().min(txids.len());
+    let (turns, rest) = txids[..end].as_chunks::<8>();
+    let mut found = Found {
+        count: 0,
+        low: sample,
+        high: 0,
+    };
+    for eight in turns {
+        if turns::holds_only(eight, 0) {
+            continue;
         }
-        let stop = i + shorter(8, left);
-        while i < stop {
-            let id = txids[i];
-            i += 1;
-            if id == 0 {
-                continue;
-            }
-            ids[count] = id;
-            count += 1;
-            low = kinds::lesser(low, id);
-            high = kinds::greater(high, id);
-        }
+        found = gather(eight, found, ids);
     }
-    if count == 0 {
+    found = gather(rest, found, ids);
+    if found.count == 0 {
         return Taken {
-            xmin: low,
+            xmin: found.low,
             xmax: sample,
-            count,
+            count: found.count,
         };
     }
-    let above = kinds::saturating_next(high);
-    let xmax = kinds::greater(sample, above);
+    let above = found.high.saturating_add(1);
+    let xmax = sample.max(above);
     Taken {
-        xmin: low,
+        xmin: found.low,
         xmax,
-        count,
+        count: found.count,
     }
 }
 

@@ -1,15 +1,18 @@
 -- Facts of a fixed byte string at the front of a text.
-use Prim.Native.Nat.{ℕ, ◌+◌, ◌≤◌, ◌<◌}
+use Prim.Native.Nat.{ℕ, min, ◌+◌, ◌≤◌, ◌<◌}
 use native.Mathlib.Omega.{arith}
 use native.Mathlib.Decide.{dec_lt}
-use native.Mathlib.Numerals.{add-one}
 use mathlib.Core.Path.{◌≡◌, refl, sym, ap, ap₂, ◌∙◌}
 use mathlib.Core.List.{List, [], ◌∷◌, ◌++◌}
 use mathlib.Core.Bool.{Bool, true, false, ◌&&◌, false≢true}
 use lib.Dec.{eqb}
-use lib.ListN.{length, drop, get_or, drop_of_length-le, length-drop, length-append}
-use lib.Seq.{drop-cons}
-use borrow.Author.Tests.{eq-eqb, ne_eqb, eqb-true}
+use lib.ListN.{length, take, drop, drop_of_length-le, length-drop, length-append}
+use borrow.Author.Tests.{eq-eqb, eqb-true}
+use Rattle.std.specs.Cmp.Lexicographic.{pointwise}
+use Rattle.std.specs.Prelude.{nat_eq}
+use Rattle.std.proofs.lemmas.Bool.Decides.{nat_tests}
+use Rattle.std.specs.List.{starts_with, between}
+use Rattle.std.proofs.lemmas.Slice.{between_to_end}
 use Rattle.text.specs.Bytes.{starts}
 
 -- the key at the front is found
@@ -42,27 +45,24 @@ starts_within k s at most h g e = go (dec_lt 0 (length k))
     go (yes l) = omega (arith, starts_room k s at l e)
     go (no l) = omega arith
 
--- where there is no room only the empty key stands
-pub starts-past : (k s : List ℕ) (at : ℕ) → length s < at + length k → starts k (drop at s) ≡ eqb (length k) 0
+same_test : (b c : ℕ) → nat_eq b c ≡ eqb c b
+same_test b c = grind (arith, nat_tests)
+
+-- what the library's test for a front says, in this crate's word
+pub starts_pointwise : (k s : List ℕ) → pointwise nat_eq k (take (length k) s) ≡ starts k s
 unfolding starts
-starts-past [] s at h = refl
-starts-past (b ∷ k) s at h = go (starts (b ∷ k) (drop at s)) refl ∙ sym (ne_eqb (length (b ∷ k)) 0 (λ x. omega arith))
+starts_pointwise [] [] = refl
+starts_pointwise [] (b ∷ s) = refl
+starts_pointwise (b ∷ k) [] = refl
+starts_pointwise (b ∷ k) (c ∷ s) = ap₂ (λ (x y : Bool). x && y) (same_test b c) (starts_pointwise k s)
+
+-- the part of a text from a place on, or from its end on where the place is past it
+rest_from : (s : List ℕ) (at i : ℕ) → i ≡ min at (length s) → between i (length s) s ≡ drop at s
+rest_from s at i e = between_to_end s i (length s) (omega arith) ∙ go (dec_lt at (length s))
   where
-    go : (x : Bool) → starts (b ∷ k) (drop at s) ≡ x → x ≡ false
-    go false e = refl
-    go true e = absurd (omega (arith, starts_room (b ∷ k) s at (omega arith) e))
+    go : Dec (at < length s) → drop i s ≡ drop at s
+    go (yes l) = ap (λ (n : ℕ). drop n s) (omega arith)
+    go (no l) = let past : length s ≤ i = omega arith in rw (drop_of_length-le s) (sym (drop_of_length-le s (omega arith)))
 
--- one step of the comparison, at indices
-pub starts-end : (k : List ℕ) (j : ℕ) (t : List ℕ) → length k ≤ j → starts (drop j k) t ≡ true
-unfolding starts
-starts-end k j t h = rw (drop_of_length-le k)
-
-module _ (k s : List ℕ) (j i : ℕ) where
-  pub starts_same : j < length k → i < length s → get_or s i 0 ≡ get_or k j 0
-      → starts (drop j k) (drop i s) ≡ starts (drop (j + 1) k) (drop (i + 1) s)
-  unfolding starts
-  starts_same h g e = rw (drop-cons k j 0, drop-cons s i 0, eq-eqb (get_or s i 0) (get_or k j 0) e) (simp add-one)
-
-  pub starts_other : j < length k → i < length s → (get_or s i 0 ≡ get_or k j 0 → ⊥) → starts (drop j k) (drop i s) ≡ false
-  unfolding starts
-  starts_other h g e = rw (drop-cons k j 0, drop-cons s i 0, ne_eqb (get_or s i 0) (get_or k j 0) e)
+pub starts_part : (k s : List ℕ) (at i : ℕ) → i ≡ min at (length s) → starts_with nat_eq (between i (length s) s) k ≡ starts k (drop at s)
+starts_part k s at i e = rw (rest_from s at i e) (starts_pointwise k (drop at s))

@@ -7,6 +7,8 @@ use mathlib.Core.Path.{◌≡◌, refl, sym, ap, ◌∙◌}
 use mathlib.Core.List.{List, [], ◌∷◌, ◌++◌}
 use lib.ListN.{length, length-append}
 use borrow.Author.Tests.{lt-ltb, le-ltb}
+use Rattle.std.specs.Option.{unwrap_or, IfNone, IfSome}
+use Rattle.std.specs.Prelude.{Option, Some, None}
 use Rattle.text.specs.Decimal.{decimal_in, decimal, number_text}
 
 -- more places than needed change nothing
@@ -89,6 +91,12 @@ length_from (suc k) n h = go (dec_lt n 10) (length_from k (n / 10) (omega (arith
     go : Dec (n < 10) → k < length (decimal (n / 10)) → suc k < length (decimal n)
     go (yes l) ih = absurd (omega (arith, grown, power_some k))
     go (no l) ih = omega (arith, length_more n (omega arith))
+
+-- so the logarithm says how many digits there are, and 0 has one
+pub length_by_log : (n : ℕ) (log : Option ℕ) → IfNone log (n ≡ 0) → IfSome log (λ k. 10 ^ k ≤ n) → IfSome log (λ k. n < 10 * 10 ^ k)
+    → unwrap_or log 0 + 1 ≡ length (decimal n)
+length_by_log n None z low high = omega (arith, length_small n (omega arith))
+length_by_log n (Some k) z low high = omega (arith, length_from k n low, length_below k n (rw pow-suc (omega arith)))
 
 pub length-word : (n : ℕ) → n < 2 ^ 64 → length (decimal n) ≤ 20
 length-word n h = length_below 19 n (omega arith)

@@ -2,7 +2,7 @@
 use mathlib.Core.Path.{◌≡◌, refl}
 use Rattle.text.specs.Bytes.{bytes}
 use Rattle.text.specs.Decimal.{decimal_in, decimal, number_tail, number_from, number_at}
-use Rattle.text.specs.declared.Number.TheVariants.{Is, Bad}
+use Rattle.text.specs.Number.{Is, Bad}
 
 -- 2^64 - 1 is printed
 most-printed : decimal 18446744073709551615 ≡ bytes "18446744073709551615"

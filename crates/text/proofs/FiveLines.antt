@@ -1,20 +1,19 @@
 -- Five lines are read as their numbers, what is read is their text, and a broken line is the first that breaks a rule.
-use Prim.Native.Nat.{ℕ, suc, ◌+◌, ◌^◌, ◌≤◌, ◌<◌}
+use Prim.Native.Nat.{ℕ, ◌+◌, ◌^◌, ◌≤◌, ◌<◌}
 use native.Mathlib.Omega.{arith}
 use mathlib.Core.Path.{◌≡◌, refl, sym, ap, subst, ◌∙◌}
 use mathlib.Core.List.{List, [], ◌++◌}
 use mathlib.Core.Bool.{Bool, true, false}
 use lib.ListN.{length, take, drop}
 use Rattle.text.specs.Line.{joined, Within, none, also, Lines, Read, Breaks, line_texts, field_at, lines_at}
-use Rattle.text.specs.Keys.{slot_key, id_key, clock_key, sample_key}
-use Rattle.text.specs.FiveLines.{most, most_slot, limit, field_rules, numbers_of, values_of, Fits, five_lines, as_fields, fields_at}
-use Rattle.text.specs.declared.Number.{Number}
-use Rattle.text.specs.declared.Number.TheVariants as number
+use Rattle.text.specs.FiveLines.{most_slot, limit, field_rules, numbers_of, values_of, Fits, five_lines, as_fields, fields_at}
+use Rattle.text.specs.Number.{Number}
+use Rattle.text.specs.Number as number
 use Rattle.text.specs.declared.Reads.{Reads}
 use Rattle.text.specs.declared.Values.{Values}
-use Rattle.text.specs.declared.Fields.TheVariants.{Are, Broken}
+use Rattle.text.specs.Fields.{Are, Broken}
 use Rattle.text.proofs.Places.{There}
-use Rattle.text.proofs.Lines.{field_text, zeros, zeros_within, lines_of, lines_text, lines_open, Opening, lines_late}
+use Rattle.text.proofs.Lines.{field_text, zeros, zeros_within, lines_of, lines_text, lines_open, lines_late}
 
 limit-at-most : (b : Bool) (m : ℕ) → limit b m ≤ m
 unfolding limit
@@ -67,8 +66,9 @@ module _ (fourth : List ℕ) (reads : Reads) where
       go (Breaks k) q h = absurd (no_fields k v e h)
       go (Read ns b) q h =
           let t = lines_text (field_rules fourth reads) s at 2 ns b q in
-          let same : values_of ns ≡ v = cc in
-          let past : b ≡ e = cc in
+          let both : ◌≡◌ {A = Values × ℕ} (values_of ns, b) (v, e) = cc in
+          let same : values_of ns ≡ v = ap (λ (x : Values × ℕ). x.0) both in
+          let past : b ≡ e = ap (λ (x : Values × ℕ). x.1) both in
           let lines = joined (line_texts (field_rules fourth reads) (numbers_of (values_of ns))) in
           let here : There s at lines b = rw (← made ns t.within) t.text in
           rw (← same, ← past) (record { text = here; fits = fits-made ns t.within })
@@ -117,49 +117,3 @@ module _ (fourth : List ℕ) (reads : Reads) where
       go (Breaks j) q h =
           let same : j ≡ k = cc in
           lines_late (field_rules fourth reads) (numbers_of v) i s at 2 k rest w e (q ∙ ap Breaks same)
-
--- the definition, one line at a time
-module _ (s : List ℕ) (at : ℕ) (fourth : List ℕ) (reads : Reads) where
-  abbrev pub slot_at : Number
-  slot_at = field_at s at slot_key (limit reads.slot most_slot)
-
-  abbrev pub id_at : ℕ → Number
-  id_at a = field_at s a id_key (limit reads.id most)
-
-  abbrev pub fourth_at : ℕ → Number
-  fourth_at a = field_at s a fourth (limit reads.fourth most)
-
-  abbrev pub clock_at : ℕ → Number
-  clock_at a = field_at s a clock_key (limit reads.clock most)
-
-  abbrev pub sample_at : ℕ → Number
-  sample_at a = field_at s a sample_key (limit reads.clock most)
-
-  pub broken_slot : slot_at ≡ number.Bad → fields_at s at fourth reads ≡ Broken 2
-  unfolding fields_at field_rules lines_at
-  broken_slot x = rw x
-
-  module _ {n a : ℕ} (slot : slot_at ≡ number.Is n a) where
-    pub broken_id : id_at a ≡ number.Bad → fields_at s at fourth reads ≡ Broken 3
-    unfolding fields_at field_rules lines_at
-    broken_id x = rw (slot, x)
-
-    module _ {i b : ℕ} (id : id_at a ≡ number.Is i b) where
-      pub broken_fourth : fourth_at b ≡ number.Bad → fields_at s at fourth reads ≡ Broken 4
-      unfolding fields_at field_rules lines_at
-      broken_fourth x = rw (slot, id, x)
-
-      module _ {f c : ℕ} (third : fourth_at b ≡ number.Is f c) where
-        pub broken_clock : clock_at c ≡ number.Bad → fields_at s at fourth reads ≡ Broken 5
-        unfolding fields_at field_rules lines_at
-        broken_clock x = rw (slot, id, third, x)
-
-        module _ {k d : ℕ} (clock : clock_at c ≡ number.Is k d) where
-          pub broken_sample : sample_at d ≡ number.Bad → fields_at s at fourth reads ≡ Broken 6
-          unfolding fields_at field_rules lines_at
-          broken_sample x = rw (slot, id, third, clock, x)
-
-          pub all_five : {m e : ℕ} → sample_at d ≡ number.Is m e
-              → fields_at s at fourth reads ≡ Are (record { slot = n; id = i; fourth = f; clock = k; sample = m }) e
-          unfolding fields_at field_rules lines_at
-          all_five x = rw (slot, id, third, clock, x)

@@ -4,11 +4,11 @@ use native.Mathlib.Omega.{arith}
 use mathlib.Core.Path.{◌≡◌, refl, sym, ap, ◌∙◌}
 use mathlib.Core.List.{List, [], ◌∷◌, ◌++◌, append_assoc}
 use mathlib.Core.Bool.{Bool, true, false, cond}
+use Rattle.std.proofs.lemmas.Option.{some_pair_parts}
 use lib.Dec.{leb}
 use lib.ListN.{length, take, drop, length-append}
 use borrow.Author.Tests.{ne_eqb, le-leb, leb-true}
-use Rattle.text.specs.declared.Number.{Number}
-use Rattle.text.specs.declared.Number.TheVariants.{Is, Bad}
+use Rattle.text.specs.Number.{Number, Is, Bad}
 use Rattle.text.specs.Decimal.{decimal, number_text, number_at}
 use Rattle.text.specs.Bytes.{starts}
 use Rattle.text.specs.Line.{line_text, at_most, field_at, Rule, line_texts, one_line, joined, Within, none, also}
@@ -46,7 +46,7 @@ field_text s at key n most e = go (starts key (drop at s)) refl
     limit x y false l q k h = absurd (no_number n e h)
     limit x y true l q k h =
         let t = text_of (drop past s) past n e (q ∙ h) in
-        let same : x ≡ n = cc in
+        let same = (some_pair_parts x n y e h).0 in
         record {
           text = then s at key past (number_text n) e k (there s (number_text n) t.rest past e t.text t.past);
           small = omega (arith, leb-true x most l);

@@ -1,18 +1,18 @@
 -- A number's text is read as that number, and what is read as a number is its text.
 use Prim.Native.Nat.{ℕ, ◌+◌, ◌-◌, ◌*◌, ◌/◌, ◌%◌, ◌^◌, ◌≤◌, ◌<◌}
 use native.Mathlib.Omega.{arith}
-use native.Mathlib.Decide.{dec_lt}
 use native.Mathlib.Nat.{add-sub_cancel_left}
 use native.Mathlib.Numerals.{add-one}
 use mathlib.Core.Path.{◌≡◌, refl, sym, ap, ap₂, ◌∙◌}
 use mathlib.Core.List.{List, [], ◌∷◌, ◌++◌, append_assoc}
 use mathlib.Core.Bool.{Bool, true, false, cond, ◌&&◌, false≢true}
+use Rattle.std.proofs.lemmas.Option.{some_pair_parts}
 use lib.Dec.{leb, ltb, eqb}
 use lib.ListN.{length, drop, get_or, length-append, drop_of_length-le}
 use lib.Seq.{drop-cons}
-use borrow.Author.Tests.{eq-eqb, ne_eqb, le-leb, lt-leb, lt-ltb, le-ltb, leb-true, ltb-true, eqb-true}
+use borrow.Author.Tests.{eq-eqb, ne_eqb, le-leb, lt-ltb, leb-true, ltb-true, eqb-true}
 use Rattle.text.specs.Decimal.{decimal, number_text, is_digit, goes_on, number_tail, number_from, number_at}
-use Rattle.text.specs.declared.Number.TheVariants.{Is, Bad}
+use Rattle.text.specs.Number.{Is, Bad}
 use Rattle.text.proofs.Decimal.{decimal_small, decimal_more, by_tens, length_text}
 
 -- one step of reading, at an index
@@ -33,24 +33,20 @@ module _ (s : List ℕ) (i : ℕ) where
   unfolding number_tail
   tail_ends n h e = rw (drop-cons s i 0, eq-eqb (get_or s i 0) 10 e)
 
-  pub tail_goes : (n : ℕ) (x : Bool) → i < length s → (get_or s i 0 ≡ 10 → ⊥) → goes_on n (get_or s i 0) ≡ x
-      → number_tail (drop i s) n i ≡ cond x (number_tail (drop (i + 1) s) (n * 10 + (get_or s i 0 - 48)) (i + 1)) Bad
+  pub tail_stops : (n : ℕ) → i < length s → (get_or s i 0 ≡ 10 → ⊥) → goes_on n (get_or s i 0) ≡ false → number_tail (drop i s) n i ≡ Bad
   unfolding number_tail
-  tail_goes n x h e g = rw (drop-cons s i 0, ne_eqb (get_or s i 0) 10 e, g) (simp add-one)
+  tail_stops n h e g = rw (drop-cons s i 0, ne_eqb (get_or s i 0) 10 e, g)
+
+  pub tail_goes : (n : ℕ) → i < length s → (get_or s i 0 ≡ 10 → ⊥) → goes_on n (get_or s i 0) ≡ true
+      → number_tail (drop i s) n i ≡ number_tail (drop (i + 1) s) (n * 10 + (get_or s i 0 - 48)) (i + 1)
+  unfolding number_tail
+  tail_goes n h e g = rw (drop-cons s i 0, ne_eqb (get_or s i 0) 10 e, g) (simp add-one)
+
+-- one step of reading, where a byte is known
+pub ruleset reading = (start_none, start_step, tail_none, tail_ends, tail_goes)
 
 pub goes : (n b : ℕ) → 48 ≤ b → b ≤ 57 → 0 < n → n * 10 + (b - 48) < 2 ^ 64 → goes_on n b ≡ true
 goes n b lo hi pos fits = simp (le-leb 48 b lo, le-leb b 57 hi, lt-ltb 0 n pos, lt-ltb (n * 10 + (b - 48)) (2 ^ 64) fits)
-
--- a tenth of 2^64 - 1, in hand, goes on with a digit up to 5
-pub goes_last : (n b : ℕ) → n ≡ 1844674407370955161 → 48 ≤ b → b ≤ 57 → leb b 53 ≡ goes_on n b
-goes_last n b e lo hi = go (dec_lt 53 b)
-  where
-    go : Dec (53 < b) → leb b 53 ≡ goes_on n b
-    go (yes l) =
-        let some = lt-ltb 0 n (omega arith) in
-        let large = le-ltb (n * 10 + (b - 48)) (2 ^ 64) (omega arith) in
-        simp (lt-leb b 53 l, le-leb 48 b lo, le-leb b 57 hi, some, large)
-    go (no l) = le-leb b 53 (omega arith) ∙ sym (goes n b lo hi (omega arith) (omega arith))
 
 -- reading the digits of n leaves what stands after them, with n in hand
 Reads : ℕ → Type 0
@@ -133,12 +129,12 @@ tail_text (b ∷ bs) n at m e fits h = go (eqb b 10) (goes_on n b) refl refl (ta
         → (k < 2 ^ 64 → number_tail bs k (at + length (decimal k)) ≡ Is m e → Spelt (decimal k ++ bs) at m e)
         → cond x (Is n past) (cond y (number_tail bs k past) Bad) ≡ Is m e → Spelt (decimal n ++ b ∷ bs) at m e
     go true y p q ih h =
-        let same : n ≡ m = cc in
-        let place : at + length (decimal n) + 1 ≡ e = cc in
+        let parts = some_pair_parts n m past e h in
+        let same = parts.0 in
         record {
           rest = bs;
           text = rw (eqb-true b 10 p, same, text_then);
-          past = omega (arith, length_text m, ap (λ (x : ℕ). length (decimal x)) same);
+          past = omega (arith, parts.1, length_text m, ap (λ (x : ℕ). length (decimal x)) same);
           fits = omega arith;
         }
     go false false p q ih h = absurd (no_number m e h)

@@ -1,15 +1,15 @@
 -- Texts that are placed one after the other where they have room.
-use Prim.Native.Nat.{ℕ, ◌+◌, ◌≤◌}
+use Prim.Native.Nat.{ℕ, ◌+◌, ◌≤◌, ◌<◌}
 use native.Mathlib.Omega.{arith}
 use mathlib.Core.Path.{◌≡◌, sym, ap, ◌∙◌}
 use mathlib.Core.List.{List, ◌++◌}
 use lib.ListN.{length, length-append}
-use Rattle.text.specs.declared.Put.{Put}
-use Rattle.text.specs.declared.Put.TheVariants.{Past, NoRoom}
+use Rattle.std.specs.Option.{unwrap_or}
+use Rattle.text.specs.Put.{Put, Past, NoRoom}
 use Rattle.text.specs.Line.{line_text}
 use Rattle.text.specs.Write.{spliced, put_at, written}
 use Rattle.text.specs.Placed.{Placed}
-use Rattle.text.proofs.Splice.{splice_length, splice_append, room}
+use Rattle.text.proofs.Splice.{splice_length, splice_append, room, no_room}
 
 -- a line that was put where it has room, and was put
 pub line_placed : (xs : List ℕ) (at : ℕ) (key : List ℕ) (n : ℕ) {ys : List ℕ} {put : Put} {past : ℕ}
@@ -27,6 +27,24 @@ line_there xs at key n h p e =
     let r = room xs at (line_text key n) h in
     let z : ◌≡◌ {A = ℕ} 0 1 = cc in
     omega arith
+
+-- a line that was put or not, and the place past it or its own
+module _ (xs : List ℕ) (at : ℕ) (key : List ℕ) (n : ℕ) {ys : List ℕ} {put : Put} {past : ℕ}
+    (p : put ≡ put_at xs at (line_text key n)) (w : ys ≡ written xs at (line_text key n)) (e : past ≡ unwrap_or put at) where
+  pub line_with_room : at + length (line_text key n) ≤ length xs → Placed xs at (line_text key n) ys past
+  line_with_room h =
+      let r = room xs at (line_text key n) h in
+      let left : ys ≡ spliced xs at (line_text key n) = w ∙ sym r.1 in
+      record {
+        left = left;
+        size = ap length left ∙ splice_length xs at (line_text key n) h;
+        end = e ∙ rw (p, ← r.0);
+      }
+
+  pub line_with_none : length xs < at + length (line_text key n) → (ys ≡ xs) × (past ≡ at)
+  line_with_none h =
+      let r = no_room xs at (line_text key n) h in
+      (w ∙ sym r.1, e ∙ rw (p, ← r.0))
 
 -- one text after another, and an equal text
 pub placed_then : {xs ys zs t u : List ℕ} {at p q : ℕ} → at ≤ length xs → Placed xs at t ys p → Placed ys p u zs q

@@ -1,18 +1,21 @@
 -- Facts of a text spliced into a buffer.
-use Prim.Native.Nat.{ℕ, suc, ◌+◌, ◌/◌, ◌%◌, ◌≤◌, ◌<◌}
+use Prim.Native.Nat.{ℕ, suc, ◌+◌, ◌-◌, ◌/◌, ◌%◌, ◌≤◌, ◌<◌}
 use native.Mathlib.Omega.{arith}
+use native.Mathlib.Decide.{dec_lt}
 use native.Mathlib.Nat.{add-suc, add-zero, add_assoc}
 use native.Mathlib.Numerals.{add-one}
-use mathlib.Core.Path.{◌≡◌, sym, ap, ◌∙◌}
+use mathlib.Core.Path.{◌≡◌, refl, sym, ap, ap₂, ◌∙◌}
 use mathlib.Core.List.{List, [], ◌∷◌, ◌++◌, append_assoc, append-nil}
 use lib.ListN.{length, take, drop, set, get_or, length-append, length-take, length-drop, take-append-drop}
-use lib.Seq.{set_at, drop-cons, length-take-le, take-suc, take_at, drop-append-add, drop-drop}
+use lib.Seq.{take_all, set_at, drop-cons, length-take-le, take-suc, take_at, drop-append-add, drop-drop}
 use borrow.Author.Tests.{le-leb, lt-leb}
-use Rattle.text.specs.declared.Put.TheVariants.{Past, NoRoom}
+use borrow.Rule.Slice.PartMut.{put_mid}
+use Rattle.std.proofs.lemmas.Slice.{put_mid-paste}
+use Rattle.text.specs.Put.{Past, NoRoom}
 use Rattle.text.specs.Decimal.{decimal, number_text}
 use Rattle.text.specs.Line.{line_text}
 use Rattle.text.specs.Write.{spliced, put_at, written}
-use Rattle.text.proofs.Decimal.{decimal_small, decimal_more, length_more, length_small}
+use Rattle.text.proofs.Decimal.{decimal_small, decimal_more, length_some, length_more, length_small}
 
 pub splice_length : (xs : List ℕ) (at : ℕ) (t : List ℕ) → at + length t ≤ length xs → length (spliced xs at t) ≡ length xs
 unfolding spliced
@@ -52,13 +55,12 @@ splice_append xs at t u h =
     ∙ drop-drop (length u) (at + length t) xs in
     rw (take_at (take at xs ++ t) (drop (at + length t) xs) (at + length t) l, d) (simp (append_assoc, length-append, add_assoc))
 
-pub splice_take : (xs : List ℕ) (at : ℕ) (t : List ℕ) (i : ℕ) → at + length t ≤ length xs → i < length t
-    → set (spliced xs at (take i t)) (at + i) (get_or t i 0) ≡ spliced xs at (take (i + 1) t)
-splice_take xs at t i h g =
-    let l : length (take i t) ≡ i = length-take-le i t (omega arith) in
-    ap (λ (k : ℕ). set (spliced xs at (take i t)) (at + k) (get_or t i 0)) (sym l)
-    ∙ splice_more xs at (take i t) (get_or t i 0) (omega arith)
-    ∙ rw (add-one, take-suc t i 0)
+-- what a part of a buffer holds once a text has been copied into it
+pub splice_part : (xs : List ℕ) (at k : ℕ) (ys t : List ℕ) → ys ≡ t → k ≡ length t → put_mid at k xs ys ≡ spliced xs at t
+unfolding spliced
+splice_part xs at k ys t e h =
+    put_mid-paste at k xs ys t (length t) e (sym h) refl
+    ∙ ap (λ (u : List ℕ). take at xs ++ u ++ drop (at + length t) xs) (take_all (length t) t (omega arith))
 
 -- the answer and the buffer, with room and without
 pub no_room : (xs : List ℕ) (at : ℕ) (t : List ℕ) → length xs < at + length t
@@ -71,34 +73,66 @@ pub room : (xs : List ℕ) (at : ℕ) (t : List ℕ) → at + length t ≤ lengt
 unfolding put_at written
 room xs at t h = (rw (le-leb (at + length t) (length xs) h), rw (le-leb (at + length t) (length xs) h))
 
--- the digits of n written from the back: those of `left` are still to come, the next one at i
+-- the digits of n written from the back, down to i: all of them at `at`, and above it those of `left` are still to come
 pub record Backwards (xs : List ℕ) (at n : ℕ) (ys : List ℕ) (left i : ℕ) : Type 0 where
   pub done : List ℕ
-  pub digits : decimal n ≡ decimal left ++ done
-  pub place : i + 1 ≡ at + length (decimal left)
-  pub left_there : ys ≡ spliced xs (i + 1) done
+  pub left_there : ys ≡ spliced xs i done
+  pub from : at ≤ i
+  pub whole : i ≤ at → done ≡ decimal n
+  pub digits : at < i → decimal n ≡ decimal left ++ done
+  pub place : at < i → i ≡ at + length (decimal left)
 
-pub back_none : (xs : List ℕ) (at n i : ℕ) → i + 1 ≡ at + length (decimal n) → Backwards xs at n xs n i
-back_none xs at n i h = record { done = []; digits = sym (append-nil (decimal n)); place = h; left_there = splice_none xs (i + 1) }
+pub back_none : (xs : List ℕ) (at n i : ℕ) → i ≡ at + length (decimal n) → Backwards xs at n xs n i
+back_none xs at n i h = record {
+  done = [];
+  left_there = splice_none xs i;
+  from = omega arith;
+  whole = λ z. absurd (omega (arith, length_some n));
+  digits = λ z. sym (append-nil (decimal n));
+  place = λ z. h;
+}
 
-pub back_more : (xs : List ℕ) (at n : ℕ) (ys : List ℕ) (left i j : ℕ) → 10 ≤ left → i ≡ j + 1 → i < length xs → Backwards xs at n ys left i
-    → Backwards xs at n (set ys i (48 + left % 10)) (left / 10) j
-back_more xs at n ys left i j h e l b =
-    let digit = 48 + left % 10 in
-    let one_more = splice_front xs i b.done digit l in
-    record {
-      done = digit ∷ b.done;
-      digits = b.digits ∙ rw (decimal_more left h, append_assoc);
-      place = omega (arith, b.place, length_more left h);
-      left_there = rw (b.left_there, add-one) (one_more ∙ ap (λ (k : ℕ). spliced xs k (digit ∷ b.done)) (omega arith));
-    }
+pub back_more : (xs : List ℕ) (at n : ℕ) (ys : List ℕ) (left i : ℕ) → at < i → i ≤ length xs → Backwards xs at n ys left i
+    → Backwards xs at n (set ys (i - 1) (48 + left % 10)) (left / 10) (i - 1)
+back_more xs at n ys left i h l b = go (dec_lt left 10)
+  where
+    done : List ℕ
+    done = (48 + left % 10) ∷ b.done
 
-pub back_last : (xs : List ℕ) (at n : ℕ) (ys : List ℕ) (left i : ℕ) → left < 10 → i < length xs
-    → Backwards xs at n ys left i → set ys i (48 + left) ≡ spliced xs at (decimal n)
-back_last xs at n ys left i h l b =
-    let k : i ≡ at = omega (arith, b.place, length_small left h) in
-    let text : decimal n ≡ (48 + left) ∷ b.done = b.digits ∙ ap (λ (x : List ℕ). x ++ b.done) (decimal_small left h) in
-    rw (b.left_there, add-one, text, ← k) (splice_front xs i b.done (48 + left) l)
+    there : set ys (i - 1) (48 + left % 10) ≡ spliced xs (i - 1) done
+    there =
+        let before : i ≡ suc (i - 1) = omega arith in
+        let was : ys ≡ spliced xs (suc (i - 1)) b.done = b.left_there ∙ ap (λ (k : ℕ). spliced xs k b.done) before in
+        rw was (splice_front xs (i - 1) b.done (48 + left % 10) (omega arith))
+
+    go : Dec (left < 10) → Backwards xs at n (set ys (i - 1) (48 + left % 10)) (left / 10) (i - 1)
+    go (yes small) =
+        let digit : 48 + left ≡ 48 + left % 10 = omega arith in
+        let last : i ≡ at + 1 = omega (arith, b.place h, length_small left small) in
+        record {
+          done = done;
+          left_there = there;
+          from = omega arith;
+          whole = λ z. sym (b.digits h ∙ rw (decimal_small left small) (ap (λ (k : ℕ). k ∷ b.done) digit));
+          digits = λ z. absurd (omega (arith, last));
+          place = λ z. absurd (omega (arith, last));
+        }
+    go (no large) =
+        let ten : 10 ≤ left = omega arith in
+        let before : i ≡ at + length (decimal (left / 10)) + 1 = omega (arith, b.place h, length_more left ten) in
+        record {
+          done = done;
+          left_there = there;
+          from = omega arith;
+          whole = λ z. absurd (omega (arith, before, length_some (left / 10)));
+          digits = λ z. b.digits h ∙ rw (decimal_more left ten, append_assoc);
+          place = λ z. omega (arith, before);
+        }
+
+pub back_last : (xs : List ℕ) (at n : ℕ) (ys : List ℕ) (left i : ℕ) → i ≤ at → Backwards xs at n ys left i → ys ≡ spliced xs at (decimal n)
+back_last xs at n ys left i h b =
+    let here : i ≡ at = omega (arith, b.from) in
+    b.left_there ∙ ap₂ (spliced xs) here (b.whole h)
 
 -- a key, then a number's digits, then the newline
 pub line-written : (xs : List ℕ) (at : ℕ) (key : List ℕ) (n : ℕ) → at + length (line_text key n) ≤ length xs

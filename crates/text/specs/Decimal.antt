@@ -1,7 +1,6 @@
 -- A number as text: what is printed, and what is read.
 use Rattle.std.specs.Prelude.{ℕ, zero, suc, ◌+◌, ◌-◌, ◌*◌, ◌/◌, ◌%◌, ◌^◌, Bool, true, false, cond, ◌&&◌, List, [], ◌∷◌, ◌++◌, leb, ltb, eqb, drop}
-use Rattle.text.specs.declared.Number.{Number}
-use Rattle.text.specs.declared.Number.TheVariants.{Is, Bad}
+use Rattle.text.specs.Number.{Number, Is, Bad}
 
 -- the digits of n, at most k + 1 of them
 unfoldable pub decimal_in : ℕ → ℕ → List ℕ

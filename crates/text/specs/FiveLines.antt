@@ -4,8 +4,7 @@ use Rattle.text.specs.Keys.{slot_key, id_key, clock_key, sample_key}
 use Rattle.text.specs.Line.{Rule, Lines, Read, Breaks, Within, line_texts, lines_at}
 use Rattle.text.specs.declared.Reads.{Reads}
 use Rattle.text.specs.declared.Values.{Values}
-use Rattle.text.specs.declared.Fields.{Fields}
-use Rattle.text.specs.declared.Fields.TheVariants.{Are, Broken}
+use Rattle.text.specs.Fields.{Fields, Are, Broken}
 
 abbrev pub most : ℕ
 most = 2 ^ 64 - 1

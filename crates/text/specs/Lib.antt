@@ -1,7 +1,10 @@
-pub mod Decimal
 pub mod Bytes
+pub mod Decimal
+pub mod Fields
+pub mod FiveLines
 pub mod Keys
 pub mod Line
-pub mod Write
+pub mod Number
 pub mod Placed
-pub mod FiveLines
+pub mod Put
+pub mod Write

@@ -1,7 +1,6 @@
 -- Lines of a key and a number: their text, and what is read of a text.
 use Rattle.std.specs.Prelude.{ℕ, ◌+◌, ◌^◌, ◌≤◌, ◌<◌, Bool, false, cond, List, [], ◌∷◌, ◌++◌, leb, eqb, length, drop}
-use Rattle.text.specs.declared.Number.{Number}
-use Rattle.text.specs.declared.Number.TheVariants.{Is, Bad}
+use Rattle.text.specs.Number.{Number, Is, Bad}
 use Rattle.text.specs.Decimal.{number_text, number_at}
 use Rattle.text.specs.Bytes.{starts}
 

@@ -1,7 +1,6 @@
 -- A text written into a buffer at a place.
 use Rattle.std.specs.Prelude.{ℕ, ◌+◌, Bool, cond, List, ◌++◌, leb, length, take, drop}
-use Rattle.text.specs.declared.Put.{Put}
-use Rattle.text.specs.declared.Put.TheVariants.{Past, NoRoom}
+use Rattle.text.specs.Put.{Put, Past, NoRoom}
 
 -- xs with t in the place of what stood from `at` on; what stands before and past it stays
 unfoldable pub spliced : List ℕ → ℕ → List ℕ → List ℕ

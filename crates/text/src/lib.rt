@@ -4,24 +4,10 @@
 
 mod read;
 
-pub use read::{bytes_at, field_at};
-
-// What stands at a place: a number, with the place past its newline, or none.
-#[derive(Clone, Copy)]
-pub enum Number {
-    Is(u64, usize),
-    Bad,
-}
-
-// What writing at a place did: the place past what was written, or nothing for want of room.
-#[derive(Clone, Copy)]
-pub enum Put {
-    Past(usize),
-    NoRoom,
-}
+pub use read::{bytes_at, field_at, named_at, past_bytes};
 
 // Which of an item's five numbers may be other than 0. `clock` and `sample` are read together.
-#[derive(Clone, Copy)]
+#[derive(Clone, Copy, Debug, PartialEq, Eq)]
 pub struct Reads {
     pub slot: bool,
     pub id: bool,
@@ -29,20 +15,21 @@ pub struct Reads {
     pub clock: bool,
 }
 
+impl Reads {
+    pub const NONE: Reads = Reads {
+        slot: false,
+        id: false,
+        fourth: false,
+        clock: false,
+    };
+}
+
 // The five numbers.
-#[derive(Clone, Copy)]
+#[derive(Clone, Copy, Debug, PartialEq, Eq)]
 pub struct Values {
     pub slot: u16,
     pub id: u64,
     pub fourth: u64,
     pub clock: u64,
     pub sample: u64,
-}
-
-// What five lines at a place are: their numbers, with the place past them, or the first line that
-// breaks a rule, from 2 to 6.
-#[derive(Clone, Copy)]
-pub enum Fields {
-    Are(Values, usize),
-    Broken(usize),
 }

@@ -8,18 +8,17 @@ use borrow.Author.Tests.{ltb-false}
 use Rattle.kinds.specs.declared.Txid.{Txid}
 use Rattle.kinds.specs.declared.refusal.Refusal.{Refusal}
 use Rattle.kinds.specs.declared.refusal.Refusal.TheVariants.{BadLength}
-use Rattle.kinds.specs.declared.refusal.Verdict.{Verdict}
-use Rattle.kinds.specs.declared.refusal.Verdict.TheVariants.{Pass, Refuse}
-use Rattle.kinds.specs.Verdicts.{then, zero_test}
+use Rattle.kinds.specs.Verdicts.{Verdict, Pass, Refuse, then, zero_test}
 use Rattle.kinds.proofs.Unique.{told_unique, told_positive}
 use Rattle.kinds.proofs.Verdicts.{then_pass, not_refused}
 use Rattle.settled.specs.declared.Snapshot.{Snapshot}
-use Rattle.usable.specs.declared.Usable.TheVariants.{Yes, No, Refused as Unanswered}
+use Rattle.usable.specs.Usable.{Yes, No, Refused as Unanswered, UsableAnswer, paper_usable, usable_in, usable_by, usable_test}
 use Rattle.settled.specs.Settled.{count_test}
-use Rattle.usable.specs.Usable.{UsableAnswer, paper_usable, usable_in, usable_by, usable_test}
-use Rattle.tiles.specs.declared.Choice.{Choice}
-use Rattle.tiles.specs.declared.Choice.TheVariants.{Newer, Older, Refused}
+use Rattle.tiles.specs.Choice.{Choice, Newer, Older, Refused}
 use Rattle.tiles.specs.Tiles.{length_test, fitted, chosen, choice}
+use Rattle.std.specs.Prelude.{Ok}
+use Rattle.tiles.specs.declared.Coding.{Coding}
+use Rattle.tiles.specs.declared.Coding.TheVariants as coding
 
 abbrev usable_of : UsableAnswer → Bool
 usable_of a = a.usable
@@ -68,6 +67,13 @@ newer_passed (Refuse r) b e = absurd (let z : ◌≡◌ {A = ℕ} 0 1 = cc in om
 older_passed : (v : Verdict) (b : Bool) → chosen v b ≡ Older → v ≡ Pass
 older_passed Pass b e = refl
 older_passed (Refuse r) b e = absurd (let z : ◌≡◌ {A = ℕ} 0 1 = cc in omega arith)
+
+-- an answer that hands out a coding
+pub newer_is : {d : Choice} {k : Coding} → d ≡ Ok k → k ≡ coding.Newer → d ≡ Newer
+newer_is p q = p ∙ ap Ok q
+
+pub older_is : {d : Choice} {k : Coding} → d ≡ Ok k → k ≡ coding.Older → d ≡ Older
+older_is p q = p ∙ ap Ok q
 
 module _ (n : ℕ) (shown : Snapshot) (own maker : Txid) (older olderUsed newer newerUsed : ℕ) where
   -- the three parts of which the choice is made

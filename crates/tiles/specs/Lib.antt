@@ -1,1 +1,2 @@
+pub mod Choice
 pub mod Tiles

@@ -1,17 +1,15 @@
 -- Which of a tile's two codings a decoder gets (SPEC 7.4), and the part of memory that it is handed.
-use Rattle.std.specs.Prelude.{ℕ, ◌≡◌, List, Bool, true, false, cond, ◌||◌, ltb, length, take}
+use Rattle.std.specs.Prelude.{ℕ, ◌≡◌, List, Bool, true, false, cond, ◌||◌, ltb, length, take, Result, Ok, Err}
 use Rattle.std.specs.Borrow.{Bor}
 use Rattle.kinds.specs.declared.Txid.{Txid}
+use Rattle.kinds.specs.declared.refusal.Refusal.{Refusal}
 use Rattle.kinds.specs.declared.refusal.Refusal.TheVariants.{BadLength}
-use Rattle.kinds.specs.declared.refusal.Verdict.{Verdict}
-use Rattle.kinds.specs.declared.refusal.Verdict.TheVariants.{Pass, Refuse}
+use Rattle.kinds.specs.Verdicts.{Verdict, Pass, Refuse, then, zero_test}
 use Rattle.kinds.specs.Refusals.{told}
-use Rattle.kinds.specs.Verdicts.{then, zero_test}
 use Rattle.settled.specs.declared.Snapshot.{Snapshot}
 use Rattle.settled.specs.Settled.{count_test}
 use Rattle.usable.specs.Usable.{usable_in}
-use Rattle.tiles.specs.declared.Choice.{Choice}
-use Rattle.tiles.specs.declared.Choice.TheVariants.{Newer, Older, Refused}
+use Rattle.tiles.specs.Choice.{Choice, Newer, Older, Refused}
 
 -- 11: a used length is beyond its run, whichever run would be chosen
 abbrev pub length_test : ℕ → ℕ → ℕ → ℕ → Verdict
@@ -79,3 +77,25 @@ PartFits n shown own maker older olderUsed newer newerUsed r =
 abbrev pub NumberFits : ℕ → Snapshot → Txid → Txid → Bytes → ℕ → Bytes → ℕ → ℕ → Type 0
 NumberFits n shown own maker older olderUsed newer newerUsed r =
     r ≡ (tile_of n shown own maker older olderUsed newer newerUsed).refusal
+
+-- the used part of the chosen run, or the refusal
+abbrev pub handed_or_refused : Choice → Bytes → ℕ → Bytes → ℕ → Result Part Refusal
+handed_or_refused Newer older olderUsed newer newerUsed = Ok (first newerUsed newer)
+handed_or_refused Older older olderUsed newer newerUsed = Ok (first olderUsed older)
+handed_or_refused (Refused r) older olderUsed newer newerUsed = Err r
+
+-- an answer of the code: a run that it hands out is told by its bytes and where they lie
+abbrev pub seen_as : Result Bytes Refusal → Result Part Refusal
+seen_as (Ok run) = Ok (whole run)
+seen_as (Err r) = Err r
+
+-- what `used` promises
+abbrev pub UsedFits : ℕ → Snapshot → Txid → Txid → Bytes → ℕ → Bytes → ℕ → Result Bytes Refusal → Type 0
+UsedFits n shown own maker older olderUsed newer newerUsed r =
+    seen_as r
+    ≡ handed_or_refused
+    (choice n shown own maker (length older.now) olderUsed (length newer.now) newerUsed)
+    older
+    olderUsed
+    newer
+    newerUsed

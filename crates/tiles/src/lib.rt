@@ -2,35 +2,30 @@
 #![tactic(auto)]
 
 ghost use Rattle.std.specs.Prelude.{◌≡◌};
-ghost use Rattle.tiles.specs.Tiles.{choice, fitted, length_test, NumberFits, PartFits};
+ghost use Rattle.tiles.specs.Tiles.{choice, fitted, length_test, NumberFits, PartFits, UsedFits};
 
 use kinds::{Refusal, SLOTS, Txid};
 use settled::Snapshot;
-use usable::Usable;
 
-// Which coding is handed out, or why none.
+// A coding of a tile.
 #[derive(Clone, Copy)]
-pub enum Choice {
+enum Coding {
     Newer,
     Older,
-    Refused(Refusal),
 }
 
 // The wanted coding where both used lengths are within their runs, else refusal 11.
 fn fitting(
-    wanted: Choice,
+    wanted: Result<Coding, Refusal>,
     older: usize,
     older_used: usize,
     newer: usize,
     newer_used: usize,
-) -> Choice
+) -> Result<Coding, Refusal>
     ensures { result ≡ fitted (length_test older older_used newer newer_used) wanted }
 {
-    if older < older_used {
-        return Choice::Refused(Refusal::BadLength);
-    }
-    if newer < newer_used {
-        return Choice::Refused(Refusal::BadLength);
+    if older < older_used || newer < newer_used {
+        return Err(Refusal::BadLength);
     }
     wanted
 }
@@ -44,19 +39,44 @@ fn choose(
     older_used: usize,
     newer: usize,
     newer_used: usize,
-) -> Choice
+) -> Result<Coding, Refusal>
     ensures { result ≡ choice SLOTS shown own maker older older_used newer newer_used }
 {
-    let said = usable::is_usable(shown, own, maker);
-    match said {
-        Usable::Yes => fitting(Choice::Newer, older, older_used, newer, newer_used),
-        Usable::No => fitting(Choice::Older, older, older_used, newer, newer_used),
-        Usable::Refused(refusal) => Choice::Refused(refusal),
+    if usable::is_usable(shown, own, maker)? {
+        return fitting(Ok(Coding::Newer), older, older_used, newer, newer_used);
+    }
+    fitting(Ok(Coding::Older), older, older_used, newer, newer_used)
+}
+
+// The used part of the newer coding if the reader, whose id is `own` or 0 for none, may use it, else of the older; or why
+// none is handed out.
+pub fn used<'a>(
+    shown: Snapshot,
+    own: Txid,
+    maker: Txid,
+    older: &'a [u8],
+    older_used: usize,
+    newer: &'a [u8],
+    newer_used: usize,
+) -> Result<&'a [u8], Refusal>
+    ensures { UsedFits SLOTS shown own maker older.entry older_used newer.entry newer_used result }
+{
+    let coding = choose(
+        shown,
+        own,
+        maker,
+        older.len(),
+        older_used,
+        newer.len(),
+        newer_used,
+    )?;
+    match coding {
+        Coding::Newer => Ok(&newer[..newer_used]),
+        Coding::Older => Ok(&older[..older_used]),
     }
 }
 
-// The used part of the newer coding if the reader, whose id is `own` or 0 for none, may use it, else of the older; an empty
-// part of the older beside a refusal.
+// What `used` hands out; an empty part of the older run beside a refusal.
 pub fn used_part<'a>(
     shown: Snapshot,
     own: Txid,
@@ -68,26 +88,9 @@ pub fn used_part<'a>(
 ) -> &'a [u8]
     ensures { PartFits SLOTS shown own maker older.entry older_used newer.entry newer_used result }
 {
-    let choice = choose(
-        shown,
-        own,
-        maker,
-        older.len(),
-        older_used,
-        newer.len(),
-        newer_used,
-    );
-    match choice {
-        Choice::Newer => {
-            return &newer[..newer_used];
-        }
-        Choice::Older => {
-            return &older[..older_used];
-        }
-        Choice::Refused(_) => {
-            let none = &older[..0];
-            return none;
-        }
+    match used(shown, own, maker, older, older_used, newer, newer_used) {
+        Ok(part) => part,
+        Err(_) => &older[..0],
     }
 }
 
@@ -103,21 +106,8 @@ pub fn used_refusal(
 ) -> u64
     ensures { NumberFits SLOTS shown own maker older.entry older_used newer.entry newer_used result }
 {
-    let choice = choose(
-        shown,
-        own,
-        maker,
-        older.len(),
-        older_used,
-        newer.len(),
-        newer_used,
-    );
-    match choice {
-        Choice::Newer => 0,
-        Choice::Older => 0,
-        Choice::Refused(refusal) => {
-            let said = kinds::tell(refusal);
-            said.number
-        }
+    match used(shown, own, maker, older, older_used, newer, newer_used) {
+        Ok(_) => 0,
+        Err(refusal) => kinds::number_of(refusal),
     }
 }

@@ -4,6 +4,7 @@
 
 use kinds::{SLOTS, Txid};
 use settled::Snapshot;
+use std::io;
 
 // xmax 20; the ids 10 and 14 are in flight where the count says so.
 fn shown(count: usize) -> Snapshot {
@@ -19,7 +20,8 @@ fn shown(count: usize) -> Snapshot {
 }
 
 fn show<'a>(
-    label: &[u8],
+    rt: &impl Print,
+    label: &str,
     count: usize,
     own: u64,
     maker: u64,
@@ -27,79 +29,100 @@ fn show<'a>(
     older_used: usize,
     newer: &'a [u8],
     newer_used: usize,
-) {
+) -> io::Result<()> {
     let seen = shown(count);
     let reader = Txid(own);
     let id = Txid(maker);
     let number = tiles::used_refusal(seen, reader, id, older, older_used, newer, newer_used);
     let part = tiles::used_part(seen, reader, id, older, older_used, newer, newer_used);
-    io::write_all(1, label);
-    io::write_all(1, b": refusal=");
-    io::print_decimal(1, number);
-    io::write_all(1, b" part=");
-    io::write_all(1, part);
-    io::write_all(1, b"\n");
+    print!(rt; "{label}: refusal={number} part=")?;
+    rt.write_all(part)?;
+    println!(rt)
 }
 
 // Asked of a run of five bytes and one of three, by the reader with this id.
-fn read(label: &[u8], count: usize, own: u64, maker: u64, older_used: usize, newer_used: usize) {
+fn read(
+    rt: &impl Print,
+    label: &str,
+    count: usize,
+    own: u64,
+    maker: u64,
+    older_used: usize,
+    newer_used: usize,
+) -> io::Result<()> {
     show(
-        label, count, own, maker, b"older", older_used, b"new", newer_used,
-    );
+        rt, label, count, own, maker, b"older", older_used, b"new", newer_used,
+    )
 }
 
 // By a reader with no id.
-fn ask(label: &[u8], count: usize, maker: u64, older_used: usize, newer_used: usize) {
-    read(label, count, 0, maker, older_used, newer_used);
+fn ask(
+    rt: &impl Print,
+    label: &str,
+    count: usize,
+    maker: u64,
+    older_used: usize,
+    newer_used: usize,
+) -> io::Result<()> {
+    read(rt, label, count, 0, maker, older_used, newer_used)
 }
 
-fn choices() {
-    ask(b"settled", 2, 9, 5, 3);
-    ask(b"listed", 2, 14, 5, 3);
-    ask(b"at xmax", 2, 20, 5, 3);
-    ask(b"past the count", 1, 14, 5, 3);
-    ask(b"a full list", SLOTS, 9, 5, 3);
-    show(b"equal runs, settled", 2, 0, 9, b"same", 4, b"same", 4);
-    show(b"equal runs, listed", 2, 0, 10, b"same", 3, b"same", 4);
+fn choices(rt: &impl Print) -> io::Result<()> {
+    ask(rt, "settled", 2, 9, 5, 3)?;
+    ask(rt, "listed", 2, 14, 5, 3)?;
+    ask(rt, "at xmax", 2, 20, 5, 3)?;
+    ask(rt, "past the count", 1, 14, 5, 3)?;
+    ask(rt, "a full list", SLOTS, 9, 5, 3)?;
+    show(rt, "equal runs, settled", 2, 0, 9, b"same", 4, b"same", 4)?;
+    show(rt, "equal runs, listed", 2, 0, 10, b"same", 3, b"same", 4)?;
+    Ok(())
 }
 
-fn lengths() {
-    ask(b"part of the newer", 2, 9, 5, 1);
-    ask(b"part of the older", 2, 10, 2, 3);
-    ask(b"none of the newer", 2, 9, 5, 0);
-    ask(b"none of the older", 2, 10, 0, 3);
-    ask(b"newer one beyond, chosen", 2, 9, 5, 4);
-    ask(b"newer one beyond, not chosen", 2, 10, 5, 4);
-    ask(b"older one beyond, chosen", 2, 10, 6, 3);
-    ask(b"older one beyond, not chosen", 2, 9, 6, 3);
-    ask(b"the largest length", 2, 9, 5, 18446744073709551615);
-    show(b"empty runs", 2, 0, 9, b"", 0, b"", 0);
-    show(b"one byte of an empty run", 2, 0, 10, b"", 0, b"", 1);
+fn lengths(rt: &impl Print) -> io::Result<()> {
+    ask(rt, "part of the newer", 2, 9, 5, 1)?;
+    ask(rt, "part of the older", 2, 10, 2, 3)?;
+    ask(rt, "none of the newer", 2, 9, 5, 0)?;
+    ask(rt, "none of the older", 2, 10, 0, 3)?;
+    ask(rt, "newer one beyond, chosen", 2, 9, 5, 4)?;
+    ask(rt, "newer one beyond, not chosen", 2, 10, 5, 4)?;
+    ask(rt, "older one beyond, chosen", 2, 10, 6, 3)?;
+    ask(rt, "older one beyond, not chosen", 2, 9, 6, 3)?;
+    ask(rt, "the largest length", 2, 9, 5, 18446744073709551615)?;
+    show(rt, "empty runs", 2, 0, 9, b"", 0, b"", 0)?;
+    show(rt, "one byte of an empty run", 2, 0, 10, b"", 0, b"", 1)?;
+    Ok(())
 }
 
-fn orders() {
-    ask(b"10", SLOTS + 1, 9, 5, 3);
-    ask(b"10 before 4", SLOTS + 1, 0, 5, 3);
-    ask(b"10 before 11", SLOTS + 1, 9, 6, 3);
-    ask(b"10 before 4 and 11", SLOTS + 1, 0, 6, 4);
-    ask(b"4", 2, 0, 5, 3);
-    ask(b"4 before 11", 2, 0, 5, 4);
+fn orders(rt: &impl Print) -> io::Result<()> {
+    ask(rt, "10", SLOTS + 1, 9, 5, 3)?;
+    ask(rt, "10 before 4", SLOTS + 1, 0, 5, 3)?;
+    ask(rt, "10 before 11", SLOTS + 1, 9, 6, 3)?;
+    ask(rt, "10 before 4 and 11", SLOTS + 1, 0, 6, 4)?;
+    ask(rt, "4", 2, 0, 5, 3)?;
+    ask(rt, "4 before 11", 2, 0, 5, 4)?;
+    Ok(())
 }
 
 // What a transaction made itself it may read, although it is in flight.
-fn own_tiles() {
-    read(b"own, in flight", 2, 14, 14, 5, 3);
-    read(b"own, at xmax", 2, 20, 20, 5, 3);
-    read(b"another's, in flight", 2, 10, 14, 5, 3);
-    read(b"another's, settled", 2, 14, 9, 5, 3);
-    read(b"own, 10 first", SLOTS + 1, 14, 14, 5, 3);
-    read(b"own, 4 first", 2, 14, 0, 5, 3);
-    read(b"own, one beyond", 2, 14, 14, 5, 4);
+fn own_tiles(rt: &impl Print) -> io::Result<()> {
+    read(rt, "own, in flight", 2, 14, 14, 5, 3)?;
+    read(rt, "own, at xmax", 2, 20, 20, 5, 3)?;
+    read(rt, "another's, in flight", 2, 10, 14, 5, 3)?;
+    read(rt, "another's, settled", 2, 14, 9, 5, 3)?;
+    read(rt, "own, 10 first", SLOTS + 1, 14, 14, 5, 3)?;
+    read(rt, "own, 4 first", 2, 14, 0, 5, 3)?;
+    read(rt, "own, one beyond", 2, 14, 14, 5, 4)?;
+    Ok(())
 }
 
-fn main() {
-    choices();
-    lengths();
-    orders();
-    own_tiles();
+fn run(rt: &impl Print) -> io::Result<()> {
+    choices(rt)?;
+    lengths(rt)?;
+    orders(rt)?;
+    own_tiles(rt)
+}
+
+fn main(rt: HostRuntime) {
+    // Where a print fails, nobody is left to tell.
+    let _ = run(&rt);
 }

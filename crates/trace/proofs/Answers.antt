@@ -15,14 +15,13 @@ use Rattle.trace.specs.Trace.{trace_format, reading}
 use Rattle.trace.specs.declared.Op.{Op}
 use Rattle.trace.specs.declared.Version.{Version}
 use Rattle.trace.specs.declared.Record.{Record}
-use Rattle.trace.specs.declared.RecordAt.{RecordAt}
-use Rattle.trace.specs.declared.RecordAt.TheVariants.{Is, Broken}
-use Rattle.trace.specs.declared.Reading.{Reading}
-use Rattle.trace.specs.declared.Reading.TheVariants as reading
-use Rattle.trace.specs.declared.ops.OpAt.{OpAt}
-use Rattle.trace.specs.declared.ops.OpAt.TheVariants as op
-use Rattle.trace.specs.declared.versions.HeaderAt.{HeaderAt}
-use Rattle.trace.specs.declared.versions.HeaderAt.TheVariants as header
+use Rattle.trace.specs.RecordAt.{RecordAt, Is, Broken}
+use Rattle.trace.specs.Reading.{Reading}
+use Rattle.trace.specs.Reading as reading
+use Rattle.trace.specs.OpAt.{OpAt}
+use Rattle.trace.specs.OpAt as op
+use Rattle.trace.specs.HeaderAt.{HeaderAt}
+use Rattle.trace.specs.HeaderAt as header
 
 abbrev pub op_meant : OpAt → NameAt Op
 op_meant (op.Is o e) = Named o e

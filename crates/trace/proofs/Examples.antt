@@ -12,7 +12,7 @@ use Rattle.grammar.specs.Texts.{read_text, count_text}
 use Rattle.trace.specs.Version.{header_of, allowed}
 use Rattle.trace.specs.Trace.{reading}
 use Rattle.trace.specs.declared.Version.TheVariants.{Proc1, Proc2, Proc3}
-use Rattle.trace.specs.declared.Reading.TheVariants.{Whole, Broken}
+use Rattle.trace.specs.Reading.{Whole, Broken}
 
 record Read : Type 0 where
   -- the input of the whole case (SPEC 10.7): two records

@@ -1,4 +1,8 @@
+pub mod HeaderAt
 pub mod Op
-pub mod Version
+pub mod OpAt
+pub mod Reading
 pub mod Record
+pub mod RecordAt
 pub mod Trace
+pub mod Version

@@ -6,8 +6,8 @@ use Rattle.text.specs.declared.Reads.{Reads}
 use Rattle.grammar.specs.Names.{Names, name_at, say_name}
 use Rattle.trace.specs.declared.Op.{Op}
 use Rattle.trace.specs.declared.Op.TheVariants.{Begin, End, Snap, Own, Oldest, Vacuum, Stamp, Finish, Pin, Unpin}
-use Rattle.trace.specs.declared.ops.OpAt.{OpAt}
-use Rattle.trace.specs.declared.ops.OpAt.TheVariants as op
+use Rattle.trace.specs.OpAt.{OpAt}
+use Rattle.trace.specs.OpAt as op
 
 -- the fields that an op reads; the fourth is `stamp`, and clock is `clock` and `sample`. What unpin reads in `slot` is a pin's number
 abbrev pub reads_of : Op → Reads

@@ -11,8 +11,7 @@ use Rattle.trace.specs.Version.{allowed}
 use Rattle.trace.specs.declared.Op.{Op}
 use Rattle.trace.specs.declared.Version.{Version}
 use Rattle.trace.specs.declared.Record.{Record}
-use Rattle.trace.specs.declared.RecordAt.{RecordAt}
-use Rattle.trace.specs.declared.RecordAt.TheVariants.{Is, Broken}
+use Rattle.trace.specs.RecordAt.{RecordAt, Is, Broken}
 
 -- the five numbers of a record, and the record of an op and five numbers
 abbrev pub values_of : Record → Values

@@ -10,8 +10,7 @@ use Rattle.trace.specs.Record.{record_shape, record_form, any_form}
 use Rattle.trace.specs.declared.Op.{Op}
 use Rattle.trace.specs.declared.Version.{Version}
 use Rattle.trace.specs.declared.Record.{Record}
-use Rattle.trace.specs.declared.Reading.{Reading}
-use Rattle.trace.specs.declared.Reading.TheVariants.{Whole, Broken}
+use Rattle.trace.specs.Reading.{Reading, Whole, Broken}
 
 -- the place of the first record, one for all headers
 abbrev pub first_record : ℕ

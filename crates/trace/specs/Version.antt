@@ -6,8 +6,8 @@ use Rattle.trace.specs.declared.Op.{Op}
 use Rattle.trace.specs.declared.Op.TheVariants.{Begin, End, Snap, Own, Oldest, Vacuum, Stamp, Finish, Pin, Unpin}
 use Rattle.trace.specs.declared.Version.{Version}
 use Rattle.trace.specs.declared.Version.TheVariants.{Proc1, Proc2, Proc3}
-use Rattle.trace.specs.declared.versions.HeaderAt.{HeaderAt}
-use Rattle.trace.specs.declared.versions.HeaderAt.TheVariants as at
+use Rattle.trace.specs.HeaderAt.{HeaderAt}
+use Rattle.trace.specs.HeaderAt as at
 
 -- what stands after `trace=` in the first line, with its newline
 abbrev pub version_name : Version → List ℕ

@@ -2,7 +2,7 @@
 #![tactic(auto)]
 
 mod lines;
-mod ops;
+mod records;
 mod versions;
 mod whole;
 

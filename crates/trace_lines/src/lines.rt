@@ -1,50 +1,27 @@
 // A record of six lines.
 ghost use Rattle.std.specs.Prelude.{◌≡◌};
-ghost use Rattle.trace.specs.Record.{record_after, record_at, record_under};
+ghost use Rattle.trace.specs.Record.{record_at, record_under};
 
-use text::Fields;
-use trace::{Op, OpAt, Record, RecordAt, Version};
-
-// The record of an op whose line ends just before `at`, or the first of its lines that breaks a rule.
-fn record_after(s: &[u8], at: usize, op: Op) -> RecordAt
-    ensures { result ≡ record_after s.now op at }
-{
-    let fields = five_lines::fields_at(s, at, b"stamp=", trace::reads_of(op));
-    match fields {
-        Fields::Are(v, e) => RecordAt::Is(
-            Record {
-                op,
-                slot: v.slot,
-                id: v.id,
-                stamp: v.fourth,
-                clock: v.clock,
-                sample: v.sample,
-            },
-            e,
-        ),
-        Fields::Broken(k) => RecordAt::Broken(k),
-    }
-}
+use crate::records::{Records, op_at};
+use trace::{Record, Version};
 
 // The record at `at` under some header that is known, or the first of its six lines that breaks a rule.
-pub fn record_at(s: &[u8], at: usize) -> RecordAt
+#[tactic(auto, unfolding(trace::specs::Record::record_at))]
+pub fn record_at(s: &[u8], at: usize) -> Result<(Record, usize), usize>
     ensures { result ≡ record_at s.now at }
 {
-    let OpAt::Is(op, a) = crate::ops::op_at(s, at) else {
-        return RecordAt::Broken(1);
-    };
-    record_after(s, a, op)
+    items::item_at::<Records>(s, at)
 }
 
 // The record at `at` under this header. An op that the header doesn't allow breaks its line.
-pub fn record_under(version: Version, s: &[u8], at: usize) -> RecordAt
+pub fn record_under(version: Version, s: &[u8], at: usize) -> Result<(Record, usize), usize>
     ensures { result ≡ record_under version s.now at }
 {
-    let OpAt::Is(op, a) = crate::ops::op_at(s, at) else {
-        return RecordAt::Broken(1);
+    let Some((op, past)) = op_at(s, at) else {
+        return Err(1);
     };
     if trace::allows(version, op) {
-        return record_after(s, a, op);
+        return items::item_after::<Records>(s, past, op);
     }
-    RecordAt::Broken(1)
+    Err(1)
 }

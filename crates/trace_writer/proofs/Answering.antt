@@ -2,19 +2,33 @@
 use Prim.Native.Nat.{ℕ, ◌+◌, ◌≤◌, ◌<◌, min}
 use native.Mathlib.Omega.{arith}
 use mathlib.Core.Path.{◌≡◌, refl, sym, ap, ◌∙◌}
-use mathlib.Core.Bool.{true, false, cond}
+use mathlib.Core.Bool.{Bool, true, false}
 use mathlib.Core.List.{List}
 use lib.ListN.{length}
-use borrow.Author.Tests.{le-leb, lt-leb}
+use lib.Dec.{leb}
+use borrow.Author.Tests.{le-leb, lt-leb, leb-true}
+use Rattle.std.specs.Prelude.{Ok, Err, Some, None}
+use Rattle.std.specs.Option.{ok_or}
+use Rattle.kinds.specs.declared.refusal.Refusal.{Refusal}
 use Rattle.kinds.specs.declared.refusal.Refusal.TheVariants as refusal
 use Rattle.text.specs.Write.{spliced}
 use Rattle.trace.specs.Trace.{first_record, longest, trace_text}
 use Rattle.trace.specs.declared.Version.{Version}
 use Rattle.rows_measure.specs.Measuring.{Records, Are, BadRow, records_of, listed, records_text, too_long, sized, measured}
-use Rattle.trace_writer.specs.Writing.{wrote_of, left_of}
-use Rattle.trace_writer.specs.declared.Wrote.TheVariants as wrote
-use Rattle.rows_measure.specs.declared.Measured.TheVariants as measure
+use Rattle.trace_writer.specs.Writing.{has_room, wrote_of, left_of}
+use Rattle.trace_writer.specs.Wrote as wrote
+use Rattle.rows_measure.specs.Measured.{Measured}
+use Rattle.rows_measure.specs.Measured as measure
 use Rattle.trace_writer.proofs.Texts.{trace_length}
+
+-- what was measured, with a refusal in the place of none
+pub measured_none : (m : Measured) {r : Refusal} → ok_or m refusal.BadRecord ≡ Err r → (m ≡ measure.BadRow) × (r ≡ refusal.BadRecord)
+measured_none None {r} e = let same : r ≡ refusal.BadRecord = cc in (refl, same)
+measured_none (Some n) e = absurd (let z : ◌≡◌ {A = ℕ} 0 1 = cc in omega arith)
+
+pub measured_some : (m : Measured) {n : ℕ} → ok_or m refusal.BadRecord ≡ Ok n → m ≡ measure.Length n
+measured_some (Some k) {n} e = let same : k ≡ n = cc in ap measure.Length same
+measured_some None e = absurd (let z : ◌≡◌ {A = ℕ} 0 1 = cc in omega arith)
 
 module _ (v : Version) (rows : List (List ℕ)) where
   -- a bad row was found
@@ -47,23 +61,20 @@ module _ (v : Version) (rows : List (List ℕ)) where
     unfolding wrote_of left_of
     refused_bad h = (rw (measured_bad h), rw (measured_bad h))
 
-    pub refused_long : (n : ℕ) → measured v rows ≡ measure.Length n → longest < n
+    pub refused_room : (n : ℕ) → measured v rows ≡ measure.Length n → min longest (length xs) < n
         → (wrote.Refused refusal.NoRoom ≡ wrote_of v rows (length xs)) × (xs ≡ left_of v rows xs)
     unfolding wrote_of left_of
-    refused_long n h l =
+    refused_room n h l =
         let k = measured-good n h in
-        let over = lt-leb (length (trace_text v (listed (records_of v rows)))) longest (omega (arith, k.size)) in
+        let over = no_room (length (trace_text v (listed (records_of v rows)))) (omega (arith, k.size)) in
         (rw (k.good, over), rw (k.good, over))
-
-    pub refused_short : (n : ℕ) → measured v rows ≡ measure.Length n → n ≤ longest → length xs < n
-        → (wrote.Refused refusal.NoRoom ≡ wrote_of v rows (length xs)) × (xs ≡ left_of v rows xs)
-    unfolding wrote_of left_of
-    refused_short n h l s =
-        let k = measured-good n h in
-        let size = length (trace_text v (listed (records_of v rows))) in
-        let inside = le-leb size longest (omega (arith, k.size)) in
-        let over = lt-leb size (length xs) (omega (arith, k.size)) in
-        (rw (k.good, inside, over), rw (k.good, inside, over))
+      where
+        no_room : (size : ℕ) → min longest (length xs) < size → has_room size (length xs) ≡ false
+        no_room size l = go (leb size longest) refl
+          where
+            go : (b : Bool) → leb size longest ≡ b → has_room size (length xs) ≡ false
+            go false e = rw e
+            go true e = let p = leb-true size longest e in rw (e, lt-leb size (length xs) (omega arith))
 
     -- there is room: the writer has what it requires, and what it leaves is what is promised
     pub room_written : (n : ℕ) → measured v rows ≡ measure.Length n → n ≤ longest → n ≤ length xs

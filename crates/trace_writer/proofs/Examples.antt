@@ -17,7 +17,7 @@ use Rattle.op_numbers.specs.Numbers.{try_number, op_numbered}
 use Rattle.record_rows.specs.Rows.{may_be, allowed_by, of_op, record_row}
 use Rattle.rows_measure.specs.Measuring.{row_under, records_of}
 use Rattle.trace_writer.specs.Writing.{wrote_of, left_of}
-use Rattle.trace_writer.specs.declared.Wrote.TheVariants.{Length, Refused}
+use Rattle.trace_writer.specs.Wrote.{Length, Refused}
 
 record Answers : Type 0 where
   -- no rows: the header alone, and a buffer exactly as long

@@ -3,7 +3,7 @@
 use Prim.Native.Nat.{ℕ, ◌+◌, ◌≤◌, ◌<◌}
 use native.Mathlib.Omega.{arith}
 use mathlib.Core.Path.{◌≡◌, refl, sym, ap, ◌∙◌}
-use mathlib.Core.List.{List, [], ◌∷◌, ◌++◌}
+use mathlib.Core.List.{List, [], ◌∷◌}
 use lib.ListN.{length, drop, get_or, length-append}
 use Rattle.text.specs.Write.{spliced}
 use Rattle.text.specs.Placed.{Placed}
@@ -14,7 +14,7 @@ use Rattle.trace.specs.Trace.{trace_text}
 use Rattle.trace.specs.declared.Record.{Record}
 use Rattle.trace.specs.declared.Version.{Version}
 use Rattle.rows_measure.specs.Measuring.{Records, Are, BadRow, with_first, row_under, records_of, listed, records_text}
-use Rattle.rows_measure.specs.declared.Judged.TheVariants.{Good, Bad}
+use Rattle.rows_measure.specs.Judged.{Good, Bad}
 use Rattle.rows_measure.proofs.Lengths.{records_none, records-first}
 use Rattle.rows_measure.proofs.Walking.{bad_run, rows_here, rows_over}
 use Rattle.trace_writer.proofs.Texts.{trace_text_lem}

@@ -1,19 +1,19 @@
 -- What is written is read back, what was read is written again byte for byte, no two runs have one text, and each refusal comes exactly
 -- when. The laws of texts are the trace's (trace/proofs/Grammar.antt), those of rows are record_rows' (record_rows/proofs/Laws.antt).
-use Prim.Native.Nat.{ℕ, ◌+◌, ◌*◌, ◌≤◌, ◌<◌}
+use Prim.Native.Nat.{ℕ, ◌*◌, ◌≤◌, ◌<◌}
 use native.Mathlib.Omega.{arith}
 use native.Mathlib.Nat.{zero-add}
 use mathlib.Core.Path.{◌≡◌, refl, sym, ap, ◌∙◌}
 use mathlib.Core.Bool.{Bool, true, false, cond, ◌&&◌}
 use mathlib.Core.List.{List, [], ◌∷◌, ◌++◌}
 use lib.Dec.{leb}
-use lib.ListN.{length, take, drop, length-append}
+use lib.ListN.{length, drop, length-append}
 use borrow.Author.Tests.{le-leb, lt-leb, leb-true, leb-false}
 use Rattle.kinds.specs.declared.refusal.Refusal.TheVariants as refusal
 use Rattle.text.specs.Write.{spliced}
 use Rattle.text.proofs.Decimal.{length_some}
 use Rattle.grammar.specs.Items.{none, also}
-use Rattle.grammar.specs.Texts.{Read, Whole}
+use Rattle.grammar.specs.Texts.{Whole}
 use Rattle.trace.specs.Op.{op_name}
 use Rattle.trace.specs.Version.{allowed}
 use Rattle.trace.specs.Record.{record_text}
@@ -24,22 +24,20 @@ use Rattle.trace.specs.declared.Version.{Version}
 use Rattle.trace.specs.declared.Record.{Record}
 use Rattle.grammar.proofs.Grammar.{accepted, accepts, one_text}
 use Rattle.trace.proofs.Shape.{trace_laws}
-use Rattle.record_rows.specs.Rows.{row_of, record_row}
-use Rattle.record_rows.specs.declared.RowIs.{RowIs}
-use Rattle.record_rows.specs.declared.RowIs.TheVariants as row
+use Rattle.record_rows.specs.Rows.{record_row}
+use Rattle.record_rows.specs.RowIs.{RowIs}
+use Rattle.record_rows.specs.RowIs as row
 use Rattle.record_rows.proofs.Laws.{Machine, record_of_row, row_of_record}
 use Rattle.rows_reader.specs.Reading.{rows_of, in_front, read_of, rows_left}
-use Rattle.rows_reader.specs.declared.RowsRead.TheVariants as read
+use Rattle.rows_reader.specs.RowsRead as read
 use Rattle.rows_reader.proofs.Filling.{rows_many}
-use Rattle.rows_measure.specs.Measuring.{Records, Are, BadRow, with_first, on_judged, allowed_record, judged, row_under, records_of}
-use Rattle.rows_measure.specs.Measuring.{listed, records_text}
-use Rattle.rows_measure.specs.declared.Judged.{Judged}
-use Rattle.rows_measure.specs.declared.Judged.TheVariants.{Good, Bad}
+use Rattle.rows_measure.specs.Measuring.{Records, Are, BadRow, on_judged, judged, row_under, records_of}
+use Rattle.rows_measure.specs.Measuring.{records_text}
+use Rattle.rows_measure.specs.Judged.{Judged, Good, Bad}
 use Rattle.rows_measure.proofs.Lengths.{record-length, records-first}
 use Rattle.rows_measure.proofs.Walking.{bad_run}
-use Rattle.trace_writer.specs.Writing.{has_room, wrote_by, wrote_of, left_by, left_of}
-use Rattle.trace_writer.specs.declared.Wrote.{Wrote}
-use Rattle.trace_writer.specs.declared.Wrote.TheVariants.{Length, Refused}
+use Rattle.trace_writer.specs.Writing.{has_room, wrote_by, wrote_of, left_of}
+use Rattle.trace_writer.specs.Wrote.{Wrote, Length, Refused}
 use Rattle.trace_writer.proofs.Texts.{trace_length}
 
 -- rows as code has them: six machine numbers each

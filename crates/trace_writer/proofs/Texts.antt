@@ -1,34 +1,29 @@
 -- The text of a run, line by line, as its lines are placed one after the other.
 use Prim.Native.Nat.{ℕ, ◌+◌, ◌≤◌}
 use native.Mathlib.Omega.{arith}
-use mathlib.Core.Path.{◌≡◌, refl, sym, ap, ◌∙◌}
-use mathlib.Core.List.{List, [], ◌∷◌, ◌++◌, append_assoc, append-nil}
+use mathlib.Core.Path.{◌≡◌, refl, ap, ◌∙◌}
+use mathlib.Core.List.{List, [], ◌∷◌, ◌++◌, append_assoc}
 use lib.ListN.{length, length-append}
 use Rattle.text.specs.Bytes.{bytes}
 use Rattle.text.specs.Keys.{op_key, slot_key, id_key, stamp_key, clock_key, sample_key}
 use Rattle.text.specs.Decimal.{decimal, decimal_in, number_text}
-use Rattle.text.specs.Line.{line_text, line_texts, joined}
-use Rattle.text.specs.FiveLines.{field_rules, five_lines}
+use Rattle.text.specs.Line.{line_text, joined}
 use Rattle.text.specs.Placed.{Placed}
-use Rattle.text.proofs.Splice.{line-length}
 use Rattle.text.proofs.Placed.{placed_then, placed_same}
 use Rattle.grammar.specs.Names.{name_line}
-use Rattle.grammar.specs.Items.{item_text, lines_of}
-use Rattle.grammar.specs.Named.{six_lines}
+use Rattle.grammar.specs.Items.{lines_of}
 use Rattle.grammar.specs.Texts.{first_line, text_lines, whole_text}
-use Rattle.grammar.proofs.Grammar.{lines_first}
-use Rattle.trace.specs.Op.{op_name, op_names}
+use Rattle.trace.specs.Op.{op_name}
 use Rattle.trace.specs.Version.{header_of}
 use Rattle.trace.specs.Record.{record_form, any_form, record_text}
 use Rattle.trace.specs.Trace.{first_record, trace_text}
 use Rattle.trace.specs.declared.Op.{Op}
-use Rattle.trace.specs.declared.Op.TheVariants.{Begin, End, Snap, Own, Oldest, Vacuum, Stamp, Finish, Pin, Unpin}
 use Rattle.trace.specs.declared.Record.{Record}
 use Rattle.trace.specs.declared.Version.{Version}
 use Rattle.trace.specs.declared.Version.TheVariants.{Proc1, Proc2, Proc3}
-use Rattle.trace.proofs.Shape.{header-length, any_facts}
+use Rattle.trace.proofs.Shape.{header-length}
 use Rattle.rows_measure.specs.Measuring.{records_text}
-use Rattle.rows_measure.specs.TwoLines.{two_lines}
+use Rattle.rows_measure.specs.TwoLines.{two_lines, op_and_slot_key}
 use Rattle.rows_measure.proofs.Lengths.{record_lines_lem}
 
 -- the header is the line of a key and a number
@@ -43,29 +38,10 @@ header-line Proc1 = refl
 header-line Proc2 = refl
 header-line Proc3 = refl
 
-pub header_room :
-    (v : Version) (xs : List ℕ) → length (header_of v) ≤ length xs →
-    0 + length (line_text (bytes "trace=proc-") (header_number v)) ≤ length xs
-header_room v xs h = omega (arith, ap length (header-line v))
-
 -- so are the lines of an op and its slot
-abbrev pub op_slot_key : Op → List ℕ
-op_slot_key o = op_key ++ op_name o ++ slot_key
-
-pub two_lines_lem : (o : Op) (n : ℕ) → line_text (op_slot_key o) n ≡ two_lines o n
+pub two_lines_lem : (o : Op) (n : ℕ) → line_text (op_and_slot_key o) n ≡ two_lines o n
 unfolding line_text two_lines name_line
 two_lines_lem o n = append_assoc (op_key ++ op_name o) slot_key (number_text n)
-
--- where op is o, the key of both lines is known
-pub two_room : (op o : Op) (slot at size : ℕ) → op ≡ o → at + length (two_lines op slot) ≤ size
-    → at + length (line_text (op_slot_key o) slot) ≤ size
-two_room op o slot at size e h =
-    let same = ap length (two_lines_lem o slot) ∙ ap (λ (x : Op). length (two_lines x slot)) (sym e) in
-    omega (arith, same)
-
-pub two_placed : {xs ys : List ℕ} {at p : ℕ} (op o : Op) (slot : ℕ) → op ≡ o → Placed xs at (line_text (op_slot_key o) slot) ys p
-    → Placed xs at (two_lines op slot) ys p
-two_placed op o slot e p = placed_same (two_lines_lem o slot ∙ ap (λ (x : Op). two_lines x slot) (sym e)) p
 
 -- a record that has room: so has each of its lines, and together they are its text
 room_after : {xs ys t : List ℕ} {at p : ℕ} (n : ℕ) → Placed xs at t ys p → at + (length t + n) ≤ length xs → p + n ≤ length ys

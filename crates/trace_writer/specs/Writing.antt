@@ -5,8 +5,7 @@ use Rattle.text.specs.Write.{spliced}
 use Rattle.trace.specs.Trace.{longest, trace_text}
 use Rattle.trace.specs.declared.Version.{Version}
 use Rattle.rows_measure.specs.Measuring.{Records, Are, BadRow, records_of}
-use Rattle.trace_writer.specs.declared.Wrote.{Wrote}
-use Rattle.trace_writer.specs.declared.Wrote.TheVariants.{Length, Refused}
+use Rattle.trace_writer.specs.Wrote.{Wrote, Length, Refused}
 
 -- a text is at most 65,536 bytes long, and no longer than the buffer
 abbrev pub has_room : ℕ → ℕ → Bool

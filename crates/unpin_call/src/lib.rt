@@ -5,43 +5,31 @@ ghost use Rattle.std.specs.Prelude.{◌≡◌};
 ghost use Rattle.model.specs.Tables.{lent_pins};
 ghost use Rattle.model.specs.Calls.{unpin, decision, outcome};
 
-use kinds::{PinNo, SLOTS, Verdict};
+use kinds::{PinNo, SLOTS};
 use model::{Answer, Change, Counters, Decision, Outcome, SlotChange, Table};
 
 // On lent pins. Refusals 15, 16, in this order.
+#[tactic(auto, using(model::proofs::Decides::decides), unfolding(model::specs::Calls::refusal, model::specs::Calls::change_accepted, model::specs::Calls::answer_accepted))]
 pub fn decide_unpin(pins: &[u64], was: Counters, pin: PinNo) -> Decision
     ensures { result ≡ decision SLOTS (lent_pins pins.now was) (unpin pin) }
 {
-    let verdict = verdicts::release_test(pins, pin);
-    match verdict {
-        Verdict::Refuse(r) => Decision {
-            change: Change {
-                slot: SlotChange::Stays,
-                counters: was,
-            },
-            answer: Answer::Refused(r),
+    // Not lent as `Columns`: by its parameters the contract says which columns the call can't read.
+    if let Err(refusal) = verdicts::release_test(pins, pin) {
+        return Decision::refused(was, refusal);
+    }
+    Decision {
+        change: Change {
+            slot: SlotChange::Pins { pin, xmin: 0 },
+            counters: was,
         },
-        Verdict::Pass => Decision {
-            change: Change {
-                slot: SlotChange::Pins { pin, xmin: 0 },
-                counters: was,
-            },
-            answer: Answer::Done,
-        },
+        answer: Ok(Answer::Done),
     }
 }
 
 // On a table by value.
+#[tactic(auto, using(model::proofs::Lent::outcome_of, model::proofs::Lent::lent_releases))]
 pub fn release_pin(table: Table, pin: PinNo) -> Outcome
     ensures { result ≡ outcome SLOTS table (unpin pin) }
 {
-    let was = table.counters;
-    let decided = decide_unpin(&table.pins, was, pin);
-    let change = decided.change;
-    let answer = decided.answer;
-    let next = changes::apply(table, change);
-    Outcome {
-        table: next,
-        answer,
-    }
+    changes::carry_out(table, decide_unpin(&table.pins, table.counters, pin))
 }

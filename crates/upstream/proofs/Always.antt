@@ -11,8 +11,7 @@ use mathlib.Core.List.{List, [], ◌∷◌}
 use Rattle.kinds.specs.declared.PinNo.{PinNo}
 use Rattle.kinds.specs.declared.refusal.Refusal.{Refusal}
 use Rattle.kinds.specs.Kinds.{free_pins, slot, txid}
-use Rattle.kinds.specs.declared.refusal.Verdict.{Verdict}
-use Rattle.kinds.specs.declared.refusal.Verdict.TheVariants.{Pass, Refuse}
+use Rattle.kinds.specs.Verdicts.{Verdict, Pass, Refuse}
 use Rattle.kinds.specs.Refusals.{consumed}
 use Rattle.model.specs.declared.Counters.{Counters}
 use Rattle.model.specs.declared.Table.{Table}

@@ -7,7 +7,7 @@ use native.Mathlib.Nat.{suc-ne-zero}
 use native.Mathlib.Omega.{arith}
 use Rattle.kinds.specs.declared.Stamp.{Stamp}
 use Rattle.kinds.specs.Refusals.{told, consumed}
-use Rattle.kinds.specs.declared.refusal.Verdict.{Verdict}
+use Rattle.kinds.specs.Verdicts.{Verdict}
 use Rattle.model.specs.declared.Table.{Table}
 use Rattle.model.specs.Tally.{lowest_empty}
 use Rattle.model.specs.Answers.{tells_of}

@@ -7,7 +7,7 @@ use borrow.Author.Tests.{leb-true, leb-false}
 use Rattle.kinds.specs.declared.SlotNo.{SlotNo}
 use Rattle.kinds.specs.declared.refusal.Refusal.{Refusal}
 use Rattle.kinds.specs.declared.refusal.Refusal.TheVariants.{InvalidSlot}
-use Rattle.kinds.specs.declared.refusal.Verdict.TheVariants.{Pass, Refuse}
+use Rattle.kinds.specs.Verdicts.{Pass, Refuse}
 use Rattle.kinds.proofs.Verdicts.{refuse_not_pass, same_refusal}
 use Rattle.model.specs.Tests.{slot_test}
 use Rattle.upstream.specs.Clauses.{CheckedSlot}

@@ -8,8 +8,7 @@ use borrow.Author.Tests.{le-leb, lt-leb, eq-eqb, ne_eqb}
 use Rattle.kinds.specs.declared.SlotNo.{SlotNo}
 use Rattle.kinds.specs.declared.Txid.{Txid}
 use Rattle.kinds.specs.Refusals.{told, consumed}
-use Rattle.kinds.specs.declared.refusal.Verdict.{Verdict}
-use Rattle.kinds.specs.declared.refusal.Verdict.TheVariants.{Pass}
+use Rattle.kinds.specs.Verdicts.{Verdict, Pass}
 use Rattle.kinds.proofs.Verdicts.{then_last}
 use Rattle.model.specs.declared.Table.{Table}
 use Rattle.model.specs.Answers.{tells_of}

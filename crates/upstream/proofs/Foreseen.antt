@@ -12,9 +12,7 @@ use Rattle.kinds.specs.Refusals.{told}
 use Rattle.kinds.specs.declared.Stamp.{Stamp}
 use Rattle.kinds.specs.declared.SlotNo.{SlotNo}
 use Rattle.kinds.specs.declared.Txid.{Txid}
-use Rattle.kinds.specs.declared.refusal.Verdict.{Verdict}
-use Rattle.kinds.specs.declared.refusal.Verdict.TheVariants.{Pass, Refuse}
-use Rattle.kinds.specs.Verdicts.{then, zero_test}
+use Rattle.kinds.specs.Verdicts.{Verdict, Pass, Refuse, then, zero_test}
 use Rattle.model.specs.declared.Table.{Table}
 use Rattle.model.specs.Tally.{lowest_empty}
 use Rattle.model.specs.Tables.{txid_at, clock_of}

@@ -11,11 +11,9 @@ use lib.ListN.{get_or}
 use Rattle.kinds.specs.declared.Stamp.{Stamp}
 use Rattle.kinds.specs.declared.SlotNo.{SlotNo}
 use Rattle.kinds.specs.declared.Txid.{Txid}
-use Rattle.kinds.specs.declared.refusal.Verdict.{Verdict}
-use Rattle.kinds.specs.declared.refusal.Verdict.TheVariants.{Pass, Refuse}
+use Rattle.kinds.specs.Verdicts.{Verdict, Pass, Refuse, tells, then, zero_test}
 use Rattle.kinds.specs.Kinds.{top}
 use Rattle.kinds.specs.Refusals.{told}
-use Rattle.kinds.specs.Verdicts.{tells, then, zero_test}
 use Rattle.model.specs.declared.Table.{Table}
 use Rattle.model.specs.Tally.{lowest_empty}
 use Rattle.model.specs.Tables.{clock_of}

@@ -3,9 +3,9 @@
 use Prim.Native.Nat.{ℕ}
 use mathlib.Core.Path.{◌≡◌, refl, sym, ap}
 use mathlib.Core.List.{List}
-use Rattle.kinds.specs.declared.refusal.Verdict.TheVariants.{Pass}
+use Rattle.kinds.specs.Verdicts.{Pass}
 use Rattle.model.specs.declared.Table.{Table}
-use Rattle.model.specs.declared.answer.Answer.TheVariants.{Oldest}
+use Rattle.model.specs.Answer.{Oldest}
 use Rattle.model.specs.Tables.{clock_of}
 use Rattle.model.specs.Tally.{minimum, oldest_of, holder_of, pin_holder_of}
 use Rattle.model.specs.Calls.{oldest, refusal, change_accepted, change_of, after, answer_accepted, answer}

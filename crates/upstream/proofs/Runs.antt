@@ -16,9 +16,7 @@ use Rattle.kinds.specs.declared.refusal.Refusal.TheVariants.{NoFreeSlot, Invalid
 use Rattle.kinds.specs.declared.refusal.Refusal.TheVariants.{ClockExhausted, BadReservation, WildJump, BadClock, BadSample}
 use Rattle.kinds.specs.Kinds.{top, txid, txid_of}
 use Rattle.kinds.specs.Refusals.{told}
-use Rattle.kinds.specs.declared.refusal.Verdict.{Verdict}
-use Rattle.kinds.specs.declared.refusal.Verdict.TheVariants.{Pass, Refuse}
-use Rattle.kinds.specs.Verdicts.{then}
+use Rattle.kinds.specs.Verdicts.{Verdict, Pass, Refuse, then}
 use Rattle.kinds.proofs.Verdicts.{refuse_not_pass}
 use Rattle.model.specs.declared.Table.{Table}
 use Rattle.model.specs.Tally.{lowest_empty}

@@ -8,7 +8,7 @@ use native.Mathlib.Omega.{arith}
 use Rattle.kinds.specs.Kinds.{top, free_pins, number, slot, txid}
 use Rattle.kinds.specs.Refusals.{told}
 use Rattle.kinds.specs.declared.refusal.Refusal.TheVariants.{NoFreeSlot, InvalidSlot, SlotOwnershipMismatch, WildJump}
-use Rattle.kinds.specs.declared.refusal.Verdict.TheVariants.{Pass, Refuse}
+use Rattle.kinds.specs.Verdicts.{Pass, Refuse}
 use Rattle.model.specs.declared.Table.{Table}
 use Rattle.model.specs.Tally.{active, lowest_empty, minimum, maximum, snapshot_of}
 use Rattle.model.specs.Tables.{fresh_table, counted, txid_at, lent}

@@ -9,11 +9,9 @@ use Rattle.kinds.specs.declared.refusal.Refusal.TheVariants.{InvalidSlot, SlotOw
 use Rattle.kinds.specs.Kinds.{txid}
 use Rattle.kinds.specs.declared.told.Told.{Told}
 use Rattle.kinds.specs.Refusals.{told, accepted}
-use Rattle.kinds.specs.declared.refusal.Verdict.{Verdict}
-use Rattle.kinds.specs.declared.refusal.Verdict.TheVariants.{Pass, Refuse}
+use Rattle.kinds.specs.Verdicts.{Verdict, Pass, Refuse}
 use Rattle.settled.specs.declared.Snapshot.{Snapshot}
-use Rattle.model.specs.declared.answer.Answer.{Answer}
-use Rattle.model.specs.declared.answer.Answer.TheVariants.{Oldest}
+use Rattle.model.specs.Answer.{Answer, Oldest}
 use Rattle.upstream.specs.States.{State, slot, at, push}
 use Rattle.upstream.specs.Tallies.{minimum_retention}
 use Rattle.upstream.specs.Relations.{Contains, TableOf, HistoryOf, Kept, Coherent, Observation, Reservation}

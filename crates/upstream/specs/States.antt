@@ -1,8 +1,7 @@
 -- Upstream's state, and how a table with the numbers reserved so far is one.
 -- Names are upstream's (L:18-40); the flag `lifecycle_held` is left out.
 use Rattle.std.specs.Prelude.{ℕ, ◌<◌, ◌≤◌, List, [], ◌∷◌, ◌++◌, ◌≡◌, Bool, true, false, length, get_or}
-use Rattle.kinds.specs.declared.refusal.Verdict.{Verdict}
-use Rattle.kinds.specs.Verdicts.{tells}
+use Rattle.kinds.specs.Verdicts.{Verdict, tells}
 use Rattle.model.specs.declared.Table.{Table}
 use Rattle.model.specs.Tables.{clock_of, sample_of, pin_at}
 use Rattle.model.specs.Calls.{Call, begin, end, snap, own, oldest, vacuum, stamp, finish, pin, unpin, refusal, after}

@@ -6,22 +6,18 @@ use mathlib.Core.Logic.{◌≢◌}
 use mathlib.Core.List.{List, [], ◌∷◌}
 use mathlib.Core.Bool.{Bool, true, false, cond, ◌||◌, true≢false, false≢true, or-true}
 use lib.Dec.{eqb}
+use Rattle.std.specs.Prelude.{Ok}
 use borrow.Author.Tests.{le-ltb, eq-eqb, ne_eqb, eqb-false}
 use Rattle.kinds.specs.declared.Txid.{Txid}
 use Rattle.kinds.specs.declared.refusal.Refusal.{Refusal}
 use Rattle.kinds.specs.declared.refusal.Refusal.TheVariants.{ZeroTxid}
-use Rattle.kinds.specs.declared.refusal.Verdict.{Verdict}
-use Rattle.kinds.specs.declared.refusal.Verdict.TheVariants.{Pass, Refuse}
+use Rattle.kinds.specs.Verdicts.{Verdict, Pass, Refuse, then, zero_test}
 use Rattle.kinds.specs.Kinds.{txid}
 use Rattle.kinds.specs.Refusals.{told, bare, accepted}
-use Rattle.kinds.specs.Verdicts.{then, zero_test}
 use Rattle.kinds.proofs.Unique.{told_unique, told_positive}
-use Rattle.settled.specs.declared.Settled.TheVariants.{Yes as Is, No as Not, Refused as Unanswered}
-use Rattle.usable.specs.declared.Usable.{Usable}
-use Rattle.usable.specs.declared.Usable.TheVariants.{Yes, No, Refused}
+use Rattle.settled.specs.Settled.{Yes as Is, No as Not, Refused as Unanswered, settled_in, SettledAnswer, paper_settled, count_test, settled_by, settled_test}
+use Rattle.usable.specs.Usable.{Usable, Yes, No, Refused, UsableAnswer, paper_usable, usable_by, usable_test, UsableFits}
 use Rattle.listed.specs.Listed.{listed}
-use Rattle.settled.specs.Settled.{settled_in, SettledAnswer, paper_settled, count_test, settled_by, settled_test}
-use Rattle.usable.specs.Usable.{UsableAnswer, paper_usable, usable_by, usable_test, UsableFits}
 
 abbrev number_of : UsableAnswer → ℕ
 number_of a = a.tells.number
@@ -75,19 +71,18 @@ module _ (n xmax : ℕ) (ids : List ℕ) (count : ℕ) (own id : Txid) where
           let same : below ≡ xmax = e ∙ rw q in
           rw same
 
-  pub usable_settled : paper_settled Is ≡ settled_test n xmax ids count id → paper_usable Yes ≡ usable_test n xmax ids count own id
+  -- the settled answer is b: the reader's own id is usable all the same, and another is usable as it is settled
+  pub usable_own : (b : Bool) → paper_settled (Ok b) ≡ settled_test n xmax ids count id → is-own ≡ true →
+      paper_usable Yes ≡ usable_test n xmax ids count own id
   unfolding settled_test usable_test
-  usable_settled e = by_yes tests in-it is-own e
+  usable_own true e p = by_yes tests in-it is-own e
+  usable_own false e p = by_no tests in-it is-own Yes e (rw p)
 
-  pub usable_own :
-      paper_settled Not ≡ settled_test n xmax ids count id → own.0 ≡ id.0 → paper_usable Yes ≡ usable_test n xmax ids count own id
+  pub usable_other : (b : Bool) → paper_settled (Ok b) ≡ settled_test n xmax ids count id → is-own ≡ false →
+      paper_usable (Ok b) ≡ usable_test n xmax ids count own id
   unfolding settled_test usable_test
-  usable_own e p = by_no tests in-it is-own Yes e (rw (eq-eqb own.0 id.0 p))
-
-  pub usable_neither :
-      paper_settled Not ≡ settled_test n xmax ids count id → own.0 ≢ id.0 → paper_usable No ≡ usable_test n xmax ids count own id
-  unfolding settled_test usable_test
-  usable_neither e p = by_no tests in-it is-own No e (rw (ne_eqb own.0 id.0 p))
+  usable_other true e p = by_yes tests in-it is-own e
+  usable_other false e p = by_no tests in-it is-own No e (rw p)
 
   pub usable_refused :
       (r : Refusal) → paper_settled (Unanswered r) ≡ settled_test n xmax ids count id →

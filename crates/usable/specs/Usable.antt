@@ -1,14 +1,24 @@
 -- Which versions a reader may use (SPEC 7.2): those whose maker is settled, and its own.
-use Rattle.std.specs.Prelude.{ℕ, ◌≡◌, List, Bool, true, false, ◌||◌, eqb}
+use Rattle.std.specs.Prelude.{ℕ, ◌≡◌, List, Bool, true, false, ◌||◌, eqb, Result, Ok, Err}
 use Rattle.kinds.specs.declared.Txid.{Txid}
-use Rattle.kinds.specs.declared.refusal.Verdict.{Verdict}
-use Rattle.kinds.specs.declared.refusal.Verdict.TheVariants.{Pass, Refuse}
+use Rattle.kinds.specs.Verdicts.{Verdict, Pass, Refuse, then, zero_test}
 use Rattle.kinds.specs.declared.told.Told.{Told}
 use Rattle.kinds.specs.Refusals.{told, accepted}
-use Rattle.kinds.specs.Verdicts.{then, zero_test}
-use Rattle.usable.specs.declared.Usable.{Usable}
-use Rattle.usable.specs.declared.Usable.TheVariants.{Yes, No, Refused}
 use Rattle.settled.specs.Settled.{settled_in, count_test}
+use Rattle.kinds.specs.declared.refusal.Refusal.{Refusal}
+
+-- what the test answers: whether the version is usable, or why it is not told
+abbrev pub Usable : Type 0
+Usable = Result Bool Refusal
+
+pattern abbrev pub Yes : Usable
+Yes = Ok true
+
+pattern abbrev pub No : Usable
+No = Ok false
+
+pattern abbrev pub Refused : Refusal → Usable
+Refused r = Err r
 
 -- settled, or the reader's own id
 abbrev pub usable_in : ℕ → List ℕ → ℕ → ℕ → ℕ → Bool

@@ -6,48 +6,35 @@ ghost use Rattle.std.specs.Prelude.{◌≡◌, cond, eqb};
 ghost use Rattle.usable.specs.Usable.{UsableFits};
 
 use kinds::{Refusal, SLOTS, Txid};
-use settled::{Settled, Snapshot};
-
-#[derive(Clone, Copy)]
-pub enum Usable {
-    Yes,
-    No,
-    Refused(Refusal),
-}
+use settled::Snapshot;
 
 // Below which xmax the list is asked: for the reader's own id, which is usable whatever the list says, below none.
 fn asked_below(xmax: u64, own: Txid, id: Txid) -> u64
     ensures { result ≡ cond (eqb own.0 id.0) 0 xmax }
 {
-    if own.0 == id.0 {
-        return 0;
-    }
-    xmax
+    if own == id { 0 } else { xmax }
 }
 
 // The test on a snapshot's parts, lent. `own` is the reader's id, 0 for none. Refusals 10 and 4 are the settled test's.
-pub fn is_usable_among(ids: &[u64], count: usize, xmax: u64, own: Txid, id: Txid) -> Usable
+// The list, its count and xmax stay three parameters, as there: a count above the places is an answer.
+pub fn is_usable_among(
+    ids: &[u64],
+    count: usize,
+    xmax: u64,
+    own: Txid,
+    id: Txid,
+) -> Result<bool, Refusal>
     ensures { UsableFits SLOTS xmax ids.now count own id result }
 {
+    // The parts stay parameters: DECISIONS and SPEED name this call too, and the settled test takes them so.
     let below = asked_below(xmax, own, id);
-    let said = settled::is_settled_among(ids, count, below, id);
-    match said {
-        Settled::Yes => Usable::Yes,
-        Settled::No => {
-            if own.0 == id.0 {
-                return Usable::Yes;
-            }
-            Usable::No
-        }
-        Settled::Refused(refusal) => Usable::Refused(refusal),
-    }
+    let settled = settled::is_settled_among(ids, count, below, id)?;
+    Ok(own == id || settled)
 }
 
 // An id is usable exactly when it is settled or the reader's own.
-pub fn is_usable(snapshot: Snapshot, own: Txid, id: Txid) -> Usable
+pub fn is_usable(snapshot: Snapshot, own: Txid, id: Txid) -> Result<bool, Refusal>
     ensures { UsableFits SLOTS snapshot.xmax snapshot.ids snapshot.count own id result }
 {
-    let count = snapshot.count;
-    let xmax = snapshot.xmax;
-    is_usable_among(&snapshot.ids, count, xmax, own, id)
+    is_usable_among(&snapshot.ids, snapshot.count, snapshot.xmax, own, id)
 }

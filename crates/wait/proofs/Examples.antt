@@ -5,8 +5,7 @@ use mathlib.Core.List.{List, [], ◌∷◌, ◌++◌}
 use lib.ListN.{set}
 use Rattle.kinds.specs.Kinds.{free_pins, slot, txid}
 use Rattle.kinds.specs.declared.refusal.Refusal.TheVariants.{InvalidSlot, SlotOwnershipMismatch, ZeroTxid, BadTrace, BadEntry, BadStep}
-use Rattle.kinds.specs.declared.refusal.Verdict.{Verdict}
-use Rattle.kinds.specs.declared.refusal.Verdict.TheVariants.{Pass, Refuse}
+use Rattle.kinds.specs.Verdicts.{Verdict, Pass, Refuse}
 use Rattle.listed.specs.Listed.{listed}
 use Rattle.model.specs.declared.Table.{Table}
 use Rattle.model.specs.Tally.{active, minimum}
@@ -21,8 +20,7 @@ use Rattle.grammar.specs.Items.{found_in, found_from}
 use Rattle.grammar.specs.Named.{item_at}
 use Rattle.grammar.specs.Texts.{read_text}
 use Rattle.events.specs.Wait.{header}
-use Rattle.wait_rules.specs.declared.Owner.{Owner}
-use Rattle.wait_rules.specs.declared.Owner.TheVariants.{Nobody, Holds}
+use Rattle.wait_rules.specs.Owner.{Owner, Nobody, Holds}
 use Rattle.wait.specs.declared.WaitAnswer.{WaitAnswer}
 use Rattle.wait_rules.specs.Steps.{register_rule, end_rule, horizon_rule, rule_of, event_test, change_by, event_change}
 use Rattle.wait.specs.Waits.{steps_from, ended, verdict_on, wait_of}

@@ -2,7 +2,7 @@
 -- line. A full begin, which consumes its number, is a reserve.
 use Prim.Native.Nat.{ℕ, ◌≤◌, ◌<◌}
 use native.Mathlib.Omega.{arith}
-use mathlib.Core.Path.{◌≡◌, refl, ap}
+use mathlib.Core.Path.{◌≡◌, ap}
 use mathlib.Core.Logic.{◌≢◌}
 use mathlib.Core.Bool.{true, and-eq-true_iff}
 use mathlib.Core.List.{List, [], ◌∷◌}
@@ -13,7 +13,7 @@ use Rattle.kinds.specs.declared.SlotNo.{SlotNo}
 use Rattle.kinds.specs.declared.Stamp.{Stamp}
 use Rattle.kinds.specs.declared.Txid.{Txid}
 use Rattle.kinds.specs.declared.refusal.Refusal.TheVariants.{NoFreeSlot}
-use Rattle.kinds.specs.declared.refusal.Verdict.TheVariants.{Pass, Refuse}
+use Rattle.kinds.specs.Verdicts.{Pass, Refuse}
 use Rattle.kinds.specs.Kinds.{txid_of}
 use Rattle.kinds.specs.Refusals.{consumed}
 use Rattle.model.specs.declared.Table.{Table}
@@ -30,7 +30,7 @@ use Rattle.model.proofs.Refused.{Declined, stays, spends, declined}
 use Rattle.model.proofs.Transactions.{registered_taken}
 use Rattle.events.specs.declared.Kind.TheVariants.{Register, End, Horizon, Reserve, Observe}
 use Rattle.events.specs.declared.Event.{Event}
-use Rattle.wait_rules.specs.declared.Owner.{Owner}
+use Rattle.wait_rules.specs.Owner.{Owner}
 use Rattle.wait_rules.specs.Steps.{not_owned, may_name, register_rule, end_rule, horizon_rule, rule_of, event_test, change_by, event_change}
 use Rattle.wait.specs.Waits.{steps_from, ended}
 

@@ -9,8 +9,7 @@ use Rattle.kinds.specs.declared.SlotNo.{SlotNo}
 use Rattle.kinds.specs.declared.Txid.{Txid}
 use Rattle.kinds.specs.declared.refusal.Refusal.{Refusal}
 use Rattle.kinds.specs.declared.refusal.Refusal.TheVariants.{BadTrace, BadStep}
-use Rattle.kinds.specs.declared.refusal.Verdict.{Verdict}
-use Rattle.kinds.specs.declared.refusal.Verdict.TheVariants.{Pass, Refuse}
+use Rattle.kinds.specs.Verdicts.{Verdict, Pass, Refuse}
 use Rattle.kinds.proofs.Verdicts.{refuse_not_pass, passed_by, then_pass}
 use Rattle.model.specs.declared.Table.{Table}
 use Rattle.model.specs.Tables.{clock_of, line_of}
@@ -24,13 +23,13 @@ use Rattle.model.proofs.Check.{passes-good, good-passes}
 use Rattle.grammar.specs.Texts.{Read, Whole, Broken}
 use Rattle.events.specs.Wait.{Header, Wait1, events_of}
 use Rattle.events.specs.declared.Event.{Event}
-use Rattle.wait_rules.specs.declared.Owner.{Owner}
-use Rattle.wait_rules.specs.declared.Owner.TheVariants.{Holds}
+use Rattle.wait_rules.specs.Owner.{Owner, Holds}
 use Rattle.wait_rules.specs.Steps.{event_test, event_after}
 use Rattle.wait.specs.Waits.{entry_test, holder_test, steps_from, ended, verdict_on, answered, on_text, wait_of}
 use Rattle.wait_rules.proofs.Steps.{good_event, SlotStays, slot-stays, line_stays, pins_stay}
 
-went_on : (b : Bool) (v : Verdict) (r : Refusal) → cond b v (Refuse r) ≡ Pass → (b ≡ true) × (v ≡ Pass)
+-- an event that is not the bad one, and the steps past it
+pub went_on : (b : Bool) (v : Verdict) (r : Refusal) → cond b v (Refuse r) ≡ Pass → (b ≡ true) × (v ≡ Pass)
 went_on true v r e = (refl, e)
 went_on false v r e = absurd (refuse_not_pass r e)
 

@@ -1,17 +1,15 @@
 -- A whole wait: which tests it goes through, in their order, and the table at its end.
-use Rattle.std.specs.Prelude.{ℕ, ◌+◌, cond, List, [], ◌∷◌}
+use Rattle.std.specs.Prelude.{ℕ, ◌+◌, cond, List, [], ◌∷◌, Result, Ok, Err}
+use Rattle.kinds.specs.declared.refusal.Refusal.{Refusal}
 use Rattle.kinds.specs.declared.refusal.Refusal.TheVariants.{BadTrace, BadEntry, BadStep}
-use Rattle.kinds.specs.declared.refusal.Verdict.{Verdict}
-use Rattle.kinds.specs.declared.refusal.Verdict.TheVariants.{Pass, Refuse}
-use Rattle.kinds.specs.Verdicts.{then}
+use Rattle.kinds.specs.Verdicts.{Verdict, Pass, Refuse, then}
 use Rattle.model.specs.declared.Table.{Table}
 use Rattle.model.specs.Tests.{owner_test}
 use Rattle.model.specs.Check.{table_passes}
 use Rattle.grammar.specs.Texts.{Read, Whole, Broken}
 use Rattle.events.specs.Wait.{Header, events_of}
 use Rattle.events.specs.declared.Event.{Event}
-use Rattle.wait_rules.specs.declared.Owner.{Owner}
-use Rattle.wait_rules.specs.declared.Owner.TheVariants.{Nobody, Holds}
+use Rattle.wait_rules.specs.Owner.{Owner, Nobody, HeldBy}
 use Rattle.wait.specs.declared.WaitAnswer.{WaitAnswer}
 use Rattle.wait_rules.specs.Steps.{event_test, event_after}
 
@@ -22,7 +20,7 @@ entry_test n t = cond (table_passes n t) Pass (Refuse BadEntry)
 -- 2, 4, 3: the owner, if there is one, holds its slot
 abbrev pub holder_test : ℕ → Table → Owner → Verdict
 holder_test n t Nobody = Pass
-holder_test n t (Holds slot id) = owner_test n t.txids slot id
+holder_test n t (HeldBy own) = owner_test n t.txids own.slot own.id
 
 -- 22: the first step that breaks its rule; the next one has the number `step`
 unfoldable pub steps_from : ℕ → Owner → Table → ℕ → List Event → Verdict
@@ -43,6 +41,11 @@ verdict_on n t owner es = then (entry_test n t) (then (holder_test n t owner) (s
 abbrev pub answered : Verdict → Table → List Event → WaitAnswer
 answered Pass t es = record { table = ended t es; verdict = Pass }
 answered (Refuse r) t es = record { table = t; verdict = Refuse r }
+
+-- the same of what a wait came to: the table at its end, or what refuses it
+abbrev pub answer_by : Table → Result Table Refusal → WaitAnswer
+answer_by t (Ok end) = record { table = end; verdict = Pass }
+answer_by t (Err r) = record { table = t; verdict = Refuse r }
 
 -- the answer to the steps alone
 abbrev pub stepped_of : ℕ → Owner → Table → List Event → WaitAnswer

@@ -1,61 +1,43 @@
 // The check of a wait: its text, the entry table, the owner, its steps, in this order.
 ghost use Rattle.std.specs.Prelude.{◌≡◌};
 ghost use Rattle.kinds.specs.Verdicts.{then};
-ghost use Rattle.model.specs.Tables.{lent};
-ghost use Rattle.wait.specs.Waits.{entry_test, holder_test, wait_of};
+ghost use Rattle.model.specs.Tables.{lent_by};
+ghost use Rattle.wait.specs.Waits.{answer_by, entry_test, holder_test, wait_of};
 
-use crate::{Owner, WaitAnswer};
-use events::Reading;
-use kinds::{Refusal, SLOTS, Verdict};
-use model::{Counters, Table};
+use crate::{Registration, WaitAnswer};
+use kinds::{Refusal, SLOTS};
+use model::{Columns, Table};
 
 // Refusals 21, then 2, 4, 3.
-fn entry_test<'a>(
-    txids: &'a [u64],
-    xmins: &'a [u64],
-    pins: &'a [u64],
-    counters: Counters,
-    owner: Owner,
-) -> Verdict
-    ensures { result ≡ then (entry_test SLOTS (lent txids.now xmins.now pins.now counters))
-        (holder_test SLOTS (lent txids.now xmins.now pins.now counters) owner) }
+fn entry_test(columns: Columns<'_>, owner: Option<Registration>) -> Result<(), Refusal>
+    ensures { result ≡ then (entry_test SLOTS (lent_by columns.entry)) (holder_test SLOTS (lent_by columns.entry) owner) }
 {
-    if table_check::check_columns(txids, xmins, pins, counters) {
-        return match owner {
-            Owner::Nobody => Verdict::Pass,
-            Owner::Holds { slot, id } => verdicts::owner_test(txids, slot, id),
-        };
+    if !table_check::check_columns(columns) {
+        return Err(Refusal::BadEntry);
     }
-    Verdict::Refuse(Refusal::BadEntry)
+    match owner {
+        None => Ok(()),
+        Some(own) => verdicts::owner_test(columns.txids, own.slot, own.id),
+    }
+}
+
+// The table at the end of the wait, or what refuses it.
+fn table_after(table: Table, owner: Option<Registration>, s: &[u8]) -> Result<Table, Refusal>
+    ensures { answer_by table result ≡ wait_of SLOTS table owner s.now }
+{
+    events::read_wait(s).map_err(|line| Refusal::BadTrace(line as u64))?;
+    entry_test(table.lend(), owner)?;
+    crate::run::run_steps(table, owner, s)
 }
 
 // What is answered to what others did while one waited. The answered table is evidence about the owner's slot: a vacuum
 // that ran meanwhile can't be told, so it is no table to go on from.
-pub fn check_wait(table: Table, owner: Owner, s: &[u8]) -> WaitAnswer
+pub fn check_wait(table: Table, owner: Option<Registration>, s: &[u8]) -> WaitAnswer
     ensures { result ≡ wait_of SLOTS table owner s.now }
 {
-    let reading = events::read_wait(s);
-    match reading {
-        Reading::Broken(line) => WaitAnswer {
-            table,
-            verdict: Verdict::Refuse(Refusal::BadTrace(line as u64)),
-        },
-        Reading::Whole(_) => {
-            let counters = table.counters;
-            let entry = entry_test(
-                &table.txids,
-                &table.snapshot_xmins,
-                &table.pins,
-                counters,
-                owner,
-            );
-            match entry {
-                Verdict::Refuse(r) => WaitAnswer {
-                    table,
-                    verdict: Verdict::Refuse(r),
-                },
-                Verdict::Pass => crate::run::run_steps(table, owner, s),
-            }
-        }
-    }
+    let (table, verdict) = match table_after(table, owner, s) {
+        Ok(end) => (end, Ok(())),
+        Err(r) => (table, Err(r)),
+    };
+    WaitAnswer { table, verdict }
 }

@@ -6,13 +6,13 @@ mod check;
 mod run;
 
 pub use check::check_wait;
-use kinds::Verdict;
+use kinds::Refusal;
 use model::Table;
-pub use wait_rules::Owner;
+pub use wait_rules::Registration;
 
 // The table at the end of an accepted wait, or the entry table beside a refusal.
 #[derive(Clone, Copy)]
 pub struct WaitAnswer {
     pub table: Table,
-    pub verdict: Verdict,
+    pub verdict: Result<(), Refusal>,
 }

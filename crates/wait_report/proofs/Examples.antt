@@ -15,9 +15,9 @@ use Rattle.grammar.specs.Names.{name_line, first_named, name_at}
 use Rattle.grammar.specs.Items.{found_in, found_from}
 use Rattle.grammar.specs.Named.{item_at}
 use Rattle.grammar.specs.Texts.{read_text}
-use Rattle.table_text.specs.TableText.{pin_rules, table_rules, pin_numbers, numbers_of, lines_under, table_text, table_from, broken_at}
+use Rattle.table_text.specs.TableText.{pin_rules, table_rules, pin_numbers, numbers_of, lines_under, table_text, table_from}
 use Rattle.table_text.specs.TableText.{table_of}
-use Rattle.wait_rules.specs.declared.Owner.TheVariants.{Nobody, Holds}
+use Rattle.wait_rules.specs.Owner.{Nobody, Holds}
 use Rattle.wait_rules.specs.Steps.{register_rule, end_rule, horizon_rule, rule_of, event_test, change_by, event_change}
 use Rattle.wait.specs.Waits.{steps_from, ended, verdict_on, wait_of}
 use Rattle.wait_report.specs.Report.{verdict_lines, answer_text, on_table, report_of}
@@ -59,7 +59,7 @@ record Reports : Type 0 where
 reports : Reports
 unfolding
     free_pins pin_rules pin_numbers report_of on_table answer_text verdict_lines table_text lines_under table_rules numbers_of line_texts joined
-    line_text number_text decimal decimal_in table_of table_from broken_at told
+    line_text number_text decimal decimal_in table_of table_from told
     wait_of verdict_on steps_from ended event_test rule_of register_rule end_rule horizon_rule event_change change_by passes slots_pass differ
     pins_pass listed active minimum read_text name_at first_named name_line found_from found_in item_at fields_at field_rules limit
     lines_at field_at number_at number_from number_tail starts

@@ -1,12 +1,11 @@
--- The five lines of a verdict, one after the other where they have room; and a table after them.
+-- The five lines of a verdict: their length, and that they stand one after the other where they have room.
 use Prim.Native.Nat.{ℕ, ◌+◌, ◌≤◌, ◌<◌}
 use native.Mathlib.Omega.{arith}
 use mathlib.Core.Path.{◌≡◌, sym, ap, ◌∙◌}
 use mathlib.Core.List.{List, ◌++◌}
 use lib.ListN.{length, length-append}
 use Rattle.kinds.specs.declared.told.Told.{Told}
-use Rattle.text.specs.declared.Put.{Put}
-use Rattle.text.specs.declared.Put.TheVariants.{Past, NoRoom}
+use Rattle.text.specs.Put.{Put}
 use Rattle.text.specs.Decimal.{decimal}
 use Rattle.text.specs.Keys.{answer_key, slot_key, id_key, seen_key, at_key}
 use Rattle.text.specs.Line.{line_text}
@@ -27,7 +26,12 @@ pub verdict_length : (t : Told)
 unfolding verdict_lines
 verdict_length t = simp (length-append, line-length) (omega arith)
 
-module _ (t : Told) (xs : List ℕ) (h : 0 + length (verdict_lines t) ≤ length xs) where
+-- one more text after those that were put
+next : (s t : List ℕ) {xs ys zs : List ℕ} {p q : ℕ} → 0 + length (s ++ t) ≤ length xs → Placed xs 0 s ys p
+    → (p + length t ≤ length ys → Placed ys p t zs q) → Placed xs 0 (s ++ t) zs q
+next s t h a b = both_placed s t h a (b (fits_next s t h a))
+
+module _ (t : Told) where
   abbrev answer : List ℕ
   answer = line_text answer_key t.number
 
@@ -43,45 +47,20 @@ module _ (t : Told) (xs : List ℕ) (h : 0 + length (verdict_lines t) ≤ length
   abbrev at : List ℕ
   at = line_text at_key t.at
 
-  four-fit : 0 + length (answer ++ slot ++ id ++ seen) ≤ length xs
+  pub verdict_placed : {xs ys zs us vs ws : List ℕ} {p q r k m : ℕ} → 0 + length (verdict_lines t) ≤ length xs
+      → (0 + length answer ≤ length xs → Placed xs 0 answer ys p)
+      → (p + length slot ≤ length ys → Placed ys p slot zs q)
+      → (q + length id ≤ length zs → Placed zs q id us r)
+      → (r + length seen ≤ length us → Placed us r seen vs k)
+      → (k + length at ≤ length vs → Placed vs k at ws m)
+      → Placed xs 0 (verdict_lines t) ws m
   unfolding verdict_lines
-  four-fit = fits-first (answer ++ slot ++ id ++ seen) at 0 h
-
-  three-fit : 0 + length (answer ++ slot ++ id) ≤ length xs
-  three-fit = fits-first (answer ++ slot ++ id) seen 0 four-fit
-
-  two-fit : 0 + length (answer ++ slot) ≤ length xs
-  two-fit = fits-first (answer ++ slot) id 0 three-fit
-
-  pub answer-fits : 0 + length answer ≤ length xs
-  answer-fits = fits-first answer slot 0 two-fit
-
-  module _ {ys : List ℕ} {p : ℕ} (a : Placed xs 0 answer ys p) where
-    pub slot-fits : p + length slot ≤ length ys
-    slot-fits = fits_next answer slot two-fit a
-
-    module _ {zs : List ℕ} {q : ℕ} (b : Placed ys p slot zs q) where
-      two : Placed xs 0 (answer ++ slot) zs q
-      two = both_placed answer slot two-fit a b
-
-      pub id_fits : q + length id ≤ length zs
-      id_fits = fits_next (answer ++ slot) id three-fit two
-
-      module _ {us : List ℕ} {r : ℕ} (c : Placed zs q id us r) where
-        three : Placed xs 0 (answer ++ slot ++ id) us r
-        three = both_placed (answer ++ slot) id three-fit two c
-
-        pub seen-fits : r + length seen ≤ length us
-        seen-fits = fits_next (answer ++ slot ++ id) seen four-fit three
-
-        module _ {vs : List ℕ} {k : ℕ} (d : Placed us r seen vs k) where
-          four : Placed xs 0 (answer ++ slot ++ id ++ seen) vs k
-          four = both_placed (answer ++ slot ++ id) seen four-fit three d
-
-          pub at-fits : k + length at ≤ length vs
-          unfolding verdict_lines
-          at-fits = fits_next (answer ++ slot ++ id ++ seen) at h four
-
-          pub verdict_placed : {ws : List ℕ} {m : ℕ} → Placed vs k at ws m → Placed xs 0 (verdict_lines t) ws m
-          unfolding verdict_lines
-          verdict_placed e = both_placed (answer ++ slot ++ id ++ seen) at h four e
+  verdict_placed h a b c d e =
+      let four-fit = fits-first (answer ++ slot ++ id ++ seen) at 0 h in
+      let three-fit = fits-first (answer ++ slot ++ id) seen 0 four-fit in
+      let two-fit = fits-first (answer ++ slot) id 0 three-fit in
+      let one = a (fits-first answer slot 0 two-fit) in
+      let two = next answer slot two-fit one b in
+      let three = next (answer ++ slot) id three-fit two c in
+      let four = next (answer ++ slot ++ id) seen four-fit three d in
+      next (answer ++ slot ++ id ++ seen) at h four e

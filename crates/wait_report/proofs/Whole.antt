@@ -4,20 +4,20 @@ use native.Mathlib.Omega.{arith}
 use mathlib.Core.Path.{◌≡◌, refl, sym, ap, ◌∙◌}
 use mathlib.Core.List.{List, ◌++◌}
 use lib.ListN.{length, length-append}
-use borrow.Author.Tests.{eq-eqb, ne_eqb}
+use Rattle.std.specs.Prelude.{Result, Ok, Err}
 use Rattle.kinds.specs.declared.told.Told.{Told}
 use Rattle.kinds.specs.declared.refusal.Refusal.TheVariants.{BadTrace}
 use Rattle.kinds.specs.Refusals.{told}
 use Rattle.kinds.specs.Verdicts.{tells}
-use Rattle.text.specs.declared.Put.{Put}
+use Rattle.model.specs.declared.Table.{Table}
+use Rattle.text.specs.Put.{Put}
 use Rattle.text.specs.Write.{put_at, written}
 use Rattle.text.specs.Placed.{Placed}
 use Rattle.text.proofs.Splice.{room, splice_length}
 use Rattle.text.proofs.Placed.{fits_next, both_placed, placed_put}
 use Rattle.table_text.specs.TableText.{table_text, table_of}
-use Rattle.table_text.specs.declared.TableRead.{TableRead}
 use Rattle.wait.specs.Waits.{wait_of}
-use Rattle.wait_rules.specs.declared.Owner.{Owner}
+use Rattle.wait_rules.specs.Owner.{Owner}
 use Rattle.wait.specs.declared.WaitAnswer.{WaitAnswer}
 use Rattle.wait_report.specs.Report.{verdict_lines, answer_text, on_table, report_of}
 
@@ -50,6 +50,11 @@ pub answer_size : (a : WaitAnswer) {t : Told} {m k : ℕ} → t ≡ tells a.verd
     → k ≡ length (table_text a.table) → length (answer_text a) ≡ m + k
 answer_size a e five rest = omega (arith, answer-length a, five, rest, ap (λ (x : Told). length (verdict_lines x)) e)
 
+-- .. of which the lines alone are no more
+pub lines_short : (a : WaitAnswer) {t : Told} {m : ℕ} → t ≡ tells a.verdict → m ≡ length (verdict_lines t)
+    → m ≤ length (answer_text a)
+lines_short a e five = omega (arith, answer_size a e five refl)
+
 pub answer-put : (a : WaitAnswer) {t : Told} {xs ys zs : List ℕ} {p : ℕ} {put : Put} → t ≡ tells a.verdict
     → 0 + length (answer_text a) ≤ length xs → Placed xs 0 (verdict_lines t) ys p
     → put ≡ put_at ys p (table_text a.table) → zs ≡ written ys p (table_text a.table) → Puts xs (answer_text a) zs put
@@ -57,13 +62,13 @@ unfolding answer_text
 answer-put a e h f q w = put-after (verdict_lines (tells a.verdict)) (table_text a.table) h (rw (← e) f) q w
 
 -- a table's text that breaks a rule, and one that doesn't
-module _ (n : ℕ) (table : List ℕ) (owner : Owner) (wait : List ℕ) (r : TableRead) (e : r ≡ table_of n table) where
-  pub report_broken : (xs : List ℕ) {t : Told} {ys : List ℕ} {put : Put} → (r.broken ≡ 0 → ⊥) → t ≡ told (BadTrace r.broken)
+module _ (n : ℕ) (table : List ℕ) (owner : Owner) (wait xs : List ℕ) {ys : List ℕ} {put : Put} where
+  pub report_broken : {t : Told} (line : ℕ) → table_of n table ≡ Err line → t ≡ told (BadTrace line)
       → Puts xs (verdict_lines t) ys put → Puts xs (report_of n table owner wait) ys put
   unfolding report_of on_table
-  report_broken xs h q p = puts_same xs (rw (← e, q, ne_eqb r.broken 0 h)) p
+  report_broken line e q p = puts_same xs (rw (e, q)) p
 
-  pub report-whole : (xs : List ℕ) {a : WaitAnswer} {ys : List ℕ} {put : Put} → r.broken ≡ 0 → a ≡ wait_of n r.table owner wait
+  pub report-whole : {a : WaitAnswer} (t : Table) → table_of n table ≡ Ok t → a ≡ wait_of n t owner wait
       → Puts xs (answer_text a) ys put → Puts xs (report_of n table owner wait) ys put
   unfolding report_of on_table
-  report-whole xs h q p = puts_same xs (rw (← e, q, eq-eqb r.broken 0 h)) p
+  report-whole t e q p = puts_same xs (rw (e, q)) p

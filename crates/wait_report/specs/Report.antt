@@ -1,15 +1,14 @@
 -- What the check of a wait prints: five lines, and a table (SPEC 16.5).
-use Rattle.std.specs.Prelude.{ℕ, cond, List, ◌++◌, eqb}
+use Rattle.std.specs.Prelude.{ℕ, List, ◌++◌, Ok, Err}
 use Rattle.kinds.specs.declared.told.Told.{Told}
 use Rattle.kinds.specs.declared.refusal.Refusal.TheVariants.{BadTrace}
 use Rattle.kinds.specs.Refusals.{told}
 use Rattle.kinds.specs.Verdicts.{tells}
 use Rattle.text.specs.Keys.{answer_key, slot_key, id_key, seen_key, at_key}
 use Rattle.text.specs.Line.{line_text}
-use Rattle.table_text.specs.TableText.{table_text, table_of}
-use Rattle.table_text.specs.declared.TableRead.{TableRead}
+use Rattle.table_text.specs.TableText.{TableRead, table_text, table_of}
 use Rattle.wait.specs.Waits.{wait_of}
-use Rattle.wait_rules.specs.declared.Owner.{Owner}
+use Rattle.wait_rules.specs.Owner.{Owner}
 use Rattle.wait.specs.declared.WaitAnswer.{WaitAnswer}
 
 -- the five numbers of a verdict (SPEC 3.1)
@@ -27,8 +26,8 @@ answer_text a = verdict_lines (tells a.verdict) ++ table_text a.table
 
 -- where the table's own text breaks a rule: refusal 9 with its line, and no table
 unfoldable pub on_table : ℕ → Owner → List ℕ → TableRead → List ℕ
-on_table n owner wait r =
-    cond (eqb r.broken 0) (answer_text (wait_of n r.table owner wait)) (verdict_lines (told (BadTrace r.broken)))
+on_table n owner wait (Ok t) = answer_text (wait_of n t owner wait)
+on_table n owner wait (Err line) = verdict_lines (told (BadTrace line))
 
 -- the report on the text of a table of n slots, an owner and the text of a wait
 unfoldable pub report_of : ℕ → List ℕ → Owner → List ℕ → List ℕ

@@ -12,7 +12,7 @@ use Rattle.counters.proofs.Past.{reserved-past}
 use Rattle.events.specs.declared.Kind.{Kind}
 use Rattle.events.specs.declared.Kind.TheVariants.{Register, End, Horizon, Reserve, Observe}
 use Rattle.events.specs.declared.Event.{Event}
-use Rattle.wait_rules.specs.declared.Owner.{Owner}
+use Rattle.wait_rules.specs.Owner.{Owner}
 use Rattle.wait_rules.specs.Steps.{may_name, is_empty, register_rule, rule_of, event_test, change_by, event_change, held_by, held_change}
 use Rattle.wait_rules.proofs.Steps.{passed_pass}
 

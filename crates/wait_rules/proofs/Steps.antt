@@ -2,16 +2,15 @@
 use Prim.Native.Nat.{ℕ, ◌≤◌}
 use mathlib.Core.Path.{◌≡◌, refl, sym}
 use mathlib.Core.Logic.{◌≢◌}
-use mathlib.Core.Bool.{true, not, false≢true, and-eq-true_iff}
+use mathlib.Core.Bool.{Bool, true, not, ◌&&◌, false≢true, and-eq-true_iff}
 use native.Mathlib.Nat.{le_refl}
 use native.Mathlib.Omega.{arith}
-use lib.Dec.{ltb, leb, eqb}
+use lib.Dec.{ltb, leb}
 use lib.Seq.{get_or-set_other}
 use borrow.Author.Tests.{leb-true, eqb-false, not-true}
 use Rattle.kinds.specs.declared.SlotNo.{SlotNo}
 use Rattle.kinds.specs.declared.Txid.{Txid}
-use Rattle.kinds.specs.declared.refusal.Verdict.{Verdict}
-use Rattle.kinds.specs.declared.refusal.Verdict.TheVariants.{Pass, Refuse}
+use Rattle.kinds.specs.Verdicts.{Verdict, Pass, Refuse}
 use Rattle.kinds.specs.Kinds.{slot, txid, number}
 use Rattle.model.specs.declared.Table.{Table}
 use Rattle.model.specs.declared.change.SlotChange.TheVariants.{Stays, Enters, Leaves, Retains}
@@ -26,8 +25,7 @@ use Rattle.model.proofs.Moves.{is_taken, is_held, CountersFit, good-applied}
 use Rattle.events.specs.declared.Kind.{Kind}
 use Rattle.events.specs.declared.Kind.TheVariants.{Register, End, Horizon, Reserve, Observe}
 use Rattle.events.specs.declared.Event.{Event}
-use Rattle.wait_rules.specs.declared.Owner.{Owner}
-use Rattle.wait_rules.specs.declared.Owner.TheVariants.{Holds}
+use Rattle.wait_rules.specs.Owner.{Owner, Holds}
 use Rattle.wait_rules.specs.Steps.{may_name, is_empty, least_active, passed, register_rule, end_rule, horizon_rule, rule_of, event_test}
 use Rattle.wait_rules.specs.Steps.{change_by, event_change, event_after}
 
@@ -117,25 +115,27 @@ pub record SlotStays (t u : Table) (i : ℕ) : Type 0 where
 
 module _ (n : ℕ) (t : Table) (mine : SlotNo) (id : Txid) (e : Event) where
   -- an event that names a slot names another than the owner's
-  other_slot : may_name n (Holds mine id) e.slot ≡ true → mine.0 ≢ e.slot
-  other_slot h q = eqb-false e.slot mine.0 (not-true _ ((and-eq-true_iff (ltb e.slot n) _).0 h).1) (sym q)
+  other_slot : (rest : Bool) → (may_name n (Holds mine id) e.slot && rest) ≡ true → mine.0 ≢ e.slot
+  other_slot rest h q =
+      let may = ((and-eq-true_iff (may_name n (Holds mine id) e.slot) rest).0 h).0 in
+      eqb-false e.slot mine.0 (not-true _ ((and-eq-true_iff (ltb e.slot n) _).0 may).1) (sym q)
 
   stays_by : (k : Kind) → rule_of k n t (Holds mine id) e ≡ true → SlotStays t (applied t (change_by k t e)) mine.0
   unfolding rule_of register_rule end_rule horizon_rule change_by
   stays_by Register h =
-      let d = other_slot ((and-eq-true_iff (may_name n (Holds mine id) e.slot) _).0 h).0 in
+      let d = other_slot _ h in
       record {
         txid_stays = get_or-set_other t.txids e.slot mine.0 e.id 0 d;
         xmin_stays = get_or-set_other t.snapshot_xmins e.slot mine.0 e.id 0 d;
       }
   stays_by End h =
-      let d = other_slot ((and-eq-true_iff (may_name n (Holds mine id) e.slot) _).0 h).0 in
+      let d = other_slot _ h in
       record {
         txid_stays = get_or-set_other t.txids e.slot mine.0 0 0 d;
         xmin_stays = get_or-set_other t.snapshot_xmins e.slot mine.0 0 0 d;
       }
   stays_by Horizon h =
-      let d = other_slot ((and-eq-true_iff (may_name n (Holds mine id) e.slot) _).0 h).0 in
+      let d = other_slot _ h in
       record { txid_stays = refl; xmin_stays = get_or-set_other t.snapshot_xmins e.slot mine.0 e.xmin 0 d }
   stays_by Reserve h = record { txid_stays = refl; xmin_stays = refl }
   stays_by Observe h = record { txid_stays = refl; xmin_stays = refl }

@@ -1,8 +1,6 @@
 -- The events of a wait on a table of n slots: when each may happen, and what it changes.
 use Rattle.std.specs.Prelude.{ℕ, Bool, true, false, ◌&&◌, not, List, eqb, ltb, leb, get_or}
-use Rattle.kinds.specs.declared.SlotNo.{SlotNo}
-use Rattle.kinds.specs.declared.refusal.Verdict.{Verdict}
-use Rattle.kinds.specs.declared.refusal.Verdict.TheVariants.{Pass, Refuse}
+use Rattle.kinds.specs.Verdicts.{Verdict, Pass, Refuse}
 use Rattle.kinds.specs.Kinds.{slot, txid, number}
 use Rattle.model.specs.declared.Counters.{Counters}
 use Rattle.model.specs.declared.Table.{Table}
@@ -16,13 +14,12 @@ use Rattle.counters.specs.Reserved.{reserved_from}
 use Rattle.events.specs.declared.Kind.{Kind}
 use Rattle.events.specs.declared.Kind.TheVariants.{Register, End, Horizon, Reserve, Observe}
 use Rattle.events.specs.declared.Event.{Event}
-use Rattle.wait_rules.specs.declared.Owner.{Owner}
-use Rattle.wait_rules.specs.declared.Owner.TheVariants.{Nobody, Holds}
+use Rattle.wait_rules.specs.Owner.{Owner, Nobody, HeldBy}
 
 -- the slot is not the owner's
 abbrev pub not_owned : Owner → ℕ → Bool
 not_owned Nobody i = true
-not_owned (Holds slot id) i = not (eqb i slot.0)
+not_owned (HeldBy own) i = not (eqb i own.slot.0)
 
 -- register, end and horizon name a slot that the table has and that is not the owner's
 abbrev pub may_name : ℕ → Owner → ℕ → Bool

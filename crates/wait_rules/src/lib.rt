@@ -8,9 +8,9 @@ pub use change::change_of;
 use kinds::{SlotNo, Txid};
 pub use rules::keeps_rule;
 
-// Whose slot must not be touched: nobody's, or that of a registration.
-#[derive(Clone, Copy)]
-pub enum Owner {
-    Nobody,
-    Holds { slot: SlotNo, id: Txid },
+// A registration: its slot must not be touched.
+#[derive(Clone, Copy, Debug, PartialEq, Eq)]
+pub struct Registration {
+    pub slot: SlotNo,
+    pub id: Txid,
 }

@@ -1,106 +1,71 @@
 // When an event may happen: the rule of each, on lent txids.
-ghost use Rattle.std.specs.Prelude.{◌≡◌, get_or};
+ghost use Rattle.std.specs.Prelude.{◌≡◌};
 ghost use Rattle.kinds.specs.Kinds.{number};
 ghost use Rattle.model.specs.Tables.{lent_txids};
 ghost use Rattle.model.specs.Tests.{reservation_test, observation_test};
 ghost use Rattle.wait_rules.specs.Steps.{may_name, passed, register_rule, end_rule, horizon_rule, event_test};
 
-use crate::Owner;
+use crate::Registration;
 use events::{Event, Kind};
-use kinds::{SLOTS, Stamp, Verdict};
+use kinds::{SLOTS, Stamp};
 use model::Counters;
 
 // A slot that the table has, and that is not the owner's.
-fn may_name(owner: Owner, slot: u16) -> bool
+fn may_name(owner: Option<Registration>, slot: u16) -> bool
     ensures { result ≡ may_name SLOTS owner slot }
 {
-    let i = slot as usize;
-    if i < SLOTS {
-        return match owner {
-            Owner::Nobody => true,
-            Owner::Holds { slot: own, id: _ } => slot != own.0,
-        };
-    }
-    false
-}
-
-// What a slot holds, or 0 past the end.
-fn txid_at(txids: &[u64], slot: u16) -> u64
-    ensures { result ≡ get_or txids.now slot 0 }
-{
-    let i = slot as usize;
-    if i < txids.len() {
-        return txids[i];
-    }
-    0
-}
-
-fn is_pass(verdict: Verdict) -> bool
-    ensures { result ≡ passed verdict }
-{
-    match verdict {
-        Verdict::Pass => true,
-        Verdict::Refuse(_) => false,
-    }
+    usize::from(slot) < SLOTS && owner.is_none_or(|own| own.slot.0 != slot)
 }
 
 fn may_reserve(clock: u64, id: u64) -> bool
     ensures { result ≡ passed (reservation_test clock (number id)) }
 {
-    is_pass(clock_verdicts::reservation_test(clock, Stamp(id)))
+    clock_verdicts::reservation_test(clock, Stamp(id)).is_ok()
 }
 
 fn may_observe(former: u64, clock: u64, sample: u64) -> bool
     ensures { result ≡ passed (observation_test former clock sample) }
 {
-    is_pass(clock_verdicts::observation_test(former, clock, sample))
+    clock_verdicts::observation_test(former, clock, sample).is_ok()
 }
 
-fn may_register(txids: &[u64], clock: u64, owner: Owner, slot: u16, id: u64) -> bool
-    ensures { result ≡ register_rule SLOTS txids.now clock owner slot id }
+#[tactic(auto, unfolding(crate::specs::Steps::register_rule))]
+fn may_register(txids: &[u64], clock: u64, owner: Option<Registration>, e: Event) -> bool
+    ensures { result ≡ register_rule SLOTS txids.now clock owner e.slot e.id }
 {
-    if may_name(owner, slot) {
-        if txid_at(txids, slot) == 0 {
-            return may_reserve(clock, id);
-        }
-    }
-    false
+    let held = txids.get(usize::from(e.slot)).copied().unwrap_or(0);
+    may_name(owner, e.slot) && held == 0 && may_reserve(clock, e.id)
 }
 
-fn may_end(txids: &[u64], owner: Owner, slot: u16) -> bool
-    ensures { result ≡ end_rule SLOTS txids.now owner slot }
+#[tactic(auto, unfolding(crate::specs::Steps::end_rule))]
+fn may_end(txids: &[u64], owner: Option<Registration>, e: Event) -> bool
+    ensures { result ≡ end_rule SLOTS txids.now owner e.slot }
 {
-    if may_name(owner, slot) {
-        return txid_at(txids, slot) != 0;
-    }
-    false
+    let held = txids.get(usize::from(e.slot)).copied().unwrap_or(0);
+    may_name(owner, e.slot) && held != 0
 }
 
 // The least active id is found as oldest finds the smallest xmin, with the txids for the xmins.
-fn may_set_horizon(txids: &[u64], owner: Owner, slot: u16, xmin: u64) -> bool
-    ensures { result ≡ horizon_rule SLOTS txids.now owner slot xmin }
+#[tactic(auto, using(model::proofs::Tally::retained_self), unfolding(crate::specs::Steps::horizon_rule))]
+fn may_set_horizon(txids: &[u64], owner: Option<Registration>, e: Event) -> bool
+    ensures { result ≡ horizon_rule SLOTS txids.now owner e.slot e.xmin }
 {
-    if may_name(owner, slot) {
-        let own = txid_at(txids, slot);
-        if own != 0 {
-            if 1 <= xmin {
-                let least = taken_scans::oldest_retained(txids, txids, own);
-                return xmin <= least;
-            }
-        }
-    }
-    false
+    let held = txids.get(usize::from(e.slot)).copied().unwrap_or(0);
+    may_name(owner, e.slot)
+        && held != 0
+        && 1 <= e.xmin
+        && e.xmin <= taken_scans::oldest_retained(txids, txids, held)
 }
 
-// Whether an event keeps its rule.
-pub fn keeps_rule(txids: &[u64], was: Counters, owner: Owner, e: Event) -> bool
+// Whether an event keeps its rule. The kinds stand in one `match`: each rule looks at other parts of the event and of the table.
+#[tactic(auto, unfolding(crate::specs::Steps::event_test, crate::specs::Steps::rule_of))]
+pub fn keeps_rule(txids: &[u64], was: Counters, owner: Option<Registration>, e: Event) -> bool
     ensures { result ≡ event_test SLOTS (lent_txids txids.now was) owner e }
 {
-    let kind = e.kind;
-    match kind {
-        Kind::Register => may_register(txids, was.clock, owner, e.slot, e.id),
-        Kind::End => may_end(txids, owner, e.slot),
-        Kind::Horizon => may_set_horizon(txids, owner, e.slot, e.xmin),
+    match e.kind {
+        Kind::Register => may_register(txids, was.clock, owner, e),
+        Kind::End => may_end(txids, owner, e),
+        Kind::Horizon => may_set_horizon(txids, owner, e),
         Kind::Reserve => may_reserve(was.clock, e.id),
         Kind::Observe => may_observe(was.clock, e.clock, e.sample),
     }

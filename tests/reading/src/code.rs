@@ -13,6 +13,9 @@ pub struct Function {
     /// Declared `pub` with no bound; `reach` says whether a caller outside gets at it.
     pub open: bool,
     pub method: bool,
+    /// Of a method of a trait: the trait, and the type that has it.
+    pub of_trait: String,
+    pub owner: String,
     /// Exported to C.
     pub exported: bool,
     pub public: bool,
@@ -78,6 +81,8 @@ pub struct Item {
 #[derive(Default)]
 pub struct Code {
     pub functions: Vec<Function>,
+    /// What the traits of this repository declare: each impl of it promises the same.
+    pub declared: Vec<Function>,
     /// The modules of each crate by their paths.
     pub modules: BTreeMap<(String, Vec<String>), Module>,
     pub items: Vec<Item>,
@@ -241,8 +246,11 @@ impl<'a> Reader<'a> {
             let attribute = self.between(range).replace("( ", "(").replace(", )", ")");
             exported |= attribute == "unsafe(no_mangle)";
             let tactic = attribute == "tactic(auto)" || (attribute.starts_with("tactic(auto,") && attribute.ends_with(')'));
-            let known = ["unsafe(no_mangle)", "repr(C)", "inline", "derive(Clone, Copy)"];
-            if !tactic && !known.contains(&attribute.as_str()) {
+            let known = ["unsafe(no_mangle)", "repr(C)", "inline", "inline(never)"];
+            let traits = ["Clone", "Copy", "Debug", "PartialEq", "Eq", "Drop"];
+            let derived = attribute.strip_prefix("derive(").and_then(|l| l.strip_suffix(')'));
+            let derives = derived.is_some_and(|l| l.split(", ").all(|name| traits.contains(&name)));
+            if !tactic && !derives && !known.contains(&attribute.as_str()) {
                 self.unknown(&attribute);
             }
             if whole {
@@ -283,14 +291,27 @@ impl<'a> Reader<'a> {
                 self.at += 1;
             }
             "mod" => self.module(module, open),
+            // a ghost member of a trait or of an impl
+            "ghost" => {
+                self.up_to(&[";"]);
+                self.at += 1;
+            }
             "impl" => {
                 let range = self.up_to(&["{"]);
-                let of_trait = self.words(range).contains(&"for".to_string());
+                let head = self.words(range);
                 self.at += 1;
                 let first = self.code.functions.len();
                 self.items_inside(module, true);
-                self.code.functions[first..].iter_mut().for_each(|f| f.open |= of_trait);
+                if let Some(at) = head.iter().position(|w| w == "for") {
+                    let (of, owner) = (head[..at].iter().rev().find(|w| capital(w)), head[at..].iter().find(|w| capital(w)));
+                    for f in &mut self.code.functions[first..] {
+                        f.open = true;
+                        f.of_trait = of.cloned().unwrap_or_default();
+                        f.owner = owner.cloned().unwrap_or_default();
+                    }
+                }
             }
+            "trait" => self.a_trait(module, start, open),
             kind @ ("struct" | "enum" | "const" | "static" | "type") => self.declaration(kind, start, open),
             other => {
                 self.unknown(other);
@@ -324,6 +345,20 @@ impl<'a> Reader<'a> {
             self.unknown(&format!("{kind} {name} holds a function"));
         }
         let (kind, file, text) = (kind.to_string(), self.file.to_string(), self.between(start..self.at));
+        self.code.items.push(Item { kind, name, open, file, lines, text });
+    }
+
+    /// A trait of this repository: what its functions promise is judged where they are declared, and an impl promises the same.
+    fn a_trait(&mut self, module: &[String], start: usize, open: bool) {
+        let name = self.look(1).to_string();
+        self.up_to(&["{"]);
+        self.at += 1;
+        let first = self.code.functions.len();
+        self.items_inside(module, true);
+        let declared = self.code.functions.split_off(first);
+        self.code.declared.extend(declared.into_iter().map(|f| Function { of_trait: name.clone(), ..f }));
+        let lines = self.line(start)..=self.line(self.at - 1);
+        let (kind, file, text) = ("trait".to_string(), self.file.to_string(), self.between(start..self.at));
         self.code.items.push(Item { kind, name, open, file, lines, text });
     }
 
@@ -375,8 +410,12 @@ impl<'a> Reader<'a> {
         f.result = self.between(head).trim_start_matches("->").trim().to_string();
         self.clauses(&mut f);
         f.body = self.line(self.at);
-        let range = self.bracketed();
-        f.tokens = self.words(range);
+        if self.look(0) == ";" {
+            self.at += 1;
+        } else {
+            let range = self.bracketed();
+            f.tokens = self.words(range);
+        }
         f.last = self.line(self.at - 1);
         if f.tokens.iter().any(|t| ["use", "fn", "mod", "macro_rules"].contains(&t.as_str())) {
             self.unknown(&format!("a use or an item inside {}", f.name));
@@ -428,4 +467,9 @@ impl<'a> Reader<'a> {
             if word == "requires" { f.requires.push(clause) } else { f.ensures.push(clause) }
         }
     }
+}
+
+/// Whether a word is the name of a type.
+fn capital(word: &str) -> bool {
+    word.starts_with(|c: char| c.is_ascii_uppercase())
 }

@@ -156,8 +156,8 @@ fn anchors(text: &str) -> BTreeSet<String> {
     words.map(|w| w.chars().filter(marked).collect::<String>().replace(' ', "-")).collect()
 }
 
-/// The page that names what had another name.
-const PORT: &str = "docs/PORT.md";
+/// The pages that name what had another name, or is no more.
+const GONE: [&str; 2] = ["docs/PORT.md", "docs/DESIGN-PASS.md"];
 
 pub fn check(tree: &Tree, declared: &BTreeSet<(String, String)>, report: &mut Report) {
     let names = Names::new(tree, declared);
@@ -172,8 +172,8 @@ pub fn check(tree: &Tree, declared: &BTreeSet<(String, String)>, report: &mut Re
                 let there = names.paths.contains(&path) && (heading.is_empty() || anchors(&tree.text(&path)).contains(heading));
                 report.expect(there, || format!("{document}: {link} is not there"));
             }
-            // (the page of the port says how things were called before)
-            for word in backquoted(line).filter_map(|s| s.split_whitespace().next()).filter(|_| document != PORT) {
+            // (two pages say how things were called before)
+            for word in backquoted(line).filter_map(|s| s.split_whitespace().next()).filter(|_| !GONE.contains(&document.as_str())) {
                 if let Some(there) = names.look(folder, word).filter(|_| seen.insert(word.to_string())) {
                     report.expect(there, || format!("{document}: {word} is not there"));
                 }

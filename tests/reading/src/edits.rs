@@ -81,13 +81,15 @@ impl Units {
             units.at.extend(item.lines.clone().map(|l| ((item.file.clone(), l), (item.name.clone(), false))));
         }
         for f in code.functions.iter().filter(|f| f.krate == krate) {
-            let named = units.named.entry(f.name.clone()).or_default();
+            // a method of a trait is told by the type that has it, as its callers tell it
+            let unit = if f.owner.is_empty() { &f.name } else { &f.owner };
+            let named = units.named.entry(unit.clone()).or_default();
             named.extend(f.requires.iter().chain(&f.ensures).flat_map(|c| words(c)));
             named.extend(f.tokens.windows(2).filter(|w| w[1] == "(").map(|w| w[0].clone()));
             named.extend(f.parameters.iter().map(|p| &p.1).chain([&f.result]).chain(&f.tokens).flat_map(|t| capitals(t)));
-            units.at.extend((f.line..=f.last).map(|l| ((f.file.clone(), l), (f.name.clone(), l < f.body))));
+            units.at.extend((f.line..=f.last).map(|l| ((f.file.clone(), l), (unit.clone(), l < f.body))));
             if f.public {
-                units.public.insert(f.name.clone());
+                units.public.insert(unit.clone());
             }
         }
         let specs = format!("crates/{krate}/specs/");
@@ -235,10 +237,11 @@ pub fn check(tree: &Tree, code: &Code, edits: &[Edit], wrong: &[String], report:
 }
 
 /// What a check says where a fact does not hold. Nothing else counts. `rt ci` prints the first line of it, cut short.
-const FACTS: [&str; 15] = [
+const FACTS: [&str; 16] = [
     "it is not proved that ",
     "the two types ",
     "the two values ",
+    "the two sides ",
     "computed as a goal is, one side reads `",
     "expected type `",
     "` lands at index `",

@@ -144,6 +144,9 @@ pub fn unwrapped(mut said: &[String]) -> &[String] {
 /// What is read off a reference: what it refers to, and where that stands.
 const NOW: &str = ".now";
 const PLACE: &str = ".ref_ptr";
+/// An answer that may hand out a reference, with what that refers to and where it stands in its place: by its definition, in
+/// crates/tiles/specs.
+const SEEN: &str = "seen_as";
 
 /// The places at which two lists of arguments are said to be equal: as two values, or as two references, of which it is said
 /// what they refer to and where that stands.
@@ -151,12 +154,16 @@ fn told(first: &[Vec<String>], second: &[Vec<String>], conclusion: &[String]) ->
     let (mut equal, mut seen) = (BTreeSet::new(), Vec::new());
     for equation in cut(conclusion, "×") {
         let sides: Vec<Vec<String>> = cut(unwrapped(equation), "≡").iter().map(|s| unwrapped(s).to_vec()).collect();
-        let of = |word: &str, side: &[String]| if word.is_empty() { side.to_vec() } else { [side, &[word.to_string()]].concat() };
+        let of = |word: &str, side: &[String]| match word {
+            "" => side.to_vec(),
+            SEEN => [&[word.to_string()], side].concat(),
+            _ => [side, &[word.to_string()]].concat(),
+        };
         let says = |word: &str, i: usize| sides == [of(word, &first[i]), of(word, &second[i])] && first[i] != second[i];
-        let found = (1..first.len()).find_map(|i| ["", NOW, PLACE].into_iter().find(|w| says(w, i)).map(|w| (i - 1, w)));
+        let found = (1..first.len()).find_map(|i| ["", SEEN, NOW, PLACE].into_iter().find(|w| says(w, i)).map(|w| (i - 1, w)));
         let Some((place, word)) = found else { return Err(format!("it ends in {}", equation.join(" "))) };
         seen.push((place, word));
-        if word.is_empty() || (seen.contains(&(place, NOW)) && seen.contains(&(place, PLACE))) {
+        if word.is_empty() || word == SEEN || (seen.contains(&(place, NOW)) && seen.contains(&(place, PLACE))) {
             equal.insert(place);
         }
     }

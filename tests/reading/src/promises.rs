@@ -11,8 +11,12 @@ use std::collections::BTreeSet;
 pub enum Clause {
     /// The result equals what begins with this word.
     Result(String),
+    /// What the result refers to does.
+    Held(String),
     /// So does what is left in this parameter.
     Left(String, String),
+    /// The result is at most, or less than, what this says: more of what an equation tells, and no promise without one.
+    Bound(String),
     /// A predicate of the definitions with its arguments.
     Predicate(String, Vec<Vec<String>>),
     /// None of these, and why.
@@ -27,6 +31,7 @@ impl Clause {
             Clause::Result(x) if plain(x) => format!("= {x}"),
             Clause::Left(p, x) if plain(x) => format!("{p} = {x}"),
             Clause::Predicate(p, _) => p.clone(),
+            Clause::Bound(said) => said.clone(),
             _ => "= ..".to_string(),
         }
     }
@@ -35,6 +40,8 @@ impl Clause {
 /// What a clause calls the value that the function returns, and what it reads off a lent parameter once that has returned.
 const RESULT: &str = "result";
 const LEFT: &str = ".new";
+/// What it reads off a reference: what that refers to.
+const NOW: &str = ".now";
 
 /// The name of a parameter whose value at the end this is: `p.new`.
 fn exit(said: &[String]) -> Option<&str> {
@@ -42,15 +49,36 @@ fn exit(said: &[String]) -> Option<&str> {
     (said.len() == 2 && said[1] == LEFT).then(|| said[0].as_str())
 }
 
+/// Past the names that a clause gives to values of its parameters: `let t = .. in`.
+fn named(said: &[String]) -> Option<&[String]> {
+    let mut rest = said;
+    while rest.first().is_some_and(|w| w == "let") {
+        let end = rest.iter().position(|w| w == "in")?;
+        if rest[1..end].iter().any(|w| w == RESULT || w == LEFT) {
+            return None;
+        }
+        rest = &rest[end + 1..];
+    }
+    Some(rest)
+}
+
+/// Whether a λ stands anywhere but on the right side of an equation, or binds the result.
+fn binds(said: &[String]) -> bool {
+    let right = said.iter().position(|w| w == "≡").unwrap_or(said.len());
+    let bound = |at: usize| said[at..].iter().take_while(|w| !w.ends_with('.')).any(|w| w == RESULT);
+    said.iter().enumerate().any(|(at, w)| w == "λ" && (at < right || bound(at)))
+}
+
 /// Reads an `ensures`: one fact of the parameters, of `result`, and of what is left in lent ones.
 pub fn clause(text: &str) -> Clause {
-    let said = words(text);
-    // what a separate part of memory holds, a name for a part, or a clause that binds its result otherwise is not read
-    let other = ["⌜", "⌝", "∗", "λ", "do", "let", "←", "in"];
-    if said.is_empty() || said.iter().any(|w| other.contains(&w.as_str())) {
-        return Clause::Other("not one plain fact".into());
-    }
-    let fact = unwrapped(&said);
+    let all = words(text);
+    // what a separate part of memory holds, or a clause that binds its result otherwise is not read
+    let other = ["⌜", "⌝", "∗", "do", "let", "←", "in"];
+    let said = match named(&all) {
+        Some(said) if !said.is_empty() && !said.iter().any(|w| other.contains(&w.as_str())) && !binds(said) => said,
+        _ => return Clause::Other("not one plain fact".into()),
+    };
+    let fact = unwrapped(said);
     let mentions = |part: &[String], word: &str| part.iter().any(|w| w == word);
     if mentions(fact, "→") {
         return Clause::Other("a promise under a condition".into());
@@ -63,11 +91,20 @@ pub fn clause(text: &str) -> Clause {
         return match exit(left) {
             Some(_) if mentions(right, LEFT) => Clause::Other("its right side mentions what is left".into()),
             Some(p) => Clause::Left(p.to_string(), head),
-            None if *left != [RESULT] => Clause::Other("an equation of something else than the result".into()),
+            None if *left != [RESULT] && *left != [RESULT, NOW] => Clause::Other("an equation of something else than the result".into()),
             None if mentions(right, RESULT) => Clause::Other("its right side mentions the result".into()),
             None if mentions(right, LEFT) => Clause::Other("its right side mentions what is left".into()),
+            None if left.len() == 2 => Clause::Held(head),
             None => Clause::Result(head),
         };
+    }
+    for order in ["≤", "<"] {
+        match &cut(fact, order)[..] {
+            [left, right] if *left == [RESULT] && ![RESULT, LEFT].iter().any(|w| mentions(right, w)) => {
+                return Clause::Bound(format!("{order} {}", right.join(" ")));
+            }
+            _ => {}
+        }
     }
     let mut parts = atoms(fact);
     let name = if parts.is_empty() { String::new() } else { parts.remove(0).concat() };
@@ -84,7 +121,8 @@ pub enum Judged<'a> {
 fn written<'a>(code: &Code, f: &'a Function) -> Vec<&'a str> {
     let mutable = |t: &str| words(&t.replace(['&', '[', '<', '>'], " ")).iter().any(|w| w == "mut");
     let holds = |t: &str| code.items.iter().any(|i| mutable(&i.text) && words(&t.replace(['<', '>', '&'], " ")).contains(&i.name));
-    f.parameters.iter().filter(|(n, t)| mutable(t) || holds(t) || n.contains("mut self")).map(|(n, _)| n.as_str()).collect()
+    let lent = f.parameters.iter().filter(|(n, t)| mutable(t) || holds(t) || n.contains("mut self"));
+    lent.map(|(n, _)| if n.contains("self") { "self" } else { n.as_str() }).collect()
 }
 
 /// The crate and the module of definitions from which a file takes a name.
@@ -123,6 +161,10 @@ pub fn judge<'a>(tree: &Tree, code: &Code, logic: &'a Logic, f: &Function) -> Re
                 return Err(format!("what is left in {p} is said by the result, which is not said before"));
             }
             Clause::Left(p, _) => drop(missing.remove(p.as_str())),
+            Clause::Bound(_) => {}
+            // of a trait's own function that is enough: no caller outside sees where it lies
+            Clause::Held(_) if !f.of_trait.is_empty() => drop(missing.remove(ITS)),
+            Clause::Held(_) => return Err("it says what its result holds, and not where that lies".into()),
             Clause::Predicate(predicate, arguments) => {
                 let (theorem, equal) = theorem(tree, logic, &f.file, &predicate)?;
                 for (place, argument) in arguments.iter().enumerate() {
@@ -194,6 +236,17 @@ pub fn check(tree: &Tree, code: &Code, logic: &Logic, report: &mut Report) {
             (None, true) => report.expect(false, || format!("docs/EXCEPTIONS.md: {id} needs no grounds")),
             _ => report.expect(true, String::new),
         }
+    }
+    for f in &code.declared {
+        let id = format!("{}::{}::{}", f.krate, f.of_trait, f.name);
+        report.expect(f.requires.is_empty(), || format!("{id}: a trait's function with a requires"));
+        // what calls through a trait promises its own outcome; a step of it may leave some of its own open, by a definition
+        let step = |e: &String| match clause(e) {
+            Clause::Predicate(p, arguments) => arguments.iter().any(|a| *a == [RESULT]) && origin(tree, &f.file, &p).is_some(),
+            _ => false,
+        };
+        let why = judge(tree, code, logic, f).err().filter(|_| f.ensures.is_empty() || !f.ensures.iter().all(step));
+        report.expect(why.is_none(), || format!("{id}: {}", why.unwrap_or_default()));
     }
     report.none("docs/EXCEPTIONS.md: no public function", &named.difference(&ids).cloned().collect::<Vec<_>>());
     for theorem in logic.unique() {

@@ -40,8 +40,11 @@ impl Code {
                 }
             }
         }
+        // a method of a trait of this repository promises what the trait says, and is judged there
+        let traits: BTreeSet<&String> = self.items.iter().filter(|i| i.kind == "trait").map(|i| &i.name).collect();
         for (i, f) in self.functions.iter_mut().enumerate() {
-            f.public = f.exported || (libraries.contains(&f.krate) && (found.contains(&i) || (f.method && f.open)));
+            let open = !traits.contains(&f.of_trait) && (found.contains(&i) || (f.method && f.open));
+            f.public = f.exported || (libraries.contains(&f.krate) && open);
         }
     }
 

@@ -1,6 +1,8 @@
 -- Each exit is one case of the answer, with the run that it leaves.
-use mathlib.Core.Path.{sym, ◌∙◌}
+use mathlib.Core.Path.{sym, ap, ◌∙◌}
 use borrow.Author.Tests.{lt-ltb, le-ltb}
+use Rattle.std.specs.Prelude.{Err}
+use Rattle.std.proofs.lemmas.Result.{err_from_is_err_and}
 use Rattle.batch.specs.Batch.{batch_of, decisions_left}
 use Rattle.batch.proofs.decide_batch.Goals as goal
 
@@ -10,16 +12,17 @@ returns-then-run-versions c =
     let short = lt-ltb _ _ c.if-run-versions.true in
     record { value = rw short; run_after = rw short }
 
-pub returns-in-Decided : goal.returns-in-Decided
+pub returns-in_err-judge : goal.returns-in_err-judge
 unfolding batch_of decisions_left
-returns-in-Decided c =
+returns-in_err-judge c =
     let room = le-ltb _ _ c.if-run-versions.false in
-    let good = sym c.judge-judged.ensures ∙ c.in-Decided.is in
-    record { value = rw (room, good); run_after = rw (room, good) c.write_decisions.ensures }
+    let bad = sym c.judge.ensures ∙ c.in_err-judge.was in
+    let p = err_from_is_err_and c.from_residual.result c.from_residual.ensures.1 in
+    record { value = rw (p.1 ∙ ap Err p.2, room, bad); run_after = rw (room, bad) }
 
-pub returns-in-Refused : goal.returns-in-Refused
+pub returns : goal.returns
 unfolding batch_of decisions_left
-returns-in-Refused c =
+returns c =
     let room = le-ltb _ _ c.if-run-versions.false in
-    let bad = sym c.judge-judged.ensures ∙ c.in-Refused.is in
-    record { value = rw (room, bad); run_after = rw (room, bad) }
+    let good = sym c.judge.ensures ∙ c.in_ok-judge.was in
+    record { value = rw (room, good); run_after = rw (room, good) c.write_decisions.ensures }

@@ -1,10 +1,8 @@
 -- The table has as many slots as a snapshot has places, so what was decided on its columns was decided on it (`Lent`).
-use mathlib.Core.Path.{◌∙◌}
-use native.Mathlib.Nat.{le_of_eq}
+use Rattle.std.proofs.Common.{◌∙◌, arith}
 use Rattle.model.proofs.Lent.{lent-pins, snapshot_outcome_of}
 use Rattle.pin_call.proofs.create_pinned_snapshot.Goals as goal
 
 pub returns : goal.returns
 returns c =
-    let few = le_of_eq (c.well_formed.0.1.1.0.1.0.1) in
-    rw c.apply-next.ensures (snapshot_outcome_of _ _ _ (c.decide_pin-decided.ensures ∙ lent-pins _ _ _ _ few))
+    rw c.carry_out_snapshot.ensures (snapshot_outcome_of _ _ _ (c.decide_pin-decided.ensures ∙ lent-pins _ _ _ _ (omega arith)))

@@ -1,27 +1,26 @@
 -- Each exit is one case of the answer, with what it leaves in the runs.
 use mathlib.Core.Path.{sym, ◌∙◌}
-use borrow.Author.Tests.{eq-eqb, ne_eqb}
 use Rattle.place_batch.specs.Batched.{batch_number, batch_run, batch_out}
 use Rattle.place_batch.proofs.sockhurdle_batch.Goals as goal
 
-pub returns-then-out-eq0 : goal.returns-then-out-eq0
+pub returns-then-is_empty : goal.returns-then-is_empty
 unfolding batch_number batch_run batch_out
-returns-then-out-eq0 c =
-    let b = eq-eqb _ _ c.if-out-eq0.true in
+returns-then-is_empty c =
+    let b = sym c.is_empty.ensures ∙ c.if-is_empty.true in
     record { value = rw b c.number_of.ensures; run_after = rw b; out_after = rw b }
 
-pub returns-in-Decided : goal.returns-in-Decided
+pub returns-in-Ok : goal.returns-in-Ok
 unfolding batch_number batch_run batch_out
-returns-in-Decided c =
-    let b = ne_eqb _ _ c.if-out-eq0.false in
-    let decided = c.decide_batch-batched.ensures in
-    let good = sym decided.value ∙ c.in-Decided.is in
+returns-in-Ok c =
+    let b = sym c.is_empty.ensures ∙ c.if-is_empty.false in
+    let decided = c.decide_batch.ensures in
+    let good = sym decided.value ∙ c.in-Ok.is in
     record { value = rw (b, good); run_after = rw b decided.run_after; out_after = rw (b, good) }
 
-pub returns-in-Refused : goal.returns-in-Refused
+pub returns-in-Err : goal.returns-in-Err
 unfolding batch_number batch_run batch_out
-returns-in-Refused c =
-    let b = ne_eqb _ _ c.if-out-eq0.false in
-    let decided = c.decide_batch-batched.ensures in
-    let bad = sym decided.value ∙ c.in-Refused.is in
-    record { value = rw (b, bad) c.number_of-in-Refused.ensures; run_after = rw b decided.run_after; out_after = rw (b, bad) }
+returns-in-Err c =
+    let b = sym c.is_empty.ensures ∙ c.if-is_empty.false in
+    let decided = c.decide_batch.ensures in
+    let bad = sym decided.value ∙ c.in-Err.is in
+    record { value = rw (b, bad) c.number_of-in-Err.ensures; run_after = rw b decided.run_after; out_after = rw (b, bad) }

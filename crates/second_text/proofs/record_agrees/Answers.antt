@@ -3,31 +3,25 @@ use Prim.Native.Nat.{ℕ}
 use mathlib.Core.Path.{ap, ◌∙◌}
 use lib.ListN.{length-replicate}
 use Rattle.same_bytes.specs.Same.{equal_bytes}
-use Rattle.second_text.proofs.Printed.{never_full, end_is, front_is, front_count, front_inside}
+use Rattle.second_text.proofs.Printed.{never_full, stands}
 use Rattle.second_text.proofs.record_agrees.Goals as goal
 
 pub slice_bounds-buf-end : goal.slice_bounds-buf-end
 slice_bounds-buf-end c =
-    let said = c.answer_to-said.ensures in
-    let o = c.put_answer-put.ensures in
-    let end = end_is _ _ _ _ said _ (length-replicate {A = ℕ} _ 0) o.result_value c.in-Past.is in
-    front_inside _ _ _ _ said _ (length-replicate {A = ℕ} _ 0) o.buf_after end
+    let o = c.put_answer.ensures in
+    (stands _ _ _ _ c.answer_to-said.ensures _ (length-replicate {A = ℕ} _ 0) o.result_value o.buf_after c.in-Some.is).inside
 
 pub slice_bounds-same_bytes-end : goal.slice_bounds-same_bytes-end
 slice_bounds-same_bytes-end c =
-    let said = c.answer_to-said.ensures in
-    let o = c.put_answer-put.ensures in
-    let end = end_is _ _ _ _ said _ (length-replicate {A = ℕ} _ 0) o.result_value c.in-Past.is in
-    front_count _ _ _ _ said _ (length-replicate {A = ℕ} _ 0) o.buf_after end
+    let o = c.put_answer.ensures in
+    (stands _ _ _ _ c.answer_to-said.ensures _ (length-replicate {A = ℕ} _ 0) o.result_value o.buf_after c.in-Some.is).count
 
-pub returns-in-Past : goal.returns-in-Past
-returns-in-Past c =
-    let said = c.answer_to-said.ensures in
-    let o = c.put_answer-put.ensures in
-    let end = end_is _ _ _ _ said _ (length-replicate {A = ℕ} _ 0) o.result_value c.in-Past.is in
-    c.same_bytes.ensures ∙ ap (equal_bytes _) (front_is _ _ _ _ said _ (length-replicate {A = ℕ} _ 0) o.buf_after end)
+pub returns : goal.returns
+returns c =
+    let o = c.put_answer.ensures in
+    c.same_bytes.ensures
+    ∙ ap (equal_bytes _) (stands _ _ _ _ c.answer_to-said.ensures _ (length-replicate {A = ℕ} _ 0) o.result_value o.buf_after c.in-Some.is).front
 
-pub returns-in-NoRoom : goal.returns-in-NoRoom
-returns-in-NoRoom c =
-    let said = c.answer_to-said.ensures in
-    absurd (never_full _ _ _ _ said _ (length-replicate {A = ℕ} _ 0) c.put_answer-put.ensures.result_value c.in-NoRoom.is)
+pub returns-in_default : goal.returns-in_default
+returns-in_default c =
+    absurd (never_full _ _ _ _ c.answer_to-said.ensures _ (length-replicate {A = ℕ} _ 0) c.put_answer.ensures.result_value c.in_default.is)

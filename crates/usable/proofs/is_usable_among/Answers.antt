@@ -1,25 +1,23 @@
 -- The settled test's refusals come first; then the own id decides where settled said no. Below which xmax it was asked plays no part
 -- for an own id (`usable-within`). All of this is in the crate's proofs/Wider.antt.
-use mathlib.Core.Path.{◌∙◌}
-use Rattle.usable.proofs.Wider.{usable_within, usable_settled, usable_own, usable_neither, usable_refused}
+use Rattle.std.proofs.Common.{Err, ap, sym, ◌∙◌}
+use Rattle.std.proofs.lemmas.Result.{err_from_is_err_and}
+use Rattle.usable.proofs.Wider.{usable_within, usable_own, usable_other, usable_refused}
 use Rattle.usable.proofs.is_usable_among.Goals as goal
 
-pub returns-then-own-id : goal.returns-then-own-id
-returns-then-own-id c =
-    let said = rw c.in-No.is at c.is_settled_among-said.ensures in
-    usable_own _ _ _ _ _ _ said c.if-own-id.true ∙ usable_within _ _ _ _ _ _ c.asked_below-below.ensures
+pub returns-in_err-settled : goal.returns-in_err-settled
+returns-in_err-settled c =
+    let said = usable_refused _ _ _ _ _ _ _ c.in_err-settled.ensures ∙ usable_within _ _ _ _ _ _ c.asked_below-below.ensures in
+    let p = err_from_is_err_and c.from_residual.result c.from_residual.ensures.1 in
+    rw (p.1 ∙ ap Err p.2) said
 
-pub returns-in-Yes : goal.returns-in-Yes
-returns-in-Yes c =
-    let said = rw c.in-Yes.is at c.is_settled_among-said.ensures in
-    usable_settled _ _ _ _ _ _ said ∙ usable_within _ _ _ _ _ _ c.asked_below-below.ensures
+pub returns-then-eq : goal.returns-then-eq
+returns-then-eq c =
+    let said = c.in_ok-settled.ensures in
+    let own = usable_own _ _ _ _ _ _ _ said (sym c.eq.ensures ∙ c.if-eq.true) ∙ usable_within _ _ _ _ _ _ c.asked_below-below.ensures in
+    rw (c.if-eq.true) own
 
-pub returns-else-own-id : goal.returns-else-own-id
-returns-else-own-id c =
-    let said = rw c.in-No.is at c.is_settled_among-said.ensures in
-    usable_neither _ _ _ _ _ _ said c.if-own-id.false ∙ usable_within _ _ _ _ _ _ c.asked_below-below.ensures
-
-pub returns-in-Refused : goal.returns-in-Refused
-returns-in-Refused c =
-    let said = rw c.in-Refused.is at c.is_settled_among-said.ensures in
-    usable_refused _ _ _ _ _ _ _ said ∙ usable_within _ _ _ _ _ _ c.asked_below-below.ensures
+pub returns-else-eq : goal.returns-else-eq
+returns-else-eq c =
+    let said = c.in_ok-settled.ensures in
+    usable_other _ _ _ _ _ _ _ said (sym c.eq.ensures ∙ c.if-eq.false) ∙ usable_within _ _ _ _ _ _ c.asked_below-below.ensures

@@ -7,16 +7,13 @@ use Rattle.text.proofs.Placed.{placed_put}
 use Rattle.wait_report.specs.Report.{verdict_lines}
 use Rattle.wait_report.proofs.put_verdict.Goals as goal
 
-pub returns-then-out-size : goal.returns-then-out-size
-returns-then-out-size c =
-    let a = c.args in
-    let said = no_room a.out.now 0 (verdict_lines a.told) (omega (arith, c.verdict_length-size.ensures)) in
+pub returns-then-out-verdict_length : goal.returns-then-out-verdict_length
+returns-then-out-verdict_length c =
+    let said = no_room c.args.out.now 0 (verdict_lines c.args.told) (omega (arith, c.verdict_length.ensures)) in
     record { value = said.0; out_after = said.1 }
 
 pub returns : goal.returns
 returns c =
-    let a = c.args in
-    let room : 0 + length (verdict_lines a.told) ≤ length a.out.now =
-    omega (arith, c.verdict_length-size.ensures) in
-    let said = placed_put room c.verdict_lines-past.ensures in
+    let room : 0 + length (verdict_lines c.args.told) ≤ length c.args.out.now = omega (arith, c.verdict_length.ensures) in
+    let said = placed_put room c.verdict_lines.ensures in
     record { value = said.0; out_after = said.1 }

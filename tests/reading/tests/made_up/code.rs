@@ -66,7 +66,6 @@ fn another_crates_function_is_found_in_its_own() {
 fn what_can_not_be_read_fails() {
     for lib in [
         "macro_rules! m { () => {} }\n",
-        "pub trait T {\n    fn f();\n}\n",
         "pub const F: fn(u64) -> u64 = g;\n",
         "#[path = \"x.rt\"]\nmod m;\n",
         "mod gone;\n",

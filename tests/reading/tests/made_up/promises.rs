@@ -59,6 +59,72 @@ fn what_says_nothing_of_the_outcome_is_refused() {
 }
 
 #[test]
+fn a_bound_says_more_of_what_an_equation_tells() {
+    let none = Vec::<String>::new();
+    assert_eq!(open("x: u64", " -> u64", &["result ≡ g x", "result ≤ 20"]), none);
+    assert_eq!(open("x: u64", " -> u64", &["(result < h x.now)", "result ≡ g x"]), none);
+    assert!(open("x: u64", " -> u64", &["result ≤ 20"])[0].contains("no equation says its result"));
+    assert!(!open("x: u64", " -> u64", &["result ≡ g x", "result ≤ result"]).is_empty(), "the result bounds itself");
+    assert!(!open("b: &mut [u8]", " -> u64", &["result ≡ g", "b.new ≡ h", "result ≤ b.new"]).is_empty(), "what is left bounds it");
+    assert!(open("x: u64", " -> u64", &["result ≡ g x", "P result"])[0].contains("no theorem says"), "no other word is passed over");
+}
+
+#[test]
+fn what_a_result_refers_to_is_not_all_of_it() {
+    assert!(open("x: u64", " -> &'static [u8]", &["result.now ≡ g x"])[0].contains("and not where that lies"));
+    assert!(open("x: u64", " -> &'static [u8]", &["result.now ≡ result.now"])[0].contains("mentions the result"));
+}
+
+#[test]
+fn a_name_for_what_a_parameter_holds_is_read_through() {
+    let none = Vec::<String>::new();
+    assert_eq!(open("x: T", " -> u64", &["let t = h x.entry in result ≡ g t.a t.b"]), none);
+    assert_eq!(open("x: T", " -> u64", &["let t = h x.entry in let u = k t in result ≡ g u"]), none);
+    for clause in [
+        "let t = h result in result ≡ g t",
+        "let t = h x in x ≡ g t",
+        "let t = h x in result ≡ g result",
+        "let result = h x in result ≡ g x",
+        "let t = h x result ≡ g t",
+    ] {
+        assert!(!open("x: T", " -> u64", &[clause]).is_empty(), "{clause}");
+    }
+    assert!(!open("b: &mut [u8]", "", &["let t = b.new in b.new ≡ t"]).is_empty(), "what is left is named");
+}
+
+#[test]
+fn a_lambda_stands_on_the_right_and_binds_no_result() {
+    assert_eq!(open("x: &[u64]", " -> bool", &["result ≡ any (λ y. y == 1) x.now"]), Vec::<String>::new());
+    for clause in [
+        "result ≡ any (λ result. result == 1) x.now",
+        "any (λ y. y == 1) result ≡ g x.now",
+        "λ y. result ≡ g y",
+        "result ≡ any (λ y. y == result) x.now",
+    ] {
+        assert!(!open("x: &[u64]", " -> bool", &[clause]).is_empty(), "{clause}");
+    }
+}
+
+#[test]
+fn what_a_trait_declares_is_judged_where_it_is_declared() {
+    let of = |clauses: &str| {
+        let lib = format!(
+            "ghost use Rattle.a.specs.S.{{Fits}};\n\npub trait T {{\n    ghost m: {{ Self → C }};\n    fn f(self, x: u64) -> u64\n{clauses};\n}}\n\npub struct S;\n\n\
+             impl T for S {{\n    ghost m: {{ λ s. c }};\n    fn f(self, x: u64) -> u64 {{\n        1\n    }}\n}}\n"
+        );
+        failures(&crate_a(&lib, &[]), THEME)
+    };
+    assert_eq!(of("        ensures { result ≡ g (m self) x }"), Vec::<String>::new());
+    assert_eq!(of("        ensures { result.now ≡ g (m self) x }"), Vec::<String>::new());
+    assert!(of("        ensures { result ≡ result }")[0].contains("a::T::f: its right side mentions the result"));
+    assert_eq!(of("        ensures { Fits x result }"), Vec::<String>::new());
+    assert!(of("        ensures { P x result }")[0].contains("no theorem says"), "P is no definition");
+    assert!(of("        ensures { Fits x x }")[0].contains("no theorem says"), "it says nothing of the result");
+    assert!(of("        requires { x < 2 }\n        ensures { result ≡ g x }")[0].contains("a trait's function with a requires"));
+    assert!(of("")[0].contains("a::T::f: no equation says its result"));
+}
+
+#[test]
 fn a_lent_buffer_without_an_equation_is_refused() {
     assert!(open("b: &mut [u8]", " -> u64", &["result ≡ g"])[0].contains("no equation says b"));
     assert!(open("b: &'a mut [u8], c: &mut u64", "", &["b.new ≡ g"])[0].contains("no equation says c"));
@@ -133,6 +199,10 @@ fn all_that_is_left_is_told_by_the_theorem() {
     let lent = "(n : ℕ) (r s : B) → Part n r → Part n s → (r.now ≡ s.now) × (r.ref_ptr ≡ s.ref_ptr)";
     assert!(uniqueness(&[], lent).is_ok());
     assert!(uniqueness(&[], &lent.replace(" × (r.ref_ptr ≡ s.ref_ptr)", "")).is_err());
+    let seen = "(n : ℕ) (r s : Result B E) → Used n r → Used n s → seen_as r ≡ seen_as s";
+    assert!(uniqueness(&[], seen).is_ok());
+    assert!(uniqueness(&[], &seen.replace("seen_as s", "seen_as r")).is_err());
+    assert!(uniqueness(&[], &seen.replace("seen_as", "size_of")).is_err());
     let lib = function("b: &mut [u8]", " -> R", &["Fits 1 b.new result"]);
     let proof = format!("{USE}{UNIQUE}");
     assert!(fails(&crate_a(&lib, &[("crates/a/proofs/U.antt", &proof)]), THEME, "does not tell"));

@@ -1,17 +1,13 @@
--- The eight comparisons are `listed` of the eight numbers: `near` in the crate's proofs/Searching.antt.
-use Rattle.image.proofs.Searching.{near}
+use mathlib.Core.Path.{◌∙◌}
+use mathlib.Core.Bool.{false, ◌||◌}
+use borrow.Author.Rules.{rules}
+use Rattle.std.proofs.lemmas.Iterator.{YieldsList-from_slice}
+use Rattle.std.proofs.lemmas.Iterator.Consumers.{fold_from_yields_List}
+use Rattle.image.proofs.Chunks.{reads, fold_any}
 use Rattle.image.proofs.search.is_near.Goals as goal
 
 pub returns : goal.returns
 returns c =
     let a = c.args in
-    rw (
-      c.word_at.ensures,
-      c.word_at-2.ensures,
-      c.word_at-3.ensures,
-      c.word_at-4.ensures,
-      c.word_at-5.ensures,
-      c.word_at-6.ensures,
-      c.word_at-7.ensures,
-      c.word_at-8.ensures,
-    ) (near a.x a.list.now a.at)
+    fold_from_yields_List _ (λ found word. found || reads a.x word) false c.fold.result c.fold.ensures.ran (YieldsList-from_slice a.words.now cc) (λ b x r q h. search rules)
+    ∙ fold_any (reads a.x) false a.words.now

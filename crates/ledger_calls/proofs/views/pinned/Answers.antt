@@ -1,23 +1,23 @@
 -- The observation, then the lowest free pin (crate's proofs/Viewing.antt).
-use Rattle.ledger_calls.proofs.Tells.{passes}
-use Rattle.ledger_calls.proofs.Viewing.{pin-refused, pin_takes, pin-full}
+use mathlib.Core.Path.{refl}
+use Rattle.kinds.specs.Refusals.{told}
+use Rattle.model.specs.Calls.{refusal}
+use Rattle.ledger_calls.proofs.Tells.{passes, first_refuses, turned_down}
+use Rattle.ledger_calls.proofs.Viewing.{pin_takes, pin-full}
 use Rattle.ledger_calls.proofs.views.pinned.Goals as goal
 
-pub returns-then-told-ne0 : goal.returns-then-told-ne0
-returns-then-told-ne0 c =
-    λ xmins.
-    rw c.refused.ensures (pin-refused _ _ _ _ c.observation-told.ensures c.if-told-ne0.true)
+pub returns-in_err-observation : goal.returns-in_err-observation
+unfolding refusal
+returns-in_err-observation c =
+    turned_down _ _ _ _ c.from_residual.ensures.1 refl (first_refuses _ _ c.in_err-observation.ensures)
 
-pub returns-then-free-lt-PINS : goal.returns-then-free-lt-PINS
-returns-then-free-lt-PINS c =
-    λ xmins.
-    rw (c.in_pin.ensures, c.shown-numbers.ensures, c.accepted.ensures)
-    (pin_takes _ _ _ _ (passes _ c.observation-told.ensures c.if-told-ne0.false) c.seen-counters.ensures
-    c.lowest_free-free.ensures c.if-free-lt-PINS.true c.greater-used.ensures c.in_flight-flight.ensures)
+pub returns-then-free-ge-PINS : goal.returns-then-free-ge-PINS
+unfolding told
+returns-then-free-ge-PINS c =
+    pin-full _ _ _ _ (passes _ c.in_ok-observation.ensures) c.lowest_free-free.ensures c.if-free-ge-PINS.true
 
 pub returns : goal.returns
 returns c =
-    λ xmins.
-    rw c.refused-2.ensures
-    (pin-full _ _ _ _ (passes _ c.observation-told.ensures c.if-told-ne0.false) c.lowest_free-free.ensures
-    c.if-free-lt-PINS.false)
+    rw (c.in_pin.ensures, c.shown-numbers.ensures, c.accepted.ensures)
+    (pin_takes _ _ _ _ (passes _ c.in_ok-observation.ensures) c.seen-counters.ensures c.lowest_free-free.ensures
+    c.if-free-ge-PINS.false c.max-used.ensures c.in_flight-flight.ensures)

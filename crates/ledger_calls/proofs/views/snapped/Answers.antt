@@ -1,19 +1,15 @@
 -- The observation decides (crate's proofs/Viewing.antt).
 use mathlib.Core.Path.{refl}
 use Rattle.model.specs.Calls.{refusal}
-use Rattle.ledger_calls.proofs.Tells.{passes, refused_did}
+use Rattle.ledger_calls.proofs.Tells.{passes, turned_down}
 use Rattle.ledger_calls.proofs.Viewing.{snap_shows}
 use Rattle.ledger_calls.proofs.views.snapped.Goals as goal
 
-pub returns-then-told-ne0 : goal.returns-then-told-ne0
+pub returns-in_err-observation : goal.returns-in_err-observation
 unfolding refusal
-returns-then-told-ne0 c =
-    λ xmins pins.
-    rw c.refused.ensures (refused_did _ _ _ refl c.observation-told.ensures c.if-told-ne0.true)
+returns-in_err-observation c = turned_down _ _ _ _ c.from_residual.ensures.1 refl c.in_err-observation.ensures
 
 pub returns : goal.returns
 returns c =
-    λ xmins pins.
     rw (c.stays.ensures, c.shown-numbers.ensures, c.accepted.ensures)
-    (snap_shows _ _ _ _ (passes _ c.observation-told.ensures c.if-told-ne0.false) c.seen-counters.ensures
-    c.in_flight-flight.ensures)
+    (snap_shows _ _ _ _ (passes _ c.in_ok-observation.ensures) c.seen.ensures c.in_flight-flight.ensures)

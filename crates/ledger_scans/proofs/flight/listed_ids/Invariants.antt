@@ -1,13 +1,10 @@
--- The invariant is `Filled` (`Ids.antt`): what is still to be stored are the ids of the slots left.
-use Prim.Native.Nat.{◌-◌}
-use lib.ListN.{length}
-use Rattle.ledger_scans.proofs.Ids.{Filled}
+-- The places hold the ids that the walk has come to, and zeros (`Ids.antt`).
+use mathlib.Core.Path.{◌≡◌}
+use lib.ListN.{length, take}
+use Rattle.kinds.specs.declared.TheConstants.{SLOTS}
+use Rattle.model.specs.Tally.{active, places}
 use Rattle.ledger_scans.proofs.flight.listed_ids.Given as goal
 
-abbrev pub invariant-loop-i : goal.invariant-loop-i
-invariant-loop-i l =
-    Filled l.txids l.initial.ids l.ids l.count l.i
-
-abbrev pub decreases-loop-i : goal.decreases-loop-i
-decreases-loop-i l =
-    length l.txids - l.i
+abbrev pub invariant-loop-place : goal.invariant-loop-place
+invariant-loop-place l =
+    l.ids ≡ places SLOTS (take (length l.yielded) (active l.fn.txids))

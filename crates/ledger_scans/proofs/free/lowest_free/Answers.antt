@@ -1,21 +1,16 @@
-use Prim.Native.Nat.{◌-◌}
-use native.Mathlib.Omega.{arith}
-use Rattle.ledger_scans.proofs.Columns.{free_here, taken_here, none_left}
+-- The first place that is 0 is the lowest that nobody has (crate's proofs/Columns.antt).
+use mathlib.Core.Path.{◌∙◌}
+use lib.Dec.{eqb}
+use borrow.Author.Tests.{tests}
+use Rattle.std.proofs.Common.{rules}
+use Rattle.std.proofs.lemmas.Iterator.{YieldsList-from_slice}
+use Rattle.std.proofs.lemmas.Iterator.Search.{position_from_yields_List}
+use Rattle.ledger_scans.proofs.Columns.{first_free}
 use Rattle.ledger_scans.proofs.free.lowest_free.Goals as goal
-
-pub returns-then-column-place-eq0 : goal.returns-then-column-place-eq0
-returns-then-column-place-eq0 c =
-    let loop = c.loop-place in
-    let t = c.args.column.now in
-    omega (arith, free_here t loop.place (omega arith) c.if-column-place-eq0.true)
-
-pub loop-place-preserved : goal.loop-place-preserved
-loop-place-preserved c =
-    let loop = c.loop-place in
-    let t = c.args.column.now in
-    omega (arith, taken_here t loop.place (omega arith) c.if-column-place-eq0.false)
 
 pub returns : goal.returns
 returns c =
-    let loop = c.loop-place in
-    omega (arith, none_left c.args.column.now loop.place (omega arith))
+    let first =
+    position_from_yields_List (λ x. eqb x 0) _ _ c.position.result c.position.ensures.ran
+    (YieldsList-from_slice c.args.column.now cc) (λ x b q k. search (rules, tests)) in
+    c.unwrap_or.ensures ∙ first_free c.args.column.now c.position.result first

@@ -1,39 +1,41 @@
-use Prim.Native.Nat.{ℕ, ◌≤◌, ◌-◌}
-use mathlib.Core.Path.{◌≡◌, sym, ap, ◌∙◌}
+use Prim.Native.Nat.{◌≤◌}
+use mathlib.Core.Path.{sym, ap, ◌∙◌}
+use mathlib.Core.List.{map, [], ◌∷◌}
 use native.Mathlib.Omega.{arith}
-use lib.ListN.{length, take}
-use lib.Seq.{take_all}
+use lib.ListN.{length, length-take}
+use Rattle.std.proofs.lemmas.List.{length_push, map-append}
+use Rattle.std.proofs.lemmas.Iterator.{YieldsList-from_slice, YieldsList-from_take}
+use Rattle.std.proofs.lemmas.Iterator.Consumers.{YieldsList-turn, YieldsList-end}
 use Rattle.output.specs.Output.{in_lines}
-use Rattle.output.proofs.Wrote.{wrote_none, wrote_then, wrote_at-most, wrote_same, one_more_id}
+use Rattle.output.proofs.Wrote.{wrote_none, wrote_then, wrote_at-most, wrote_same, in_lines_push}
 use Rattle.output.proofs.lines.in_lines.Goals as goal
 
-pub loop-i-init : goal.loop-i-init
+pub loop-id-init : goal.loop-id-init
 unfolding in_lines
-loop-i-init c = (omega arith, wrote_none _ _)
+loop-id-init c = wrote_none _ _
 
-pub returns-then-count-i : goal.returns-then-count-i
-returns-then-count-i c =
-    let l = c.loop-i in
+pub line-past-requires : goal.line-past-requires
+line-past-requires c =
+    let l = c.loop-id in
     let a = c.args in
-    let e : l.i ≡ a.count = omega arith in
-    wrote_at-most (omega arith) (wrote_same (ap (λ (k : ℕ). in_lines (take k a.ids.now)) e) l.invariant.1)
+    let ids = YieldsList-from_take a.count (YieldsList-from_slice a.ids.now cc) cc in
+    let turn = YieldsList-turn ids l.yielded _ l.yielded_by _ _ c.in-Some.field-0 c.in-Some.is c.next.ensures.steps in
+    omega (arith, l.invariant.size, l.invariant.short, c.requires, turn.0, length-take a.count a.ids.now)
 
-pub in_line-past-requires : goal.in_line-past-requires
-in_line-past-requires c =
-    let wrote = c.loop-i.invariant.1 in
-    omega (arith, wrote.size, wrote.short, c.requires)
-
-pub loop-i-preserved : goal.loop-i-preserved
-loop-i-preserved c =
-    let l = c.loop-i in
-    let a = c.args in
-    let start : a.at ≤ length a.buf.now = omega (arith, c.requires) in
-    let both = wrote_then start l.invariant.1 c.in_line-past.ensures in
-    (omega arith, wrote_same (one_more_id a.ids.now l.i (omega arith)) (wrote_at-most (omega arith) both))
+pub loop-id-preserved : goal.loop-id-preserved
+loop-id-preserved c =
+    let l = c.loop-id in
+    let id = c.in-Some.field-0 in
+    let start : c.args.at ≤ length c.args.buf.now = omega (arith, c.requires) in
+    let both = wrote_then start l.invariant c.line-past.ensures in
+    let more = map-append (λ x. x.now) l.yielded (id ∷ []) in
+    wrote_at-most (omega (arith, length_push l.yielded id))
+    (wrote_same (sym (ap in_lines more ∙ in_lines_push (map (λ x. x.now) l.yielded) id.now)) both)
 
 pub returns : goal.returns
 returns c =
-    let l = c.loop-i in
+    let l = c.loop-id in
     let a = c.args in
-    let e = take_all l.i a.ids.now (omega arith) ∙ sym (take_all a.count a.ids.now (omega arith)) in
-    wrote_at-most (omega arith) (wrote_same (ap in_lines e) l.invariant.1)
+    let ids = YieldsList-from_take a.count (YieldsList-from_slice a.ids.now cc) cc in
+    let end = YieldsList-end ids l.yielded _ l.yielded_by _ _ c.in-None.is c.next.ensures.steps in
+    wrote_at-most (omega (arith, end.1, length-take a.count a.ids.now)) (wrote_same (ap in_lines end.0) l.invariant)

@@ -1,13 +1,13 @@
--- The buffer has room, so the line was put there: the other arm is not reached (crate's proofs/Next.antt).
-use Rattle.replay.proofs.Next.{end-put, put_size, put_had_room}
+-- The buffer has room for the longest number, so the line is put (output's proofs/Wrote.antt).
+use native.Mathlib.Nat.{zero-add}
+use native.Mathlib.Omega.{arith}
+use mathlib.Core.Path.{◌∙◌}
+use Rattle.text.specs.Keys.{records_key}
+use Rattle.output.proofs.Wrote.{line_wrote}
 use Rattle.replay.proofs.last.last_line.Goals as goal
 
-pub returns-in-Written : goal.returns-in-Written
-returns-in-Written c =
-    let put = end-put _ c.ranges.count.fits c.requires c.put_records-said.ensures in
-    record { value = put_size put c.in-Written.is; buf_after = put.text }
-
-pub returns-in-NoRoom : goal.returns-in-NoRoom
-returns-in-NoRoom c =
-    let put = end-put _ c.ranges.count.fits c.requires c.put_records-said.ensures in
-    absurd (put_had_room put c.in-NoRoom.is)
+pub returns : goal.returns
+returns c =
+    let a = c.args in
+    let wrote = line_wrote a.buf.now 0 records_key a.count c.ranges.count.fits c.requires c.line.ensures.value c.line.ensures.buf_after in
+    record { value = wrote.end ∙ zero-add _; buf_after = wrote.left }

@@ -5,17 +5,17 @@ use Rattle.replay.proofs.Pieces.{sent_to}
 use Rattle.replay.proofs.out.replay_to.Goals as goal
 
 pub broken_to-requires : goal.broken_to-requires
-broken_to-requires c = sym c.read_trace-reading.ensures ∙ c.in-Broken.is
+broken_to-requires c = sym c.read_trace.ensures ∙ c.in-Err.is
 
 pub run_to-requires : goal.run_to-requires
-run_to-requires c = sym c.read_trace-reading.ensures ∙ c.in-Whole.is
+run_to-requires c = sym c.read_trace.ensures ∙ c.in-Ok.is
 
-pub returns-in-Broken : goal.returns-in-Broken
-returns-in-Broken c =
+pub returns-in-Err : goal.returns-in-Err
+returns-in-Err c =
     let back = to_z-of_z c.ranges.to in
     sent_to back c.broken_to.ensures
 
-pub returns-in-Whole : goal.returns-in-Whole
-returns-in-Whole c =
+pub returns-in-Ok : goal.returns-in-Ok
+returns-in-Ok c =
     let back = to_z-of_z c.ranges.to in
     sent_to back c.run_to.ensures

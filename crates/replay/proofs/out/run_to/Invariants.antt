@@ -3,13 +3,13 @@
 -- and fewer records are left.
 use mathlib.Core.Path.{◌≡◌}
 use lib.ListN.{length}
+use Rattle.kinds.specs.declared.TheConstants.{SLOTS}
 use Rattle.trace.specs.Trace.{records_from}
 use Rattle.replay.proofs.Sending.{Sending}
 use Rattle.replay.proofs.out.run_to.Given as goal
 
 abbrev pub invariant-loop-at : goal.invariant-loop-at
-invariant-loop-at l =
-    (length l.buf ≡ length l.initial.buf) × Sending l.version (length l.initial.table.txids) l.s l.count l.initial.gone.to l.table l.at l.gone
+invariant-loop-at l = (length l.buf ≡ 65536) × Sending l.version SLOTS l.s l.count l.initial.gone.to l.table l.at l.gone
 
 abbrev pub decreases-loop-at : goal.decreases-loop-at
 decreases-loop-at l = length (records_from l.s l.at)

@@ -1,28 +1,25 @@
-use mathlib.Core.Path.{sym, ◌∙◌}
-use native.Mathlib.Omega.{arith}
-use Rattle.scans.proofs.Slots.{empty_here, taken_here, no_more_slots, eight-taken}
+-- Turns that are passed over have no empty slot, and neither have the slots that are counted after them (`lowest_by_turns` in Slots.antt).
+use Rattle.std.proofs.Common.{arith, rules, tests, ◌==◌, ◌*◌, not, drop, ◌∙◌}
+use Rattle.std.specs.List.{list_any}
+use Rattle.std.proofs.lemmas.Iterator.{YieldsList-from_slice}
+use Rattle.std.proofs.lemmas.Iterator.Search.{YieldsList-from_take_while}
+use Rattle.std.proofs.lemmas.Iterator.Consumers.{count_from_yields_List}
+use Rattle.std.proofs.lemmas.Grind.{common_steps}
+use Rattle.std.proofs.lemmas.List.Folds.{length-prefix_len}
+use Rattle.scans.proofs.Slots.{lowest_by_turns}
 use Rattle.scans.proofs.lowest.lowest_empty.Goals as goal
-
-pub loop-i-preserved : goal.loop-i-preserved
-loop-i-preserved c =
-    let loop = c.loop-i in
-    let t = c.args.txids.now in
-    let taken = sym c.all_other.ensures ∙ c.if-all_other.true in
-    omega (arith, eight-taken t loop.i (omega arith) taken)
-
-pub returns-then-txids-i-eq0 : goal.returns-then-txids-i-eq0
-returns-then-txids-i-eq0 c =
-    let loop = c.loop-i-2 in
-    let t = c.args.txids.now in
-    omega (arith, empty_here t loop.i (omega arith) c.if-txids-i-eq0.true)
-
-pub loop-i-2-preserved : goal.loop-i-2-preserved
-loop-i-2-preserved c =
-    let loop = c.loop-i-2 in
-    let t = c.args.txids.now in
-    omega (arith, taken_here t loop.i (omega arith) c.if-txids-i-eq0.false)
 
 pub returns : goal.returns
 returns c =
-    let loop = c.loop-i-2 in
-    omega (arith, no_more_slots c.args.txids.now loop.i (omega arith))
+    let txids = c.args.txids.now in
+    let turns = c.as_chunks.result.0.now in
+    let rest = drop (8 * c.count-passed.result) txids in
+    lowest_by_turns txids turns 8 _ _ c.as_chunks.ensures.front
+    (count_from_yields_List _ _ c.count-passed.ensures.ran
+    (YieldsList-from_take_while _ (λ turn. not (list_any (λ y. y == 0) turn)) (YieldsList-from_slice turns cc)
+    c.take_while-full.ensures.closure c.take_while-full.ensures.done (λ x b q k. search (rules, tests)))
+    ∙ length-prefix_len _ turns)
+    (count_from_yields_List _ _ c.count.ensures.ran
+    (YieldsList-from_take_while _ (λ y. not (y == 0)) (YieldsList-from_slice rest (grind (arith, common_steps)))
+    c.take_while-taken.ensures.closure c.take_while-taken.ensures.done (λ x b q k. search (rules, tests)))
+    ∙ length-prefix_len _ rest)

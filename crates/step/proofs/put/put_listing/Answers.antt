@@ -1,6 +1,6 @@
 -- The text that is put is that of the numbers asked for.
 use mathlib.Core.Path.{ap}
-use Rattle.text.specs.declared.Put.{Put}
+use Rattle.text.specs.Put.{Put}
 use Rattle.model.specs.Answers.{numbers_of}
 use Rattle.step.proofs.put.put_listing.Goals as goal
 
@@ -9,5 +9,4 @@ unfolding numbers_of
 returns c =
     let p = c.put_answer-put.ensures in
     let e = c.numbers_of-numbers.ensures in
-    let change = c.args.change in
-    record { result_value = ap (λ (x : Put). record { put = x; change = change }) (rw e at p.result_value); buf_after = rw e at p.buf_after }
+    record { ran = ap (λ (x : Put). record { put = x; change = c.args.decided.now.change }) (rw e at p.result_value); left = rw e at p.buf_after }

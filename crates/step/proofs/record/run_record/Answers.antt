@@ -1,104 +1,68 @@
--- Each arm puts the text of what its call decided, which is what the call prints (crate's proofs/Prints.antt). The columns that a
--- decision reads are those of the table that lends them (model's proofs/Lent.antt).
-use mathlib.Core.Path.{refl, ◌∙◌}
+-- Each arm decides its call, and what is put is what the call prints (crate's proofs/Prints.antt). The columns that a decision reads are
+-- those of the table that lends them (model's proofs/Lent.antt).
+use mathlib.Core.Path.{refl, sym, ◌∙◌}
 use borrow.Author.Tests.{lt-leb}
-use Rattle.model.specs.Calls.{shown_accepted}
+use borrow.Author.Rules.{rules}
+use Rattle.kinds.specs.declared.TheConstants.{SLOTS}
+use Rattle.model.specs.Tables.{lent_slots, lent_to_pin, lent_by}
+use Rattle.model.specs.Calls.{shown_accepted, snap, own, pin, refusal}
 use Rattle.model.proofs.Lent.{slots_show, lent_decides, lent_stamps, lent-pins, lent_releases}
 use Rattle.step.specs.Named.{call_of}
 use Rattle.step.specs.Step.{ran, ran_left}
-use Rattle.step.proofs.Prints.{plain-ran, plain-left, listing-ran, listing-left}
+use Rattle.step.proofs.Prints.{Prints, plain-prints, listing-put, listing-prints, refused-at_once}
 use Rattle.step.proofs.record.run_record.Goals as goal
 
 pub returns-then-txids-gt-SLOTS : goal.returns-then-txids-gt-SLOTS
 unfolding ran ran_left
-returns-then-txids-gt-SLOTS c = record { result_value = rw (lt-leb _ _ c.if-txids-gt-SLOTS.true); buf_after = rw (lt-leb _ _ c.if-txids-gt-SLOTS.true) }
-
-pub returns-in-Begin : goal.returns-in-Begin
-unfolding call_of shown_accepted
-returns-in-Begin c =
-    let op = c.in-Begin.is in
-    let few = c.if-txids-gt-SLOTS.false in
-    let e = c.decide_begin.ensures ∙ lent_decides _ _ _ refl in
-    let o = c.put_plain.ensures in
-    rw op record { result_value = o.result_value ∙ plain-ran _ _ _ _ few _ _ e refl; buf_after = o.buf_after ∙ plain-left _ _ _ _ few _ _ e refl }
-
-pub returns-in-End : goal.returns-in-End
-unfolding call_of shown_accepted
-returns-in-End c =
-    let op = c.in-End.is in
-    let few = c.if-txids-gt-SLOTS.false in
-    let e = c.decide_end.ensures ∙ lent_decides _ _ _ refl in
-    let o = c.put_plain-in-End.ensures in
-    rw op record { result_value = o.result_value ∙ plain-ran _ _ _ _ few _ _ e refl; buf_after = o.buf_after ∙ plain-left _ _ _ _ few _ _ e refl }
+returns-then-txids-gt-SLOTS c =
+    let many = lt-leb _ _ c.if-txids-gt-SLOTS.true in
+    record { result_value = rw many c.nothing.ensures; buf_after = rw many }
 
 pub returns-in-Snap : goal.returns-in-Snap
-unfolding call_of shown_accepted
+unfolding call_of refusal
 returns-in-Snap c =
-    let op = c.in-Snap.is in
+    let a = c.args in
     let few = c.if-txids-gt-SLOTS.false in
-    let e = slots_show _ _ _ few refl in
-    let o = c.run_snap.ensures in
-    rw op record { result_value = o.result_value ∙ listing-ran _ _ _ _ few _ _ e; buf_after = o.buf_after ∙ listing-left _ _ _ _ few _ _ e }
+    let t = lent_slots SLOTS a.columns.txids.now a.columns.counters in
+    let p = listing-put _ _ t (snap a.r.clock a.r.sample) _ _ refl _ _ (λ d k. search rules) (λ r e. sym c.observation_test-verdict.ensures ∙ e) c.run_listing.ensures in
+    let o = listing-prints few (slots_show _ _ _ few refl) p in
+    rw c.in-Snap.is record { result_value = o.ran; buf_after = o.left }
 
 pub returns-in-Own : goal.returns-in-Own
-unfolding call_of shown_accepted
+unfolding call_of
 returns-in-Own c =
-    let op = c.in-Own.is in
+    let a = c.args in
     let few = c.if-txids-gt-SLOTS.false in
-    let e = slots_show _ _ _ few refl in
-    let o = c.run_own.ensures in
-    rw op record { result_value = o.result_value ∙ listing-ran _ _ _ _ few _ _ e; buf_after = o.buf_after ∙ listing-left _ _ _ _ few _ _ e }
-
-pub returns-in-Oldest : goal.returns-in-Oldest
-unfolding call_of shown_accepted
-returns-in-Oldest c =
-    let op = c.in-Oldest.is in
-    let few = c.if-txids-gt-SLOTS.false in
-    let e = c.decide_oldest.ensures in
-    let o = c.put_plain-in-Oldest.ensures in
-    rw op record { result_value = o.result_value ∙ plain-ran _ _ _ _ few _ _ e refl; buf_after = o.buf_after ∙ plain-left _ _ _ _ few _ _ e refl }
-
-pub returns-in-Vacuum : goal.returns-in-Vacuum
-unfolding call_of shown_accepted
-returns-in-Vacuum c =
-    let op = c.in-Vacuum.is in
-    let few = c.if-txids-gt-SLOTS.false in
-    let e = c.decide_vacuum.ensures in
-    let o = c.put_plain-in-Vacuum.ensures in
-    rw op record { result_value = o.result_value ∙ plain-ran _ _ _ _ few _ _ e refl; buf_after = o.buf_after ∙ plain-left _ _ _ _ few _ _ e refl }
-
-pub returns-in-Stamp : goal.returns-in-Stamp
-unfolding call_of shown_accepted
-returns-in-Stamp c =
-    let op = c.in-Stamp.is in
-    let few = c.if-txids-gt-SLOTS.false in
-    let e = c.decide_stamp.ensures ∙ lent_stamps _ _ _ in
-    let o = c.put_plain-in-Stamp.ensures in
-    rw op record { result_value = o.result_value ∙ plain-ran _ _ _ _ few _ _ e refl; buf_after = o.buf_after ∙ plain-left _ _ _ _ few _ _ e refl }
-
-pub returns-in-Finish : goal.returns-in-Finish
-unfolding call_of shown_accepted
-returns-in-Finish c =
-    let op = c.in-Finish.is in
-    let few = c.if-txids-gt-SLOTS.false in
-    let e = c.decide_finish.ensures ∙ lent_decides _ _ _ refl in
-    let o = c.put_plain-in-Finish.ensures in
-    rw op record { result_value = o.result_value ∙ plain-ran _ _ _ _ few _ _ e refl; buf_after = o.buf_after ∙ plain-left _ _ _ _ few _ _ e refl }
+    let t = lent_slots SLOTS a.columns.txids.now a.columns.counters in
+    let call = own (record { 0 = a.r.slot }) (record { 0 = a.r.id }) a.r.clock a.r.sample in
+    let p = listing-put _ _ t call _ _ refl _ _ (λ d k. search rules) (λ r e. sym c.own_test-verdict.ensures ∙ e) c.run_listing-in-Own.ensures in
+    let o = listing-prints few (slots_show _ _ _ few refl) p in
+    rw c.in-Own.is record { result_value = o.ran; buf_after = o.left }
 
 pub returns-in-Pin : goal.returns-in-Pin
-unfolding call_of shown_accepted
+unfolding call_of
 returns-in-Pin c =
-    let op = c.in-Pin.is in
+    let a = c.args in
     let few = c.if-txids-gt-SLOTS.false in
-    let e = lent-pins _ _ _ _ few in
-    let o = c.run_pin.ensures in
-    rw op record { result_value = o.result_value ∙ listing-ran _ _ _ _ few _ _ e; buf_after = o.buf_after ∙ listing-left _ _ _ _ few _ _ e }
+    let t = lent_to_pin SLOTS a.columns.txids.now a.columns.pins.now a.columns.counters in
+    let first = c.observation_test-verdict-in-Pin.ensures in
+    let p = listing-put _ _ t (pin a.r.clock a.r.sample) _ _ refl _ _ (λ d k. search rules) (λ r e. refused-at_once _ _ _ _ (sym first ∙ e)) c.run_listing-in-Pin.ensures in
+    let o = listing-prints few (lent-pins _ _ _ _ few) p in
+    rw c.in-Pin.is record { result_value = o.ran; buf_after = o.left }
 
-pub returns-in-Unpin : goal.returns-in-Unpin
+pub returns : goal.returns
 unfolding call_of shown_accepted
-returns-in-Unpin c =
-    let op = c.in-Unpin.is in
+returns c =
+    let a = c.args in
     let few = c.if-txids-gt-SLOTS.false in
-    let e = c.decide_unpin.ensures ∙ lent_releases _ _ _ in
-    let o = c.put_plain-in-Unpin.ensures in
-    rw op record { result_value = o.result_value ∙ plain-ran _ _ _ _ few _ _ e refl; buf_after = o.buf_after ∙ plain-left _ _ _ _ few _ _ e refl }
+    let put = c.put_plain.ensures in
+    let p : Prints a.version SLOTS (lent_by a.columns) (call_of a.r) a.buf.now a.at c.put_plain.new.buf c.put_plain.result = elim c.match-r.branch [
+      | goal.in-Begin w ↦ rw w.in-Begin.is (plain-prints few (w.decided-is ∙ w.decide_begin-decided.ensures ∙ lent_decides _ _ _ refl) refl put)
+      | goal.in-End w ↦ rw w.in-End.is (plain-prints few (w.decided-is ∙ w.decide_end-decided.ensures ∙ lent_decides _ _ _ refl) refl put)
+      | goal.in-Oldest w ↦ rw w.in-Oldest.is (plain-prints few (w.decided-is ∙ w.decide_oldest-decided.ensures) refl put)
+      | goal.in-Vacuum w ↦ rw w.in-Vacuum.is (plain-prints few (w.decided-is ∙ w.decide_vacuum-decided.ensures) refl put)
+      | goal.in-Stamp w ↦ rw w.in-Stamp.is (plain-prints few (w.decided-is ∙ w.decide_stamp-decided.ensures ∙ lent_stamps _ _ _) refl put)
+      | goal.in-Finish w ↦ rw w.in-Finish.is (plain-prints few (w.decided-is ∙ w.decide_finish-decided.ensures ∙ lent_decides _ _ _ refl) refl put)
+      | goal.in-Unpin w ↦ rw w.in-Unpin.is (plain-prints few (w.decided-is ∙ w.decide_unpin-decided.ensures ∙ lent_releases _ _ _) refl put)
+    ] in
+    record { result_value = p.ran; buf_after = p.left }

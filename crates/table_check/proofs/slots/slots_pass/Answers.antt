@@ -1,42 +1,19 @@
-use Prim.Native.Nat.{◌-◌}
-use mathlib.Core.Path.{refl, sym, ◌∙◌}
-use native.Mathlib.Omega.{arith}
+use mathlib.Core.Path.{◌∙◌, sym}
 use borrow.Author.Rules.{rules}
-use Rattle.table_check.proofs.Rest.{slots_short, slots_bad, slots_good, slots_long, slots_over}
+use borrow.Author.Tests.{tests, ne_eqb}
+use Rattle.std.proofs.lemmas.Iterator.{YieldsList-from_slice, YieldsList-from_zip}
+use Rattle.std.proofs.lemmas.Iterator.Search.{all_from_yields_List}
+use Rattle.table_check.proofs.Columns.{passes_here, slots_all, slots_uneven}
 use Rattle.table_check.proofs.slots.slots_pass.Goals as goal
 
-pub loop-i-init : goal.loop-i-init
-loop-i-init c = (search rules, refl)
-
-pub returns-then-xmins-i : goal.returns-then-xmins-i
-returns-then-xmins-i c =
-    let l = c.loop-i in
+pub returns-then-txids-xmins : goal.returns-then-txids-xmins
+returns-then-txids-xmins c =
     let a = c.args in
-    sym (l.invariant.1 ∙ slots_short a.clock a.line a.txids.now a.xmins.now l.i (omega arith) (omega arith))
+    let pairs = YieldsList-from_zip {s = c.zip.result} (YieldsList-from_slice a.txids.now cc) (YieldsList-from_slice a.xmins.now cc) in
+    let all = all_from_yields_List (passes_here a.counters.clock a.counters.vacuum_line) c.all.new.self _ c.all.result c.all.ensures.ran pairs (λ x b q k. search (rules, tests)) in
+    all ∙ slots_all a.counters.clock a.counters.vacuum_line a.txids.now a.xmins.now c.if-txids-xmins.true
 
-pub loop-i-preserved : goal.loop-i-preserved
-loop-i-preserved c =
-    let l = c.loop-i in
+pub returns-else-txids-xmins : goal.returns-else-txids-xmins
+returns-else-txids-xmins c =
     let a = c.args in
-    let good = sym c.slot_passes-good.ensures ∙ c.if-good.true in
-    let step = slots_good a.clock a.line a.txids.now a.xmins.now l.i (omega arith) (omega arith) good in
-    (omega arith, l.invariant.1 ∙ step)
-
-pub returns-in-loop-i : goal.returns-in-loop-i
-returns-in-loop-i c =
-    let l = c.loop-i in
-    let a = c.args in
-    let bad = sym c.slot_passes-good.ensures ∙ c.if-good.false in
-    sym (l.invariant.1 ∙ slots_bad a.clock a.line a.txids.now a.xmins.now l.i (omega arith) (omega arith) bad)
-
-pub returns-then-i-xmins : goal.returns-then-i-xmins
-returns-then-i-xmins c =
-    let l = c.loop-i in
-    let a = c.args in
-    sym (l.invariant.1 ∙ slots_long a.clock a.line a.txids.now a.xmins.now l.i (omega arith) (omega arith))
-
-pub returns : goal.returns
-returns c =
-    let l = c.loop-i in
-    let a = c.args in
-    sym (l.invariant.1 ∙ slots_over a.clock a.line a.txids.now a.xmins.now l.i (omega arith) (omega arith))
+    rw (ne_eqb _ _ c.if-txids-xmins.false) (sym (slots_uneven a.counters.clock a.counters.vacuum_line a.txids.now a.xmins.now c.if-txids-xmins.false))

@@ -1,36 +1,31 @@
-use Prim.Native.Nat.{◌-◌}
-use Rattle.table_measure.proofs.Walk.{pins_start, pin_room, pin-next, counter_room, pins_placed}
+use mathlib.Core.Path.{refl}
 use native.Mathlib.Omega.{arith}
+use lib.ListN.{get_or}
+use Rattle.text.proofs.Placed.{line_with_room}
+use Rattle.table_text.specs.TableText.{pin_key}
+use Rattle.table_measure.proofs.Walk.{left_start, piece_room, piece_put, last_room, last_put, pin_here, pins_over}
 use Rattle.table_writer.proofs.lines.pin_lines.Goals as goal
 
-pub loop-k-init : goal.loop-k-init
-loop-k-init c =
-    let a = c.args in
-    (omega arith, pins_start a.pins.now a.counters a.buf.now a.at)
+pub loop-xmin-init : goal.loop-xmin-init
+loop-xmin-init c = left_start _ c.args.buf.now c.args.at
 
-pub line-past-requires : goal.line-past-requires
-line-past-requires c =
-    let l = c.loop-k in
-    let a = c.args in
-    pin_room a.pins.now a.counters a.buf.now a.at c.requires l.buf l.past l.k (omega arith) l.invariant.1
-
-pub loop-k-preserved : goal.loop-k-preserved
-loop-k-preserved c =
-    let l = c.loop-k in
-    let a = c.args in (
-      omega arith,
-      pin-next a.pins.now a.counters a.buf.now a.at c.requires l.buf l.past l.k (omega arith) l.invariant.1 c.line-past.ensures,
-    )
+pub loop-xmin-preserved : goal.loop-xmin-preserved
+loop-xmin-preserved c =
+    let t = c.args.table.now in
+    let l = c.loop-xmin in
+    let here = pin_here t.pins t.counters l.xmin-index (omega arith) in
+    let said = c.line-past.ensures in
+    let room = piece_room c.requires l.invariant _ _ here in
+    piece_put c.requires l.invariant _ _ here (line_with_room _ _ pin_key (get_or t.pins l.xmin-index 0) refl said.buf_after said.value room)
 
 pub counter_lines-requires : goal.counter_lines-requires
 counter_lines-requires c =
-    let l = c.loop-k in
-    let a = c.args in
-    counter_room a.pins.now a.counters a.buf.now a.at c.requires l.buf l.past l.k (omega arith) l.invariant.1
+    let t = c.args.table.now in
+    let l = c.loop-xmin in
+    last_room c.requires l.invariant _ (pins_over t.pins t.counters l.xmin-index (omega arith))
 
 pub returns : goal.returns
 returns c =
-    let l = c.loop-k in
-    let a = c.args in
-    pins_placed a.pins.now a.counters a.buf.now a.at c.requires l.buf l.past l.k (omega arith) l.invariant.1
-    c.counter_lines.ensures
+    let t = c.args.table.now in
+    let l = c.loop-xmin in
+    last_put c.requires l.invariant _ (pins_over t.pins t.counters l.xmin-index (omega arith)) c.counter_lines.ensures

@@ -1,18 +1,15 @@
--- Two lines, the second where the first ended (crate's proofs/Walk.antt).
-use Rattle.table_measure.proofs.Walk.{txid-fits, xmin_fits, slot_placed}
+-- Two lines, the second where the first ended (proofs/Walk.antt of crate table_measure).
+use mathlib.Core.Path.{refl}
+use Rattle.text.specs.Keys.{txid_key, xmin_key}
+use Rattle.text.proofs.Placed.{line_with_room}
+use Rattle.table_measure.proofs.Walk.{slot_placed}
 use Rattle.table_writer.proofs.lines.slot_lines.Goals as goal
-
-pub line-a-requires : goal.line-a-requires
-line-a-requires c =
-    let a = c.args in
-    txid-fits a.txid a.xmin a.buf.now a.at c.requires
-
-pub line-requires : goal.line-requires
-line-requires c =
-    let a = c.args in
-    xmin_fits a.txid a.xmin a.buf.now a.at c.requires c.line-a.ensures
 
 pub returns : goal.returns
 returns c =
     let a = c.args in
-    slot_placed a.txid a.xmin a.buf.now a.at c.requires c.line-a.ensures c.line.ensures
+    let first = c.line-a.ensures in
+    let second = c.line.ensures in
+    slot_placed a.txid a.xmin c.requires
+    (line_with_room _ _ txid_key a.txid refl first.buf_after first.value)
+    (line_with_room _ _ xmin_key a.xmin refl second.buf_after second.value)

@@ -1,36 +1,35 @@
-use mathlib.Core.Path.{refl, sym, ◌∙◌}
-use native.Mathlib.Omega.{arith}
-use borrow.Author.Rules.{rules}
-use Rattle.taken_scans.proofs.Slots.{oldest_miss, oldest_hit, eight-oldest, oldest_over}
+-- One turn more, by `oldest_turn` in Slots.antt, and the slots past the turns, by `oldest_rest`.
+use Rattle.std.proofs.Common.{refl, sym, ◌∙◌, [], length-append}
+use Rattle.std.proofs.lemmas.Slice.Zip.{zip_turn, zip_end}
+use Rattle.model.specs.Tally.{retained, minimum}
+use Rattle.taken_scans.proofs.Slots.{cut_as_long, oldest_turn, oldest_rest, oldest_none, oldest_cut}
 use Rattle.taken_scans.proofs.oldest.oldest_retained.Goals as goal
 
-pub loop-i-init : goal.loop-i-init
-loop-i-init c = (c.shorter-end.ensures, search rules, refl)
+pub loop-eight-init : goal.loop-eight-init
+unfolding retained minimum
+loop-eight-init c = refl
 
-pub loop-i-preserved-then-all_empty : goal.loop-i-preserved-then-all_empty
-loop-i-preserved-then-all_empty c =
-    let loop = c.loop-i in
-    let a = c.args in
-    let empty = sym c.all_empty.ensures ∙ c.if-all_empty.true in
-    let step = eight-oldest a.txids.now loop.i a.xmins.now loop.low (omega arith) empty in
-    (loop.invariant.0, omega arith, loop.invariant.2 ∙ step)
+pub loop-eight-preserved-then-holds_only : goal.loop-eight-preserved-then-holds_only
+loop-eight-preserved-then-holds_only c =
+    let loop = c.loop-eight in
+    let same = cut_as_long c.args.txids.now c.args.xmins.now _ c.min-end.ensures in
+    let (h, k, e, f) = zip_turn c.as_chunks.result.0.now c.as_chunks-2.result.0.now loop.yielded c.into_iter-eight-iterator.result loop.eight-iterator c.next.new.self _ (cc) (cc) loop.yielded_by _ c.in-Some.is c.next.ensures.steps in
+    let none = oldest_none c.in-Some.eight.now c.in-Some.retained.now loop.low (sym c.holds_only.ensures ∙ c.if-holds_only.true) in
+    rw length-append
+    (oldest_turn 8 _ _ same _ _ c.as_chunks.ensures.front c.as_chunks-2.ensures.front _ _ loop.invariant h k (e []) (f []) none)
 
-pub loop-i-2-preserved-then-txids-at-ne0 : goal.loop-i-2-preserved-then-txids-at-ne0
-loop-i-2-preserved-then-txids-at-ne0 c =
-    let loop = c.loop-i-2 in
-    let a = c.args in
-    let step = oldest_hit a.txids.now loop.i a.xmins.now loop.low (omega arith) (omega arith) c.if-txids-at-ne0.true in
-    (loop.invariant.0, omega arith, omega arith, rw c.lesser-low.ensures (loop.invariant.3 ∙ step))
-
-pub loop-i-2-preserved : goal.loop-i-2-preserved
-loop-i-2-preserved c =
-    let loop = c.loop-i-2 in
-    let a = c.args in
-    let step = oldest_miss a.txids.now loop.i a.xmins.now loop.low (omega arith) (omega arith) c.if-txids-at-ne0.false in
-    (loop.invariant.0, omega arith, omega arith, loop.invariant.3 ∙ step)
+pub loop-eight-preserved : goal.loop-eight-preserved
+loop-eight-preserved c =
+    let loop = c.loop-eight in
+    let same = cut_as_long c.args.txids.now c.args.xmins.now _ c.min-end.ensures in
+    let (h, k, e, f) = zip_turn c.as_chunks.result.0.now c.as_chunks-2.result.0.now loop.yielded c.into_iter-eight-iterator.result loop.eight-iterator c.next.new.self _ (cc) (cc) loop.yielded_by _ c.in-Some.is c.next.ensures.steps in
+    rw length-append
+    (oldest_turn 8 _ _ same _ _ c.as_chunks.ensures.front c.as_chunks-2.ensures.front _ _ loop.invariant h k (e []) (f []) c.lowest_in_turn-low.ensures)
 
 pub returns : goal.returns
 returns c =
-    let loop = c.loop-i in
-    let a = c.args in
-    sym (loop.invariant.2 ∙ oldest_over a.txids.now loop.i a.xmins.now loop.low (omega arith))
+    let loop = c.loop-eight in
+    let same = cut_as_long c.args.txids.now c.args.xmins.now _ c.min-end.ensures in
+    let over = zip_end c.as_chunks.result.0.now c.as_chunks-2.result.0.now loop.yielded c.into_iter-eight-iterator.result loop.eight-iterator c.next.new.self _ (cc) (cc) loop.yielded_by c.in-None.is c.next.ensures.steps in
+    oldest_rest 8 _ _ same _ _ c.as_chunks.ensures.front c.as_chunks-2.ensures.front _ _ loop.invariant over c.as_chunks.ensures.back c.as_chunks-2.ensures.back c.lowest_among.ensures
+    ∙ oldest_cut _ _ _ _ c.min-end.ensures

@@ -14,11 +14,11 @@ returns-in_default c =
 pub returns-then-allows : goal.returns-then-allows
 unfolding record_under
 returns-then-allows c =
-    let named = op_is _ _ (sym c.op_at.ensures ∙ c.in-Is.is) in
-    rw (item_named record_shape _ _ _ named (sym c.allows.ensures ∙ c.if-allows.true)) c.record_after.ensures
+    let named = op_is _ _ (sym c.op_at.ensures ∙ c.in-Some.is) in
+    rw (item_named record_shape _ _ _ named (sym c.allows.ensures ∙ c.if-allows.true)) c.item_after.ensures
 
 pub returns : goal.returns
 unfolding record_under
 returns c =
-    let named = op_is _ _ (sym c.op_at.ensures ∙ c.in-Is.is) in
+    let named = op_is _ _ (sym c.op_at.ensures ∙ c.in-Some.is) in
     rw (item_refused record_shape _ _ _ named (sym c.allows.ensures ∙ c.if-allows.false))

@@ -2,11 +2,12 @@
 -- events that are left, verdict and end are those of the whole.
 use Prim.Native.Nat.{◌-◌}
 use lib.ListN.{length}
+use Rattle.kinds.specs.declared.TheConstants.{SLOTS}
 use Rattle.wait.proofs.Running.{Running}
 use Rattle.wait.proofs.run.run_steps.Given as goal
 
-abbrev pub invariant-loop-at : goal.invariant-loop-at
-invariant-loop-at l = Running (length l.table.txids) l.owner l.s l.table l.t l.at l.step
+abbrev pub invariant-loop-event : goal.invariant-loop-event
+invariant-loop-event l = Running SLOTS l.owner l.s l.fn.table l.now l.at l.step
 
-abbrev pub decreases-loop-at : goal.decreases-loop-at
-decreases-loop-at l = length l.s - l.at
+abbrev pub decreases-loop-event : goal.decreases-loop-event
+decreases-loop-event l = length l.s - l.at

@@ -1,7 +1,0 @@
--- The change decided on the lent column is made: that is the outcome (model's proofs/Lent.antt).
-use mathlib.Core.Path.{refl}
-use Rattle.model.proofs.Lent.{lent-outcome}
-use Rattle.end_call.proofs.end_transaction.Goals as goal
-
-pub returns : goal.returns
-returns c = lent-outcome _ _ _ refl c.decide_end-decided.ensures c.apply-next.ensures
