@@ -51,3 +51,7 @@ status_fits unwritten = omega arith
 pub reported_as : {k : ℕ} (p : Put) → k ≡ unwrap_or p 0 → k ≡ reported p
 reported_as (Past length) e = e
 reported_as None e = e
+
+-- what was read lies inside the buffer
+pub input_inside : {most size : ℕ} {r : Input} → InputFits most r → r ≡ reads.All size → size ≤ most
+input_inside f e = rw e at f
