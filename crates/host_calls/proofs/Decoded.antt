@@ -16,7 +16,7 @@ use Rattle.kinds.specs.declared.refusal.Refusal.TheVariants.{BadSnapshot, BadIma
 use Rattle.kinds.specs.Verdicts.{Verdict, Pass, Refuse, then, zero_test}
 use Rattle.kinds.specs.Refusals.{told}
 use Rattle.settled.specs.Settled.{Settled, settled_in, settled_by, settled_test, count_test, paper_settled, SettledFits}
-use Rattle.usable.specs.Usable.{Usable, usable_by, usable_test, paper_usable, UsableFits}
+use Rattle.usable.specs.Usable.{UsableSaid, usable_by, usable_test, paper_usable, UsableFits}
 use Rattle.listed.specs.Listed.{listed}
 use Rattle.model.specs.Check.{table_passes}
 use Rattle.image.specs.Lists.{count_of, ids_of}
@@ -106,7 +106,7 @@ unfolding settled_answer
 settled_is n xmax s id r z e = rw (z, e)
 
 pub usable_is :
-    (n xmax : ℕ) (s : List ℕ) (id own : ℕ) (r : Usable) → torn s ≡ false →
+    (n xmax : ℕ) (s : List ℕ) (id own : ℕ) (r : UsableSaid) → torn s ≡ false →
     UsableFits n xmax (ids_of s) (count_of s) (txid own) (txid id) r → usable_answer n xmax s id own ≡ usable_number (paper_usable r)
 unfolding usable_answer
 usable_is n xmax s id own r z e = rw (z, e)

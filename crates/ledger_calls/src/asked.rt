@@ -35,6 +35,8 @@ fn made(columns: Columns<'_>, row: [u64; 6]) -> Result<Did, Told>
 }
 
 // What the call does on these columns and counters, and what it answers. A refused one leaves everything as it was.
+// Inlined: a caller's columns are arrays, whose lengths the scans then know.
+#[inline]
 pub fn one_call(columns: Columns<'_>, row: [u64; 6]) -> Did
     ensures { result ≡ did_by SLOTS (lent_by columns.entry) (row_call row) }
 {

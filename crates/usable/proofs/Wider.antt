@@ -16,7 +16,7 @@ use Rattle.kinds.specs.Kinds.{txid}
 use Rattle.kinds.specs.Refusals.{told, bare, accepted}
 use Rattle.kinds.proofs.Unique.{told_unique, told_positive}
 use Rattle.settled.specs.Settled.{Yes as Is, No as Not, Refused as Unanswered, settled_in, SettledAnswer, paper_settled, count_test, settled_by, settled_test}
-use Rattle.usable.specs.Usable.{Usable, Yes, No, Refused, UsableAnswer, paper_usable, usable_by, usable_test, UsableFits}
+use Rattle.usable.specs.Usable.{UsableSaid, Yes, No, Refused, UsableAnswer, paper_usable, usable_by, usable_test, UsableFits}
 use Rattle.listed.specs.Listed.{listed}
 
 abbrev number_of : UsableAnswer → ℕ
@@ -34,7 +34,7 @@ by_yes Pass true o e = refl
 by_yes Pass false o e = absurd (true≢false (ap settled_of e))
 by_yes (Refuse r) b o e = absurd (told_positive r (sym (ap (λ (a : SettledAnswer). a.tells.number) e)))
 
-by_no : (v : Verdict) (b o : Bool) (r : Usable) → paper_settled Not ≡ settled_by v b → paper_usable r ≡ usable_by Pass o →
+by_no : (v : Verdict) (b o : Bool) (r : UsableSaid) → paper_settled Not ≡ settled_by v b → paper_usable r ≡ usable_by Pass o →
     paper_usable r ≡ usable_by v (b || o)
 by_no Pass false o r e p = p
 by_no Pass true o r e p = absurd (false≢true (ap settled_of e))
@@ -79,7 +79,7 @@ module _ (n xmax : ℕ) (ids : List ℕ) (count : ℕ) (own id : Txid) where
   usable_own false e p = by_no tests in-it is-own Yes e (rw p)
 
   pub usable_other : (b : Bool) → paper_settled (Ok b) ≡ settled_test n xmax ids count id → is-own ≡ false →
-      paper_usable (Ok b) ≡ usable_test n xmax ids count own id
+      paper_usable (cond b Yes No) ≡ usable_test n xmax ids count own id
   unfolding settled_test usable_test
   usable_other true e p = by_yes tests in-it is-own e
   usable_other false e p = by_no tests in-it is-own No e (rw p)
@@ -126,7 +126,7 @@ own_none n xmax ids count id =
     go Pass false false o l = ap (usable_by Pass) (l refl)
 
 -- at most one answer fits
-paper_usable_unique : (r s : Usable) → paper_usable r ≡ paper_usable s → r ≡ s
+paper_usable_unique : (r s : UsableSaid) → paper_usable r ≡ paper_usable s → r ≡ s
 paper_usable_unique Yes Yes e = refl
 paper_usable_unique Yes No e = absurd (true≢false (ap usable_of e))
 paper_usable_unique Yes (Refused r) e = absurd (told_positive r (sym (ap number_of e)))
@@ -138,7 +138,7 @@ paper_usable_unique (Refused r) No e = absurd (told_positive r (ap number_of e))
 paper_usable_unique (Refused r) (Refused s) e = ap Refused (told_unique r s (ap (λ (a : UsableAnswer). a.tells) e))
 
 pub usable_unique :
-    (n xmax : ℕ) (ids : List ℕ) (count : ℕ) (own id : Txid) (r s : Usable) → UsableFits n xmax ids count own id r →
+    (n xmax : ℕ) (ids : List ℕ) (count : ℕ) (own id : Txid) (r s : UsableSaid) → UsableFits n xmax ids count own id r →
     UsableFits n xmax ids count own id s → r ≡ s
 usable_unique n xmax ids count own id r s p q = paper_usable_unique r s (p ∙ sym q)
 

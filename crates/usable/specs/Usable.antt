@@ -6,18 +6,20 @@ use Rattle.kinds.specs.declared.told.Told.{Told}
 use Rattle.kinds.specs.Refusals.{told, accepted}
 use Rattle.settled.specs.Settled.{settled_in, count_test}
 use Rattle.kinds.specs.declared.refusal.Refusal.{Refusal}
+use Rattle.usable.specs.declared.Usable.{Usable}
+use Rattle.usable.specs.declared.Usable.TheVariants.{Yes as IsUsable, No as NotUsable}
 
 -- what the test answers: whether the version is usable, or why it is not told
-abbrev pub Usable : Type 0
-Usable = Result Bool Refusal
+abbrev pub UsableSaid : Type 0
+UsableSaid = Result Usable Refusal
 
-pattern abbrev pub Yes : Usable
-Yes = Ok true
+pattern abbrev pub Yes : UsableSaid
+Yes = Ok IsUsable
 
-pattern abbrev pub No : Usable
-No = Ok false
+pattern abbrev pub No : UsableSaid
+No = Ok NotUsable
 
-pattern abbrev pub Refused : Refusal → Usable
+pattern abbrev pub Refused : Refusal → UsableSaid
 Refused r = Err r
 
 -- settled, or the reader's own id
@@ -29,7 +31,7 @@ pub record UsableAnswer : Type 0 where
   pub tells : Told
   pub usable : Bool
 
-abbrev pub paper_usable : Usable → UsableAnswer
+abbrev pub paper_usable : UsableSaid → UsableAnswer
 paper_usable Yes = record { tells = accepted; usable = true }
 paper_usable No = record { tells = accepted; usable = false }
 paper_usable (Refused r) = record { tells = told r; usable = false }
@@ -44,5 +46,5 @@ usable_test n xmax ids count own id =
     usable_by (then (count_test n count) (zero_test id)) (usable_in xmax ids count own.0 id.0)
 
 -- what the test promises of its answer
-abbrev pub UsableFits : ℕ → ℕ → List ℕ → ℕ → Txid → Txid → Usable → Type 0
+abbrev pub UsableFits : ℕ → ℕ → List ℕ → ℕ → Txid → Txid → UsableSaid → Type 0
 UsableFits n xmax ids count own id r = paper_usable r ≡ usable_test n xmax ids count own id

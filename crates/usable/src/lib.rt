@@ -8,6 +8,13 @@ ghost use Rattle.usable.specs.Usable.{UsableFits};
 use kinds::{Refusal, SLOTS, Txid};
 use settled::Snapshot;
 
+// What the test says of an id that it may tell of. No `bool`: a settled answer can then not be taken for a usable one.
+#[derive(Clone, Copy, Debug, PartialEq, Eq)]
+pub enum Usable {
+    Yes,
+    No,
+}
+
 // Below which xmax the list is asked: for the reader's own id, which is usable whatever the list says, below none.
 fn asked_below(xmax: u64, own: Txid, id: Txid) -> u64
     ensures { result ≡ cond (eqb own.0 id.0) 0 xmax }
@@ -23,17 +30,20 @@ pub fn is_usable_among(
     xmax: u64,
     own: Txid,
     id: Txid,
-) -> Result<bool, Refusal>
+) -> Result<Usable, Refusal>
     ensures { UsableFits SLOTS xmax ids.now count own id result }
 {
     // The parts stay parameters: DECISIONS and SPEED name this call too, and the settled test takes them so.
     let below = asked_below(xmax, own, id);
     let settled = settled::is_settled_among(ids, count, below, id)?;
-    Ok(own == id || settled)
+    if own == id {
+        return Ok(Usable::Yes);
+    }
+    Ok(if settled { Usable::Yes } else { Usable::No })
 }
 
 // An id is usable exactly when it is settled or the reader's own.
-pub fn is_usable(snapshot: Snapshot, own: Txid, id: Txid) -> Result<bool, Refusal>
+pub fn is_usable(snapshot: Snapshot, own: Txid, id: Txid) -> Result<Usable, Refusal>
     ensures { UsableFits SLOTS snapshot.xmax snapshot.ids snapshot.count own id result }
 {
     is_usable_among(&snapshot.ids, snapshot.count, snapshot.xmax, own, id)

@@ -1,6 +1,6 @@
 -- The settled test's refusals come first; then the own id decides where settled said no. Below which xmax it was asked plays no part
 -- for an own id (`usable-within`). All of this is in the crate's proofs/Wider.antt.
-use Rattle.std.proofs.Common.{Err, ap, sym, ◌∙◌}
+use Rattle.std.proofs.Common.{Err, ap, sym, ◌∙◌, true, false}
 use Rattle.std.proofs.lemmas.Result.{err_from_is_err_and}
 use Rattle.usable.proofs.Wider.{usable_within, usable_own, usable_other, usable_refused}
 use Rattle.usable.proofs.is_usable_among.Goals as goal
@@ -13,11 +13,15 @@ returns-in_err-settled c =
 
 pub returns-then-eq : goal.returns-then-eq
 returns-then-eq c =
-    let said = c.in_ok-settled.ensures in
-    let own = usable_own _ _ _ _ _ _ _ said (sym c.eq.ensures ∙ c.if-eq.true) ∙ usable_within _ _ _ _ _ _ c.asked_below-below.ensures in
-    rw (c.if-eq.true) own
+    usable_own _ _ _ _ _ _ _ c.in_ok-settled.ensures (sym c.eq.ensures ∙ c.if-eq.true)
+    ∙ usable_within _ _ _ _ _ _ c.asked_below-below.ensures
 
-pub returns-else-eq : goal.returns-else-eq
-returns-else-eq c =
-    let said = c.in_ok-settled.ensures in
-    usable_other _ _ _ _ _ _ _ said (sym c.eq.ensures ∙ c.if-eq.false) ∙ usable_within _ _ _ _ _ _ c.asked_below-below.ensures
+pub returns-then-settled : goal.returns-then-settled
+returns-then-settled c =
+    let said = rw c.if-settled.true at c.in_ok-settled.ensures in
+    usable_other _ _ _ _ _ _ true said (sym c.eq.ensures ∙ c.if-eq.false) ∙ usable_within _ _ _ _ _ _ c.asked_below-below.ensures
+
+pub returns-else-settled : goal.returns-else-settled
+returns-else-settled c =
+    let said = rw c.if-settled.false at c.in_ok-settled.ensures in
+    usable_other _ _ _ _ _ _ false said (sym c.eq.ensures ∙ c.if-eq.false) ∙ usable_within _ _ _ _ _ _ c.asked_below-below.ensures
