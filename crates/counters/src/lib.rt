@@ -13,7 +13,7 @@ pub fn reserved(was: Counters, number: Stamp) -> Counters
     ensures { result ≡ reserved_from number was }
 {
     Counters {
-        clock: number.0.saturating_add(1),
+        clock: kinds::saturating_next(number.0),
         ..was
     }
 }

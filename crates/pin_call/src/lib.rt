@@ -30,7 +30,7 @@ pub fn decide_pin<'a>(
         return refused_snapshot(was, Refusal::NoFreePin);
     }
     let taken = PinNo(at as u16);
-    let used = sample.max(was.vacuum_line);
+    let used = kinds::greater(sample, was.vacuum_line);
     let snapshot = taken_scans::take_snapshot(txids, used);
     SnapshotDecision {
         change: Change {

@@ -59,9 +59,10 @@ pub fn store(words: &mut [u64], change: Change)
     let Some((pins, counters)) = rest.split_first_chunk_mut::<PINS>() else {
         return;
     };
+    // The counters first: whoever looks in between, without the lock, meets a table that passes the check.
+    let now = change.counters;
+    counters.copy_from_slice(&[now.clock, now.sampled_clock, now.vacuum_line]);
     changes::store_txid(txids, change.slot);
     changes::store_xmin(xmins, change.slot);
     changes::store_pin(pins, change.slot);
-    let now = change.counters;
-    counters.copy_from_slice(&[now.clock, now.sampled_clock, now.vacuum_line]);
 }

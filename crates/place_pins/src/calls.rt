@@ -28,7 +28,7 @@ impl Shows for Pin {
             return Err(Refusal::NoFreePin);
         }
         Ok(Passed {
-            sample: self.sample.max(was.vacuum_line),
+            sample: kinds::greater(self.sample, was.vacuum_line),
             retainer: Retainer::Pin(PinNo(at as u16)),
             counters: counters::observed(was, self.clock, self.sample),
         })

@@ -109,10 +109,10 @@ module _ (x otherwise : ℕ) where
           rw (position_later (retains x) (t, m) (zip ts (take n ms)) q, q, told_later) (rw next at ih)
 
   -- .. where there are no others
-  pub holder_found :
+  pub holder_scanned :
       (s : ℕ) (txids xmins : List ℕ) → length xmins ≤ length txids →
       holder_from s txids xmins x otherwise ≡ told_from s (position (retains x) (zip txids xmins)) otherwise
-  holder_found s txids xmins h =
+  holder_scanned s txids xmins h =
       let over : drop (length xmins) xmins ≡ [] = drop_of_length-le xmins (omega arith) in
       holder_turn (length xmins) s txids xmins h (omega arith)
       ∙ rw (take-length xmins, over, holder_none (s + length xmins) (drop (length xmins) txids))
@@ -155,7 +155,7 @@ module _ (x otherwise : ℕ) where
           let first = n * length turns in
           let same : drop first part ≡ rest = rw (count, mul_comm n (length part / n)) (sym r) in
           rw same
-          (holder_found first (drop first txids) rest (omega (arith, fits, ap length same, length-drop first txids, length-drop first part)))
+          (holder_scanned first (drop first txids) rest (omega (arith, fits, ap length same, length-drop first txids, length-drop first part)))
 
 -- a turn that does not have x has no slot that retains it
 pub none_retains : (x : ℕ) (txids turn : List ℕ) → list_any (λ y. eqb y x) turn ≡ false → position (retains x) (zip txids turn) ≡ None

@@ -9,7 +9,7 @@ fn lowest_among<'a>(txids: &'a [u64], xmins: &'a [u64], low: u64) -> u64
     let mut lowest = low;
     for (txid, xmin) in txids.iter().zip(xmins) {
         if *txid != 0 {
-            lowest = lowest.min(*xmin);
+            lowest = kinds::lesser(lowest, *xmin);
         }
     }
     lowest
@@ -28,7 +28,7 @@ fn lowest_in_turn<'a>(txids: &'a [u64; 8], xmins: &'a [u64; 8], low: u64) -> u64
 pub fn oldest_retained<'a>(txids: &'a [u64], xmins: &'a [u64], sample: u64) -> u64
     ensures { result ≡ oldest_of txids.now xmins.now sample }
 {
-    let end = txids.len().min(xmins.len());
+    let end = turns::shorter(txids.len(), xmins.len());
     let (turns, rest) = txids[..end].as_chunks::<8>();
     let (beside, beside_rest) = xmins[..end].as_chunks::<8>();
     let mut low = sample;

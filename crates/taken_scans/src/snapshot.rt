@@ -35,8 +35,8 @@ fn gather(slots: &[u64], before: Found, ids: &mut [u64]) -> Found
         if id != 0 {
             ids[found.count] = id;
             found.count += 1;
-            found.low = found.low.min(id);
-            found.high = found.high.max(id);
+            found.low = kinds::lesser(found.low, id);
+            found.high = kinds::greater(found.high, id);
         }
     }
     found
@@ -48,7 +48,7 @@ pub fn take_into(txids: &[u64], sample: u64, ids: &mut [u64]) -> Taken
     ensures value { result ≡ taken_of (take (length ids.old) txids.now) sample }
     ensures ids_after { ids.new ≡ sets ids.old 0 (active (take (length ids.old) txids.now)) }
 {
-    let end = ids.len().min(txids.len());
+    let end = turns::shorter(ids.len(), txids.len());
     let (turns, rest) = txids[..end].as_chunks::<8>();
     let mut found = Found {
         count: 0,
@@ -69,8 +69,8 @@ pub fn take_into(txids: &[u64], sample: u64, ids: &mut [u64]) -> Taken
             count: found.count,
         };
     }
-    let above = found.high.saturating_add(1);
-    let xmax = sample.max(above);
+    let above = kinds::saturating_next(found.high);
+    let xmax = kinds::greater(sample, above);
     Taken {
         xmin: found.low,
         xmax,

@@ -18,7 +18,7 @@ pub fn decide_vacuum(columns: Columns<'_>, clock: u64, sample: u64) -> Decision
         return Decision::refused(was, refusal);
     }
     let xmin = horizon::oldest_of(columns, sample);
-    let line = was.vacuum_line.max(xmin);
+    let line = kinds::greater(was.vacuum_line, xmin);
     let holder = horizon::holder_of(columns, xmin);
     Decision {
         change: Change {

@@ -13,7 +13,7 @@ pub loop-txid-preserved-then-txid-ne0 : goal.loop-txid-preserved-then-txid-ne0
 loop-txid-preserved-then-txid-ne0 c =
     let loop = c.loop-txid in
     let turn = zip_turn c.args.txids.now c.args.xmins.now loop.yielded c.into_iter-txid-iterator.result loop.txid-iterator c.next.new.self _ (cc) (cc) loop.yielded_by _ c.in-Some.is c.next.ensures.steps in
-    rw length-append (oldest_hit _ _ _ _ turn.0 turn.1 (turn.2 0) loop.invariant (turn.3 0) c.if-txid-ne0.true c.min-lowest.ensures)
+    rw length-append (oldest_hit _ _ _ _ turn.0 turn.1 (turn.2 0) loop.invariant (turn.3 0) c.if-txid-ne0.true c.lesser-lowest.ensures)
 
 pub loop-txid-preserved : goal.loop-txid-preserved
 loop-txid-preserved c =

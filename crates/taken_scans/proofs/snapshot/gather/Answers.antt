@@ -15,7 +15,7 @@ loop-id-preserved c =
     let so_far = c.loop-id.invariant.0 in
     elim c.if-id-ne0.branch [
       | then-id-ne0 w ↦
-          let one = gathered_one _ w.if-id-ne0.true w.min.ensures w.max.ensures in
+          let one = gathered_one _ w.if-id-ne0.true w.lesser.ensures w.greater.ensures in
           (rw (next, w.found-is, w.ids-is) (gathered_then so_far one), omega (arith, ap (λ (f : Found). f.count) w.found-is))
       | else-id-ne0 w ↦
           let one = gathered_empty _ w.if-id-ne0.false in

@@ -17,4 +17,4 @@ returns-then-at-ge-PINS c =
 pub returns : goal.returns
 returns c =
     pin_passes _ _ _ _ (sym c.in_ok-observation_test.ensures) c.lowest_empty-at.ensures c.if-at-ge-PINS.false
-    c.observed.ensures c.max.ensures
+    c.observed.ensures c.greater.ensures
