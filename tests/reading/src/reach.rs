@@ -92,21 +92,29 @@ impl Code {
         found
     }
 
-    /// The functions that a body names: `path(`, `path::name`, and methods by their name.
+    /// The functions that a body names: `path(`, `path::name`, `path::<T>`, and methods by their name.
     fn named_in(&self, f: &Function) -> Vec<usize> {
         let mut found = Vec::new();
         let mut at = 0;
         while at < f.tokens.len() {
             let start = at;
             let mut path = vec![f.tokens[at].clone()];
+            let mut typed = false;
             while f.tokens.get(at + 1).is_some_and(|t| t == "::") && at + 2 < f.tokens.len() {
-                path.push(f.tokens[at + 2].clone());
                 at += 2;
+                if f.tokens[at] == "<" {
+                    // types that are given to what the path names
+                    at = closing(&f.tokens, at);
+                    typed = true;
+                } else {
+                    path.push(f.tokens[at].clone());
+                }
             }
             at += 1;
             let called = f.tokens.get(at).is_some_and(|t| t == "(");
             let part = start > 0 && f.tokens[start - 1] == ".";
-            let things = if part || !(called || path.len() > 1) { Vec::new() } else { self.resolve(&f.krate, &f.module, &path, 0) };
+            let named = !part && (called || typed || path.len() > 1);
+            let things = if named { self.resolve(&f.krate, &f.module, &path, 0) } else { Vec::new() };
             found.extend(things.iter().filter_map(|t| if let Thing::Function(i) = t { Some(*i) } else { None }));
             if things.is_empty() && called {
                 let method = |i: &usize| self.functions[*i].method && path.last() == Some(&self.functions[*i].name);
@@ -114,6 +122,12 @@ impl Code {
             }
         }
         found
+    }
+
+    /// What a function promises: of a method of a trait of this repository, what that trait says of it.
+    pub fn promised<'a>(&'a self, f: &'a Function) -> &'a [String] {
+        let says = |d: &&Function| d.of_trait == f.of_trait && d.name == f.name;
+        self.declared.iter().find(says).map_or(&f.ensures[..], |d| &d.ensures[..])
     }
 
     /// The public functions that no program calls, directly or through others.
@@ -128,4 +142,16 @@ impl Code {
         }
         self.functions.iter().enumerate().filter(|(i, f)| f.public && !run.contains(i)).map(|(_, f)| f).collect()
     }
+}
+
+/// The place of the `>` that closes the `<` here.
+fn closing(tokens: &[String], from: usize) -> usize {
+    let mut depth = 0;
+    for (at, token) in tokens.iter().enumerate().skip(from) {
+        depth += i32::from(token == "<") - i32::from(token == ">");
+        if depth == 0 {
+            return at;
+        }
+    }
+    tokens.len() - 1
 }
