@@ -41,11 +41,16 @@ impl Code {
             }
         }
         // a method of a trait of this repository promises what the trait says, and is judged there
-        let traits: BTreeSet<&String> = self.items.iter().filter(|i| i.kind == "trait").map(|i| &i.name).collect();
+        let traits: BTreeSet<String> = self.traits().into_iter().cloned().collect();
         for (i, f) in self.functions.iter_mut().enumerate() {
             let open = !traits.contains(&f.of_trait) && (found.contains(&i) || (f.method && f.open));
             f.public = f.exported || (libraries.contains(&f.krate) && open);
         }
+    }
+
+    /// The names of this repository's traits.
+    fn traits(&self) -> BTreeSet<&String> {
+        self.items.iter().filter(|i| i.kind == "trait").map(|i| &i.name).collect()
     }
 
     /// What a path means in a module.
@@ -134,10 +139,18 @@ impl Code {
     pub fn unrun(&self, programs: &[String]) -> Vec<&Function> {
         let main = |f: &Function| programs.contains(&f.krate) && f.module.is_empty() && f.name == "main";
         let mut waiting: Vec<usize> = (0..self.functions.len()).filter(|&i| main(&self.functions[i])).collect();
-        let mut run = BTreeSet::new();
+        let (mut run, mut named, mut later) = (BTreeSet::new(), BTreeSet::new(), BTreeSet::new());
+        let traits = self.traits();
         while let Some(i) = waiting.pop() {
-            if run.insert(i) {
-                waiting.extend(self.named_in(&self.functions[i]));
+            let f = &self.functions[i];
+            // of a type that nothing names so far, no method of its traits runs
+            if traits.contains(&f.of_trait) && !named.contains(&f.owner) {
+                later.insert(i);
+            } else if run.insert(i) {
+                named.extend(&f.tokens);
+                waiting.extend(self.named_in(f));
+                waiting.append(&mut later.iter().copied().collect());
+                later.clear();
             }
         }
         self.functions.iter().enumerate().filter(|(i, f)| f.public && !run.contains(i)).map(|(_, f)| f).collect()

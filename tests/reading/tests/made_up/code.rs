@@ -115,6 +115,26 @@ fn what_a_program_runs_is_followed_through_every_use() {
 }
 
 #[test]
+fn a_traits_method_runs_for_a_type_that_something_names() {
+    let one = |of: &str, does: &str| {
+        format!("pub struct {of};\nimpl T for {of} {{\n    fn t() {{\n        {does}();\n    }}\n}}\npub fn {does}() {{\n}}\n")
+    };
+    let lib = format!("pub trait T {{\n    fn t();\n}}\n{}{}pub fn all<X: T>() {{\n    X::t();\n}}\n", one("A", "f"), one("B", "g"));
+    let unrun = |main: &str| {
+        let reading = read(&[("crates.txt", "a:\np: a\n"), ("crates/a/src/lib.rt", &lib), ("crates/p/src/main.rt", main)]);
+        reading.code.unrun(&["p".to_string()]).iter().map(|f| f.name.clone()).collect::<Vec<_>>()
+    };
+    assert_eq!(unrun("fn main() {\n    a::all::<a::A>();\n}\n"), ["g"]);
+    assert_eq!(unrun("fn main() {\n    a::all::<B>();\n}\n"), ["f"]);
+    // named later, by what is called then
+    assert_eq!(
+        unrun("fn main() {\n    both();\n}\nfn both() {\n    a::all();\n    of();\n}\nfn of() {\n    A;\n    B;\n}\n"),
+        Vec::<String>::new()
+    );
+    assert_eq!(unrun("fn main() {\n    a::all();\n}\n"), ["f", "g"]);
+}
+
+#[test]
 fn a_method_promises_what_its_trait_says() {
     let trait_with = |clause: &str| {
         let lib = format!(
