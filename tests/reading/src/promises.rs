@@ -239,7 +239,8 @@ fn excused(why: Option<String>, id: String, named: &BTreeSet<String>, report: &m
     }
 }
 
-/// No public function asks for anything, nor does one that a trait declares; each promises its whole outcome, or stands among the exceptions.
+/// No public function asks for anything, nor does one that a trait declares; each promises its whole outcome, or stands among the
+/// exceptions.
 pub fn check(tree: &Tree, code: &Code, logic: &Logic, report: &mut Report) {
     report.none("the reading", &code.unknown);
     let named = excepted(tree, "Not wholly stated", report);
