@@ -10,6 +10,7 @@ use std::collections::{BTreeMap, BTreeSet};
 pub fn declared(tree: &Tree, code: &Code, logic: &Logic) -> BTreeSet<(String, String)> {
     let mut out: BTreeSet<(String, String)> = BTreeSet::new();
     out.extend(code.functions.iter().map(|f| (f.file.clone(), f.name.clone())));
+    out.extend(code.declared.iter().map(|f| (f.file.clone(), format!("{}::{}", f.of_trait, f.name))));
     out.extend(code.items.iter().map(|i| (i.file.clone(), i.name.clone())));
     out.extend(logic.declarations.iter().map(|d| (d.file.clone(), d.name.clone())));
     for ((krate, path), module) in &code.modules {

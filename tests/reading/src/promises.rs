@@ -150,6 +150,11 @@ fn theorem<'a>(tree: &Tree, logic: &'a Logic, file: &str, name: &str) -> Result<
 }
 
 pub fn judge<'a>(tree: &Tree, code: &Code, logic: &'a Logic, f: &Function) -> Result<Judged<'a>, String> {
+    judged(tree, code, logic, f, false)
+}
+
+/// The same, where it may be enough that a contract says what the result refers to holds.
+fn judged<'a>(tree: &Tree, code: &Code, logic: &'a Logic, f: &Function, held: bool) -> Result<Judged<'a>, String> {
     const ITS: &str = "its result";
     let mut missing: BTreeSet<&str> = written(code, f).into_iter().collect();
     missing.extend([ITS].iter().filter(|_| !["", "()"].contains(&f.result.as_str())));
@@ -162,8 +167,7 @@ pub fn judge<'a>(tree: &Tree, code: &Code, logic: &'a Logic, f: &Function) -> Re
             }
             Clause::Left(p, _) => drop(missing.remove(p.as_str())),
             Clause::Bound(_) => {}
-            // of a trait's own function that is enough: no caller outside sees where it lies
-            Clause::Held(_) if !f.of_trait.is_empty() => drop(missing.remove(ITS)),
+            Clause::Held(_) if held => drop(missing.remove(ITS)),
             Clause::Held(_) => return Err("it says what its result holds, and not where that lies".into()),
             Clause::Predicate(predicate, arguments) => {
                 let (theorem, equal) = theorem(tree, logic, &f.file, &predicate)?;
@@ -190,12 +194,12 @@ pub fn judge<'a>(tree: &Tree, code: &Code, logic: &'a Logic, f: &Function) -> Re
 /// The table of the theorems by which promises are unique.
 pub fn unique_table(tree: &Tree, code: &Code, logic: &Logic) -> String {
     let mut rows: Vec<(String, Vec<String>)> = Vec::new();
-    for f in code.public() {
+    for (f, id) in code.public().map(|f| (f, f.id())).chain(code.declared.iter().map(|f| (f, declared_id(f)))) {
         if let Ok(Judged::Theorem { predicate, name, file }) = judge(tree, code, logic, f) {
             let row = format!("| `{predicate}` | `{name}` | `{file}` |");
             match rows.iter_mut().find(|r| r.0 == row) {
-                Some(found) => found.1.push(format!("`{}`", f.id())),
-                None => rows.push((row, vec![format!("`{}`", f.id())])),
+                Some(found) => found.1.push(format!("`{id}`")),
+                None => rows.push((row, vec![format!("`{id}`")])),
             }
         }
     }
@@ -221,7 +225,22 @@ pub fn excepted(tree: &Tree, section: &str, report: &mut Report) -> BTreeSet<Str
     out
 }
 
-/// No public function asks for anything; each promises its whole outcome, or stands among the exceptions.
+/// What a trait of this repository declares is called by its name.
+fn declared_id(f: &Function) -> String {
+    format!("{}::{}::{}", f.krate, f.of_trait, f.name)
+}
+
+/// Who promises less than all stands among the exceptions, and nobody else does.
+fn excused(why: Option<String>, id: String, named: &BTreeSet<String>, report: &mut Report) {
+    match (why, named.contains(&id)) {
+        (Some(why), false) => report.expect(false, || format!("{id}: {why}, and docs/EXCEPTIONS.md does not name it")),
+        (None, true) => report.expect(false, || format!("docs/EXCEPTIONS.md: {id} needs no grounds")),
+        _ => report.expect(true, String::new),
+    }
+}
+
+/// No public function asks for anything, nor does one that a trait declares; each promises its whole outcome, or stands among the
+/// exceptions.
 pub fn check(tree: &Tree, code: &Code, logic: &Logic, report: &mut Report) {
     report.none("the reading", &code.unknown);
     let named = excepted(tree, "Not wholly stated", report);
@@ -231,22 +250,22 @@ pub fn check(tree: &Tree, code: &Code, logic: &Logic, report: &mut Report) {
         report.expect(ids.insert(id.clone()), || format!("{id}: two public functions of one name"));
         report.expect(f.requires.is_empty(), || format!("{id}: a public function with a requires"));
         report.expect(!f.ensures.iter().any(|e| e.contains('→')), || format!("{id}: promises only under a condition"));
-        match (judge(tree, code, logic, f).err(), named.contains(&id)) {
-            (Some(why), false) => report.expect(false, || format!("{id}: {why}, and docs/EXCEPTIONS.md does not name it")),
-            (None, true) => report.expect(false, || format!("docs/EXCEPTIONS.md: {id} needs no grounds")),
-            _ => report.expect(true, String::new),
-        }
+        excused(judge(tree, code, logic, f).err(), id, &named, report);
     }
     for f in &code.declared {
-        let id = format!("{}::{}::{}", f.krate, f.of_trait, f.name);
+        let id = declared_id(f);
+        report.expect(ids.insert(id.clone()), || format!("{id}: two functions of one name"));
         report.expect(f.requires.is_empty(), || format!("{id}: a trait's function with a requires"));
-        // what calls through a trait promises its own outcome; a step of it may leave some of its own open, by a definition
+        // what calls through a trait promises its own outcome; a step of it may leave open where its result lies, or some of its
+        // outcome by a definition, and no more: then it stands among the exceptions too
         let step = |e: &String| match clause(e) {
             Clause::Predicate(p, arguments) => arguments.iter().any(|a| *a == [RESULT]) && origin(tree, &f.file, &p).is_some(),
             _ => false,
         };
-        let why = judge(tree, code, logic, f).err().filter(|_| f.ensures.is_empty() || !f.ensures.iter().all(step));
-        report.expect(why.is_none(), || format!("{id}: {}", why.unwrap_or_default()));
+        let steps = !f.ensures.is_empty() && f.ensures.iter().all(step);
+        let least = judged(tree, code, logic, f, true).err().filter(|_| !steps);
+        report.expect(least.is_none(), || format!("{id}: {}", least.unwrap_or_default()));
+        excused(judge(tree, code, logic, f).err(), id, &named, report);
     }
     report.none("docs/EXCEPTIONS.md: no public function", &named.difference(&ids).cloned().collect::<Vec<_>>());
     for theorem in logic.unique() {

@@ -41,11 +41,16 @@ impl Code {
             }
         }
         // a method of a trait of this repository promises what the trait says, and is judged there
-        let traits: BTreeSet<&String> = self.items.iter().filter(|i| i.kind == "trait").map(|i| &i.name).collect();
+        let traits: BTreeSet<String> = self.traits().into_iter().cloned().collect();
         for (i, f) in self.functions.iter_mut().enumerate() {
             let open = !traits.contains(&f.of_trait) && (found.contains(&i) || (f.method && f.open));
             f.public = f.exported || (libraries.contains(&f.krate) && open);
         }
+    }
+
+    /// The names of this repository's traits.
+    fn traits(&self) -> BTreeSet<&String> {
+        self.items.iter().filter(|i| i.kind == "trait").map(|i| &i.name).collect()
     }
 
     /// What a path means in a module.
@@ -92,21 +97,29 @@ impl Code {
         found
     }
 
-    /// The functions that a body names: `path(`, `path::name`, and methods by their name.
+    /// The functions that a body names: `path(`, `path::name`, `path::<T>`, and methods by their name.
     fn named_in(&self, f: &Function) -> Vec<usize> {
         let mut found = Vec::new();
         let mut at = 0;
         while at < f.tokens.len() {
             let start = at;
             let mut path = vec![f.tokens[at].clone()];
+            let mut typed = false;
             while f.tokens.get(at + 1).is_some_and(|t| t == "::") && at + 2 < f.tokens.len() {
-                path.push(f.tokens[at + 2].clone());
                 at += 2;
+                if f.tokens[at] == "<" {
+                    // types that are given to what the path names
+                    at = closing(&f.tokens, at);
+                    typed = true;
+                } else {
+                    path.push(f.tokens[at].clone());
+                }
             }
             at += 1;
             let called = f.tokens.get(at).is_some_and(|t| t == "(");
             let part = start > 0 && f.tokens[start - 1] == ".";
-            let things = if part || !(called || path.len() > 1) { Vec::new() } else { self.resolve(&f.krate, &f.module, &path, 0) };
+            let named = !part && (called || typed || path.len() > 1);
+            let things = if named { self.resolve(&f.krate, &f.module, &path, 0) } else { Vec::new() };
             found.extend(things.iter().filter_map(|t| if let Thing::Function(i) = t { Some(*i) } else { None }));
             if things.is_empty() && called {
                 let method = |i: &usize| self.functions[*i].method && path.last() == Some(&self.functions[*i].name);
@@ -116,16 +129,42 @@ impl Code {
         found
     }
 
+    /// What a function promises: of a method of a trait of this repository, what that trait says of it.
+    pub fn promised<'a>(&'a self, f: &'a Function) -> &'a [String] {
+        let says = |d: &&Function| d.of_trait == f.of_trait && d.name == f.name;
+        self.declared.iter().find(says).map_or(&f.ensures[..], |d| &d.ensures[..])
+    }
+
     /// The public functions that no program calls, directly or through others.
     pub fn unrun(&self, programs: &[String]) -> Vec<&Function> {
         let main = |f: &Function| programs.contains(&f.krate) && f.module.is_empty() && f.name == "main";
         let mut waiting: Vec<usize> = (0..self.functions.len()).filter(|&i| main(&self.functions[i])).collect();
-        let mut run = BTreeSet::new();
+        let (mut run, mut named, mut later) = (BTreeSet::new(), BTreeSet::new(), BTreeSet::new());
+        let traits = self.traits();
         while let Some(i) = waiting.pop() {
-            if run.insert(i) {
-                waiting.extend(self.named_in(&self.functions[i]));
+            let f = &self.functions[i];
+            // of a type that nothing names so far, no method of its traits runs
+            if traits.contains(&f.of_trait) && !named.contains(&f.owner) {
+                later.insert(i);
+            } else if run.insert(i) {
+                named.extend(&f.tokens);
+                waiting.extend(self.named_in(f));
+                waiting.append(&mut later.iter().copied().collect());
+                later.clear();
             }
         }
         self.functions.iter().enumerate().filter(|(i, f)| f.public && !run.contains(i)).map(|(_, f)| f).collect()
     }
+}
+
+/// The place of the `>` that closes the `<` here.
+fn closing(tokens: &[String], from: usize) -> usize {
+    let mut depth = 0;
+    for (at, token) in tokens.iter().enumerate().skip(from) {
+        depth += i32::from(token == "<") - i32::from(token == ">");
+        if depth == 0 {
+            return at;
+        }
+    }
+    tokens.len() - 1
 }

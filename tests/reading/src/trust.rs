@@ -238,7 +238,7 @@ impl Trust<'_> {
     }
 
     fn facts(&self) -> String {
-        let functions = |public: bool, fits: fn(&Function) -> bool| -> Vec<String> {
+        let functions = |public: bool, fits: &dyn Fn(&Function) -> bool| -> Vec<String> {
             let found = self.code.functions.iter().filter(|f| f.public == public && fits(f));
             found.map(|f| if public { f.id() } else { f.path() }).collect()
         };
@@ -249,19 +249,20 @@ impl Trust<'_> {
             if list.is_empty() { "0".to_string() } else { format!("{}: {}", list.len(), names.join(", ")) }
         };
         let unrun = self.code.unrun(&self.programs_of()).iter().map(|f| f.id()).collect();
-        let condition = |f: &Function| f.ensures.iter().any(|e| e.contains('→'));
+        let condition = |f: &Function| self.code.promised(f).iter().any(|e| e.contains('→'));
+        let silent = |f: &Function| self.code.promised(f).is_empty();
         let traces = self.tree.text("tests/run");
         let traces = traces.lines().find_map(|l| l.strip_prefix("traces=")).unwrap_or("0").to_string();
         let cases = self.tree.under("tests/cases", ".trace").len().to_string();
         let rows = [
             ("public functions", self.code.public().count().to_string()),
-            ("public functions with a `requires`", named(functions(true, |f| !f.requires.is_empty()))),
-            ("public functions whose `ensures` has a condition", named(functions(true, condition))),
-            ("public functions with no `ensures`", named(functions(true, |f| f.ensures.is_empty()))),
+            ("public functions with a `requires`", named(functions(true, &|f| !f.requires.is_empty()))),
+            ("public functions whose `ensures` has a condition", named(functions(true, &condition))),
+            ("public functions with no `ensures`", named(functions(true, &silent))),
             ("public functions that no program in Rattle runs", named(unrun)),
-            ("inner functions with a `requires`", named(functions(false, |f| !f.requires.is_empty()))),
-            ("inner functions whose `ensures` has a condition", named(functions(false, condition))),
-            ("inner functions with no `ensures`", named(functions(false, |f| f.ensures.is_empty()))),
+            ("inner functions with a `requires`", named(functions(false, &|f| !f.requires.is_empty()))),
+            ("inner functions whose `ensures` has a condition", named(functions(false, &condition))),
+            ("inner functions with no `ensures`", named(functions(false, &silent))),
             ("uses of the logic's axioms `lem` and `ac`", named(self.axioms())),
             ("holes in proofs", named(self.holes())),
             ("blocks of foreign functions", named(self.foreign())),

@@ -106,6 +106,46 @@ fn what_a_program_runs_is_followed_through_every_use() {
     assert_eq!(unrun("use b::g as k;\nfn main() {\n    k();\n}\n"), ["h", "m"]);
     assert_eq!(unrun("mod t {\n    pub fn go() {\n        b::g();\n    }\n}\nfn main() {\n    t::go();\n}\n"), ["h", "m"]);
     assert_eq!(unrun("fn main() {\n    x.m(1);\n    // a::h();\n}\n"), ["f", "h"]);
+    // types given to a call are no part of its path
+    assert_eq!(unrun("fn main() {\n    b::g::<T>(1);\n}\n"), ["h", "m"]);
+    assert_eq!(unrun("use b::g as k;\nfn main() {\n    k::<A<u8, [u64; 2]>, B>(1);\n}\n"), ["h", "m"]);
+    assert_eq!(unrun("use b::g as k;\nfn main() {\n    x.map(k::<T>);\n}\n"), ["h", "m"]);
+    assert_eq!(unrun("fn main() {\n    S::<T>::m(x);\n    let h = 1;\n}\n"), ["f", "h"]);
+    assert_eq!(unrun("fn main() {\n    x.m::<T>(1);\n    y.h::<T>(1);\n}\n"), ["f", "h"]);
+}
+
+#[test]
+fn a_traits_method_runs_for_a_type_that_something_names() {
+    let one = |of: &str, does: &str| {
+        format!("pub struct {of};\nimpl T for {of} {{\n    fn t() {{\n        {does}();\n    }}\n}}\npub fn {does}() {{\n}}\n")
+    };
+    let lib = format!("pub trait T {{\n    fn t();\n}}\n{}{}pub fn all<X: T>() {{\n    X::t();\n}}\n", one("A", "f"), one("B", "g"));
+    let unrun = |main: &str| {
+        let reading = read(&[("crates.txt", "a:\np: a\n"), ("crates/a/src/lib.rt", &lib), ("crates/p/src/main.rt", main)]);
+        reading.code.unrun(&["p".to_string()]).iter().map(|f| f.name.clone()).collect::<Vec<_>>()
+    };
+    assert_eq!(unrun("fn main() {\n    a::all::<a::A>();\n}\n"), ["g"]);
+    assert_eq!(unrun("fn main() {\n    a::all::<B>();\n}\n"), ["f"]);
+    // named later, by what is called then
+    assert_eq!(
+        unrun("fn main() {\n    both();\n}\nfn both() {\n    a::all();\n    of();\n}\nfn of() {\n    A;\n    B;\n}\n"),
+        Vec::<String>::new()
+    );
+    assert_eq!(unrun("fn main() {\n    a::all();\n}\n"), ["f", "g"]);
+}
+
+#[test]
+fn a_method_promises_what_its_trait_says() {
+    let trait_with = |clause: &str| {
+        let lib = format!(
+            "pub trait T {{\n    fn f(self) -> u64{clause};\n}}\n\npub struct S;\n\nimpl T for S {{\n    fn f(self) -> u64 {{\n        1\n    }}\n}}\n\n\
+             mod m {{\n    pub struct S;\n    impl U for S {{\n        fn f(self) {{\n        }}\n    }}\n    fn f() {{\n    }}\n}}\n"
+        );
+        let reading = crate_a(&lib, &[]);
+        reading.code.functions.iter().map(|f| reading.code.promised(f).len()).collect::<Vec<_>>()
+    };
+    assert_eq!(trait_with("\n        ensures { result ≡ 1 }"), [1, 0, 0]);
+    assert_eq!(trait_with(""), [0, 0, 0]);
 }
 
 #[test]

@@ -1,4 +1,5 @@
 use crate::{crate_a, fails, failures};
+use reading::Reading;
 use reading::logic::uniqueness;
 
 const THEME: &str = "promises and exceptions";
@@ -105,23 +106,63 @@ fn a_lambda_stands_on_the_right_and_binds_no_result() {
     }
 }
 
+/// A trait whose function has these clauses, a page of exceptions with this row, and a file of proofs.
+fn declared(clauses: &str, row: &str, proof: &str) -> Reading {
+    let lib = format!(
+        "ghost use Rattle.a.specs.S.{{Fits}};\n\npub trait T {{\n    ghost m: {{ Self → C }};\n    fn f(self, x: u64) -> u64\n{clauses};\n}}\n\npub struct S;\n\n\
+         impl T for S {{\n    ghost m: {{ λ s. c }};\n    fn f(self, x: u64) -> u64 {{\n        1\n    }}\n}}\n"
+    );
+    let page = format!("## Not wholly stated\n\n| Function | What | Grounds |\n|---|---|---|\n{row}\n");
+    crate_a(&lib, &[("docs/EXCEPTIONS.md", &page), ("crates/a/proofs/U.antt", proof)])
+}
+
+const EXCUSED: &str = "| `a::T::f` | where it lies | whoever calls it reads what it holds |";
+
 #[test]
 fn what_a_trait_declares_is_judged_where_it_is_declared() {
-    let of = |clauses: &str| {
-        let lib = format!(
-            "ghost use Rattle.a.specs.S.{{Fits}};\n\npub trait T {{\n    ghost m: {{ Self → C }};\n    fn f(self, x: u64) -> u64\n{clauses};\n}}\n\npub struct S;\n\n\
-             impl T for S {{\n    ghost m: {{ λ s. c }};\n    fn f(self, x: u64) -> u64 {{\n        1\n    }}\n}}\n"
-        );
-        failures(&crate_a(&lib, &[]), THEME)
-    };
-    assert_eq!(of("        ensures { result ≡ g (m self) x }"), Vec::<String>::new());
-    assert_eq!(of("        ensures { result.now ≡ g (m self) x }"), Vec::<String>::new());
+    let of = |clauses: &str| failures(&declared(clauses, "", ""), THEME);
+    let excused = |clauses: &str| failures(&declared(clauses, EXCUSED, ""), THEME);
+    let none = Vec::<String>::new();
+    assert_eq!(of("        ensures { result ≡ g (m self) x }"), none);
     assert!(of("        ensures { result ≡ result }")[0].contains("a::T::f: its right side mentions the result"));
-    assert_eq!(of("        ensures { Fits x result }"), Vec::<String>::new());
     assert!(of("        ensures { P x result }")[0].contains("no theorem says"), "P is no definition");
     assert!(of("        ensures { Fits x x }")[0].contains("no theorem says"), "it says nothing of the result");
     assert!(of("        requires { x < 2 }\n        ensures { result ≡ g x }")[0].contains("a trait's function with a requires"));
     assert!(of("")[0].contains("a::T::f: no equation says its result"));
+    // what leaves something open stands among the exceptions, as a public function does
+    for (open, why) in [("result.now ≡ g (m self) x", "and not where that lies"), ("Fits x result", "no theorem says")] {
+        let clause = format!("        ensures {{ {open} }}");
+        let failed = of(&clause);
+        assert!(failed[0].contains("a::T::f: ") && failed[0].contains(why), "{failed:?}");
+        assert!(failed[0].contains("docs/EXCEPTIONS.md does not name it"), "{failed:?}");
+        assert_eq!(excused(&clause), none);
+    }
+    assert!(excused("        ensures { result ≡ g (m self) x }")[0].contains("a::T::f needs no grounds"));
+}
+
+#[test]
+fn an_exception_lets_a_trait_leave_no_more_open() {
+    for clauses in [
+        "",
+        "        ensures { result ≡ result }",
+        "        ensures { P x result }",
+        "        ensures { Fits x x }",
+        "        ensures { result ≤ x }",
+        "        ensures { (0 < x → result ≡ g x) }",
+        "        requires { x < 2 }\n        ensures { Fits x result }",
+    ] {
+        assert!(!failures(&declared(clauses, EXCUSED, ""), THEME).is_empty(), "{clauses}");
+    }
+    let other = EXCUSED.replace("T::f", "f");
+    assert!(!failures(&declared("        ensures { Fits x result }", &other, ""), THEME).is_empty(), "it goes by the trait's name");
+}
+
+#[test]
+fn a_predicate_of_a_trait_may_have_its_theorem() {
+    let reading = declared("        ensures { Fits N x result }", "", &format!("{USE}{UNIQUE}"));
+    assert_eq!(failures(&reading, THEME), Vec::<String>::new());
+    let table = reading::promises::unique_table(&reading.tree, &reading.code, &reading.logic);
+    assert!(table.contains("| `a::T::f` | `Fits` | `fits_unique` |"), "{table}");
 }
 
 #[test]
