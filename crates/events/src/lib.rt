@@ -6,7 +6,8 @@ mod lines;
 mod whole;
 
 pub use lines::event_at;
-pub use whole::{LONGEST, first_event, read_wait};
+pub use text::LONGEST;
+pub use whole::{first_event, read_wait};
 
 // The one first line that is known, `wait=proc-1`.
 #[derive(Clone, Copy)]

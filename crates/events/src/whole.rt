@@ -6,9 +6,6 @@ ghost use Rattle.events.specs.Laws.{wait_grammar_lem};
 use crate::{Event, Header, Kind};
 use items::Format;
 
-// The most bytes that a wait may have.
-pub const LONGEST: usize = items::LONGEST;
-
 struct Wait;
 
 #[tactic(auto, unfolding(crate::specs::Event::event_at))]

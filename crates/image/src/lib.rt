@@ -7,6 +7,7 @@ mod words;
 ghost use Rattle.std.specs.Prelude.{◌≡◌};
 ghost use Rattle.image.specs.Images.{image_read};
 
+pub use beside::table_beside;
 use kinds::{PINS, Refusal, SLOTS};
 use model::{Counters, Table};
 pub use search::lists;

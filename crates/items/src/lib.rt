@@ -5,4 +5,5 @@ mod item;
 mod whole;
 
 pub use item::{Items, item_after, item_at, kind_at};
-pub use whole::{Format, LONGEST, read_text};
+pub use text::LONGEST;
+pub use whole::{Format, read_text};

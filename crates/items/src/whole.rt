@@ -4,8 +4,7 @@ ghost use Rattle.grammar.specs.Grammar.{Grammar};
 ghost use Rattle.grammar.proofs.Laws.{GrammarLaws};
 ghost use Rattle.items.specs.Said.{head_said, item_said, text_said};
 
-// The most bytes that a text may have.
-pub const LONGEST: usize = 65536;
+use text::LONGEST;
 
 // A kind of text: how its first line and its items are read.
 pub trait Format {

@@ -1,5 +1,5 @@
 -- The text of a table is read as that table, and a text that is read as a table is its text.
-use Prim.Native.Nat.{ℕ, zero, suc, ◌+◌}
+use Prim.Native.Nat.{ℕ, zero, suc, ◌+◌, ◌≤◌}
 use native.Mathlib.Omega.{arith}
 use mathlib.Core.Path.{◌≡◌, refl, sym, ap, subst, ◌∙◌}
 use mathlib.Core.Bool.{Bool, true, false, cond}
@@ -8,16 +8,18 @@ use lib.Dec.{eqb}
 use lib.ListN.{length, take, drop, drop_of_length-le, length-append}
 use lib.Seq.{drop-append_seam}
 use borrow.Author.Tests.{eq-eqb, eqb-true}
+use Rattle.std.specs.Prelude.{Ok, Err}
 use Rattle.kinds.specs.Kinds.{pin_count}
 use Rattle.model.specs.declared.Counters.{Counters}
 use Rattle.model.specs.declared.Table.{Table}
 use Rattle.model.specs.Tables.{lent}
+use Rattle.beside.specs.Beside.{table_beside}
 use Rattle.text.specs.Bytes.{starts}
 use Rattle.text.specs.Line.{Lines, Read, Breaks, Within, none, also, line_texts, joined, lines_at}
 use Rattle.text.proofs.Bytes.{starts_of, starts_text}
-use Rattle.text.proofs.Lines.{lines_of, lines_text}
+use Rattle.text.proofs.Lines.{lines_of, lines_text, lines_open}
 use Rattle.table_text.specs.TableText.{header, first_slot, pin_rules, table_rules, pin_numbers, numbers_of, lines_under, table_text, Expressible}
-use Rattle.table_text.specs.TableText.{counters_from, with_slot, table_from, broken_at, whole, past_last, lines_read, table_of}
+use Rattle.table_text.specs.TableText.{TableRead, counters_from, with_slot, table_from, broken_at, whole, broken_line, past_last, lines_read, table_of}
 
 -- pins and counters and their numbers are one for one
 pin-places : (pins : List ℕ) (c : Counters) → take (length pins) (pin_numbers pins c) ≡ pins
@@ -124,9 +126,9 @@ module _ (n : ℕ) (s : List ℕ) where
         expressible = record { txids = places.0; xmins = places.1; pins = pins; numbers = rw same lines.within };
       }
 
-  pub text_of_table : (t : Table) → table_of n s ≡ whole t → Accepted n s t
+  pub text_of_whole : (t : Table) → table_of n s ≡ whole t → Accepted n s t
   unfolding table_of
-  text_of_table t = head (starts header s) refl
+  text_of_whole t = head (starts header s) refl
     where
       ended : (ns : List ℕ) (e : ℕ) → starts header s ≡ true → lines_at s first_slot 2 (table_rules n pin_count) ≡ Read ns e
           → (b : Bool) → eqb e (length s) ≡ b → cond b (whole (table_from n ns)) (broken_at n (past_last n)) ≡ whole t → Accepted n s t
@@ -144,3 +146,34 @@ module _ (n : ℕ) (s : List ℕ) where
           → cond b (lines_read n s (lines_at s first_slot 2 (table_rules n pin_count))) (broken_at n 1) ≡ whole t → Accepted n s t
       head false h z = absurd cc
       head true h z = under h (lines_at s first_slot 2 (table_rules n pin_count)) refl z
+
+  -- what is refused breaks a rule at a line from 1, never at 0
+  pub broken_from_1 : (k : ℕ) → table_of n s ≡ broken_at n k → 1 ≤ k
+  unfolding table_of
+  broken_from_1 k = head (starts header s)
+    where
+      ended : (ns : List ℕ) (b : Bool) → cond b (whole (table_from n ns)) (broken_at n (past_last n)) ≡ broken_at n k → 1 ≤ k
+      ended ns true z = absurd cc
+      ended ns false z =
+          let same : past_last n ≡ k = cc in
+          omega (arith, same)
+
+      under : (x : Lines) → lines_at s first_slot 2 (table_rules n pin_count) ≡ x → lines_read n s x ≡ broken_at n k → 1 ≤ k
+      under (Read ns e) q z = ended ns (eqb e (length s)) z
+      under (Breaks j) q z =
+          let same : j ≡ k = cc in
+          omega (arith, same, (lines_open (table_rules n pin_count) s first_slot 2 j q).which)
+
+      head : (b : Bool) → cond b (lines_read n s (lines_at s first_slot 2 (table_rules n pin_count))) (broken_at n 1) ≡ broken_at n k → 1 ≤ k
+      head true z = under (lines_at s first_slot 2 (table_rules n pin_count)) refl z
+      head false z =
+          let same : 1 ≡ k = cc in
+          omega (arith, same)
+
+  -- so a text that breaks no rule is the text of the table
+  pub text_of_table : broken_line (table_of n s) ≡ 0 → Accepted n s (table_beside n (table_of n s))
+  text_of_table = go (table_of n s) refl
+    where
+      go : (r : TableRead) → table_of n s ≡ r → broken_line r ≡ 0 → Accepted n s (table_beside n r)
+      go (Ok t) q z = text_of_whole t q
+      go (Err k) q z = absurd (omega (arith, z, broken_from_1 k q))

@@ -81,6 +81,11 @@ broken_at n line = Err line
 abbrev pub whole : Table → TableRead
 whole t = Ok t
 
+-- the line that it breaks a rule at, 0 for a table
+abbrev pub broken_line : TableRead → ℕ
+broken_line (Ok t) = 0
+broken_line (Err line) = line
+
 -- nothing stands past the last line; what does is on the line after it
 abbrev pub past_last : ℕ → ℕ
 past_last n = 2 * n + pin_count + 5

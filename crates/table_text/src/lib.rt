@@ -3,4 +3,5 @@
 
 mod read;
 
+pub use beside::table_beside;
 pub use read::read_table;

@@ -6,6 +6,10 @@ mod read;
 
 pub use read::{bytes_at, field_at, named_at, past_bytes};
 
+// The most bytes that a text of items may have, a trace or a wait. No other line of a crate says it: a reading's test and a program's
+// buffer are of one number.
+pub const LONGEST: usize = 65536;
+
 // Which of an item's five numbers may be other than 0. `clock` and `sample` are read together.
 #[derive(Clone, Copy, Debug, PartialEq, Eq)]
 pub struct Reads {

@@ -6,8 +6,9 @@ mod versions;
 mod whole;
 
 pub use ops::reads_of;
+pub use text::LONGEST;
 pub use versions::allows;
-pub use whole::{LONGEST, first_record};
+pub use whole::first_record;
 
 // The headers that are known: `trace=proc-1`; `trace=proc-2`, whose records print their holder; and `trace=proc-3`, which is
 // printed like that and has the two ops of pins.

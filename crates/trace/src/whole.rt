@@ -1,9 +1,6 @@
-// A whole trace: its length, and where its records begin.
+// A whole trace: where its records begin.
 ghost use Rattle.std.specs.Prelude.{◌≡◌};
 ghost use Rattle.trace.specs.Trace.{first_record};
-
-// The most bytes that a trace may have.
-pub const LONGEST: usize = 65536;
 
 // The place of the first record, past the header: all headers have one length.
 pub fn first_record() -> usize
