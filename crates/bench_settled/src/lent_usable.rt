@@ -1,6 +1,7 @@
 // The usable test, asked in the same way.
 use crate::each_asked;
 use kinds::Txid;
+use usable::Usable;
 
 // For the reader `own`.
 #[unsafe(no_mangle)]
@@ -13,6 +14,9 @@ pub extern "C" fn bench_usable_lent(
     rounds: u64,
 ) -> u64 {
     each_asked(asked, rounds, |id| {
-        usable::is_usable_among(ids, count, xmax, Txid(own), id)
+        match usable::is_usable_among(ids, count, xmax, Txid(own), id)? {
+            Usable::Yes => Ok(true),
+            Usable::No => Ok(false),
+        }
     })
 }

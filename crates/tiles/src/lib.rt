@@ -6,6 +6,7 @@ ghost use Rattle.tiles.specs.Tiles.{choice, fitted, length_test, NumberFits, Par
 
 use kinds::{Refusal, SLOTS, Txid};
 use settled::Snapshot;
+use usable::Usable;
 
 // A coding of a tile.
 #[derive(Clone, Copy)]
@@ -42,10 +43,10 @@ fn choose(
 ) -> Result<Coding, Refusal>
     ensures { result ≡ choice SLOTS shown own maker older older_used newer newer_used }
 {
-    if usable::is_usable(shown, own, maker)? {
-        return fitting(Ok(Coding::Newer), older, older_used, newer, newer_used);
+    match usable::is_usable(shown, own, maker)? {
+        Usable::Yes => fitting(Ok(Coding::Newer), older, older_used, newer, newer_used),
+        Usable::No => fitting(Ok(Coding::Older), older, older_used, newer, newer_used),
     }
-    fitting(Ok(Coding::Older), older, older_used, newer, newer_used)
 }
 
 // The used part of the newer coding if the reader, whose id is `own` or 0 for none, may use it, else of the older; or why

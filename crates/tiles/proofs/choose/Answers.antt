@@ -9,12 +9,12 @@ returns-in_err-is_usable c =
     let p = err_from_is_err_and c.from_residual.result c.from_residual.ensures.1 in
     rw (p.1 ∙ ap Err p.2) (choice-refused _ _ _ _ _ _ _ _ _ c.in_err-is_usable.ensures)
 
-pub returns-then-branch : goal.returns-then-branch
-returns-then-branch c =
-    let said = rw c.if-branch.true at c.in_ok-is_usable.ensures in
+pub returns-in-Yes : goal.returns-in-Yes
+returns-in-Yes c =
+    let said = rw c.in-Yes.is at c.in_ok-is_usable.ensures in
     choice_yes _ _ _ _ _ _ _ _ _ said c.fitting.ensures
 
-pub returns : goal.returns
-returns c =
-    let said = rw c.if-branch.false at c.in_ok-is_usable.ensures in
-    search (choice_no, said, c.fitting-2.ensures)
+pub returns-in-No : goal.returns-in-No
+returns-in-No c =
+    let said = rw c.in-No.is at c.in_ok-is_usable.ensures in
+    search (choice_no, said, c.fitting-in-No.ensures)
