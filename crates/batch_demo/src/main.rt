@@ -53,7 +53,14 @@ impl fmt::Display for Marked<'_> {
     }
 }
 
-fn decide(rt: &impl Print, input: &[u8]) -> std::io::Result<()> {
+// What a failed print says is dropped: each later one is tried.
+fn say(rt: &impl Print, number: u64, place: usize) {
+    let _ = println!(rt; "answer={number}");
+    let _ = println!(rt; "place={place}");
+    let _ = print!(rt; "run=");
+}
+
+fn decide(rt: &impl Print, input: &[u8]) {
     let mut numbers = Numbers::new(input);
     let line = numbers.next_number();
     let room = numbers.next_number() as usize;
@@ -66,20 +73,17 @@ fn decide(rt: &impl Print, input: &[u8]) -> std::io::Result<()> {
     spell(&mut run);
     if many <= versions.len() && room <= run.len() {
         match batch::decide_batch(line, &versions[..many], &mut run[..room]) {
-            Ok(()) => print!(rt; "answer=0\nplace=0\nrun=")?,
-            Err(BadVersion { refusal, place }) => {
-                let number = kinds::number_of(refusal);
-                print!(rt; "answer={number}\nplace={place}\nrun=")?;
-            }
+            Ok(()) => say(rt, 0, 0),
+            Err(BadVersion { refusal, place }) => say(rt, kinds::number_of(refusal), place),
         }
     }
     let shown = if room <= run.len() { room } else { 0 };
-    println!(rt; "{}", Marked(&run[..shown]))
+    let _ = print!(rt; "{}", Marked(&run[..shown]));
+    let _ = println!(rt);
 }
 
 fn main(rt: HostRuntime) {
     let mut input = [0; INPUT];
     let size = io::read_full(STDIN_FILENO, &mut input);
-    // Where a print fails, nobody is left to tell.
-    let _ = decide(&rt, &input[..size]);
+    decide(&rt, &input[..size]);
 }

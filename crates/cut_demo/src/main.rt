@@ -2,9 +2,11 @@
 #![tactic(auto)]
 
 use kinds::Refusal;
-use std::{fmt, io};
+use std::fmt;
 
 const STDIN_FILENO: i32 = 0;
+
+const STDOUT_FILENO: i32 = 1;
 
 // One byte more than a trace may have, to know that there is one; and the most records that one may have.
 const ROOM: usize = trace::LONGEST + 1;
@@ -44,13 +46,17 @@ fn cut<'a>(input: &[u8], out: &'a mut [u8; ROOM]) -> Result<&'a [u8], NoCut> {
     Ok(&out[..length.min(ROOM)])
 }
 
-// Writes the text that was cut, or says why none was.
-fn send(rt: &(impl Print + Eprint), input: &[u8]) -> io::Result<()> {
+// Writes the text that was cut, or says why none was. By `io::write_all`, and not by `rt`: a write that a signal interrupts counts
+// as one that failed, and is not tried again.
+fn send(rt: &impl Eprint, input: &[u8]) -> std::io::Result<()> {
     let mut out = [0; ROOM];
     match cut(input, &mut out) {
-        Ok(text) => rt
-            .write_all(text)
-            .or_else(|_| eprintln!(rt; "cut: the output could not be written")),
+        Ok(text) => {
+            if io::write_all(STDOUT_FILENO, text) {
+                return Ok(());
+            }
+            eprintln!(rt; "cut: the output could not be written")
+        }
         Err(why) => eprintln!(rt; "cut: {why}"),
     }
 }

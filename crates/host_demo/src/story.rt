@@ -4,7 +4,6 @@ use crate::calls::{begin, finish, holder, value};
 use crate::say::{Left, Said};
 use kinds::{SlotNo, Stamp, Txid};
 use settled::Snapshot;
-use std::io;
 use table::{Answer, Table};
 
 // The maker of the old tiles.
@@ -27,10 +26,10 @@ fn read(shown: Snapshot, new: Txid) -> u64 {
 
 // A page asks for its top tile before the re-encode is done, and for its bottom tile after: both are the old ones. The old
 // tiles may go once the id that replaced them is below the line. Who holds it back is the re-encode, then the page, then nobody.
-fn page(rt: &impl Print, t: Table, encode: SlotNo, new: Txid) -> io::Result<Table> {
+fn page(rt: &impl Print, t: Table, encode: SlotNo, new: Txid) -> Table {
     let joined = table::begin_transaction(t, Stamp(4));
     let Ok(Answer::Begun { slot, id }) = joined.answer else {
-        return Ok(joined.table);
+        return joined.table;
     };
     let seen = table::create_transaction_snapshot(joined.table, slot, id, 5, 5);
     let top = read(seen.snapshot, new);
@@ -40,49 +39,49 @@ fn page(rt: &impl Print, t: Table, encode: SlotNo, new: Txid) -> io::Result<Tabl
     let bottom = read(seen.snapshot, new);
     let left = table::end_transaction(after.table, slot, id);
     let last = table::vacuum(left.table, 6, 6);
-    print!(rt; "page: top={}", Said(top))?;
-    print!(rt;
+    let _ = print!(rt; "page: top={}", Said(top));
+    let _ = print!(rt;
         " line={} holder={}",
         Said(value(&before)),
         Said(holder(&before))
-    )?;
-    print!(rt;
+    );
+    let _ = print!(rt;
         " line={} holder={}",
         Said(value(&after)),
         Said(holder(&after))
-    )?;
-    print!(rt; " bottom={}", Said(bottom))?;
-    println!(rt;
+    );
+    let _ = print!(rt; " bottom={}", Said(bottom));
+    let _ = println!(rt;
         " line={} holder={}",
         Said(value(&last)),
         Said(holder(&last))
-    )?;
-    Ok(last.table)
+    );
+    last.table
 }
 
 // A page that comes after the re-encode reads both new tiles.
-fn next_page(rt: &impl Print, t: Table, new: Txid) -> io::Result<()> {
+fn next_page(rt: &impl Print, t: Table, new: Txid) {
     let begun = table::begin_transaction(t, Stamp(6));
     let Ok(Answer::Begun { slot, id }) = begun.answer else {
-        return Ok(());
+        return;
     };
     let seen = table::create_transaction_snapshot(begun.table, slot, id, 7, 7);
     let both = read(seen.snapshot, new);
-    println!(rt;
+    let _ = println!(rt;
         "next page: top and bottom={}{}",
         Said(both),
         Left(&seen.table)
-    )
+    );
 }
 
-pub fn one_photo(rt: &impl Print) -> io::Result<()> {
-    println!(rt; "part=story")?;
-    let old = begin(rt, table::fresh(), OLD)?;
-    let made = finish(rt, old, 0, OLD, 2)?;
+pub fn one_photo(rt: &impl Print) {
+    let _ = println!(rt; "part=story");
+    let old = begin(rt, table::fresh(), OLD);
+    let made = finish(rt, old, 0, OLD, 2);
     let begun = table::begin_transaction(made, Stamp(3));
     let Ok(Answer::Begun { slot, id }) = begun.answer else {
-        return Ok(());
+        return;
     };
-    let left = page(rt, begun.table, slot, id)?;
-    next_page(rt, left, id)
+    let left = page(rt, begun.table, slot, id);
+    next_page(rt, left, id);
 }

@@ -4,20 +4,20 @@
 
 use kinds::{PINS, PinNo, Refusal, Txid};
 use settled::Snapshot;
-use std::io;
 use table::{Answer, SnapshotOutcome, Table};
 
 // The answer's number, and the pin that it carries. A call by value gives back no decision, so `plain_numbers` isn't asked here.
-fn answered(rt: &impl Print, label: &str, answer: Result<Answer, Refusal>) -> io::Result<()> {
+// What a failed print says is dropped: each later one is tried.
+fn answered(rt: &impl Print, label: &str, answer: Result<Answer, Refusal>) {
     let told = answer_numbers::numbers_of(answer, 0, 0, 0, 0).told;
-    print!(rt; "{label}: answer={} pin={}", told.number, told.slot)
+    let _ = print!(rt; "{label}: answer={} pin={}", told.number, told.slot);
 }
 
-fn counters(rt: &impl Print, t: &Table) -> io::Result<()> {
-    println!(rt;
+fn counters(rt: &impl Print, t: &Table) {
+    let _ = println!(rt;
         " | sample={} line={}",
         t.counters.sampled_clock, t.counters.vacuum_line
-    )
+    );
 }
 
 // Whether a page may use what id 60 made.
@@ -29,32 +29,32 @@ fn sixty(s: Snapshot) -> &'static str {
     }
 }
 
-fn shown(rt: &impl Print, label: &str, taken: SnapshotOutcome) -> io::Result<Table> {
+fn shown(rt: &impl Print, label: &str, taken: SnapshotOutcome) -> Table {
     let s = taken.snapshot;
-    answered(rt, label, taken.answer)?;
-    print!(rt; " xmin={} xmax={} {}", s.xmin, s.xmax, sixty(s))?;
-    counters(rt, &taken.table)?;
-    Ok(taken.table)
+    answered(rt, label, taken.answer);
+    let _ = print!(rt; " xmin={} xmax={} {}", s.xmin, s.xmax, sixty(s));
+    counters(rt, &taken.table);
+    taken.table
 }
 
-fn pin(rt: &impl Print, label: &str, t: Table, clock: u64, sample: u64) -> io::Result<Table> {
+fn pin(rt: &impl Print, label: &str, t: Table, clock: u64, sample: u64) -> Table {
     shown(rt, label, table::create_pinned_snapshot(t, clock, sample))
 }
 
-fn unpin(rt: &impl Print, label: &str, t: Table, k: u16) -> io::Result<Table> {
+fn unpin(rt: &impl Print, label: &str, t: Table, k: u16) -> Table {
     let called = table::release_pin(t, PinNo(k));
-    answered(rt, label, called.answer)?;
-    counters(rt, &called.table)?;
-    Ok(called.table)
+    answered(rt, label, called.answer);
+    counters(rt, &called.table);
+    called.table
 }
 
-fn vacuum(rt: &impl Print, label: &str, t: Table, clock: u64, sample: u64) -> io::Result<Table> {
+fn vacuum(rt: &impl Print, label: &str, t: Table, clock: u64, sample: u64) -> Table {
     let called = table::vacuum(t, clock, sample);
     let holder = answer_numbers::numbers_of(called.answer, 0, 0, 0, 0).holder;
-    answered(rt, label, called.answer)?;
-    print!(rt; " holder={holder}")?;
-    counters(rt, &called.table)?;
-    Ok(called.table)
+    answered(rt, label, called.answer);
+    let _ = print!(rt; " holder={holder}");
+    counters(rt, &called.table);
+    called.table
 }
 
 // Every pin is taken.
@@ -63,26 +63,20 @@ fn all_pinned(mut t: Table) -> Table {
     t
 }
 
-fn page(rt: &impl Print) -> io::Result<()> {
-    let t = vacuum(rt, "vacuum 100/100", table::fresh(), 100, 100)?;
-    let t = shown(rt, "plain 100/50", table::create_snapshot(t, 100, 50))?;
-    let t = pin(rt, "pin 100/50", t, 100, 50)?;
-    let t = vacuum(rt, "vacuum 200/200", t, 200, 200)?;
-    let t = unpin(rt, "unpin 0", t, 0)?;
-    let t = vacuum(rt, "vacuum 200/200", t, 200, 200)?;
-    let t = unpin(rt, "unpin 0", t, 0)?;
-    let t = unpin(rt, "unpin 64", t, 64)?;
-    let t = pin(rt, "pin 199/0", t, 199, 0)?;
-    let t = pin(rt, "pin 200/0", t, 200, 0)?;
-    let full = all_pinned(t);
-    let full = pin(rt, "all taken, pin 200/0", full, 200, 0)?;
-    let full = pin(rt, "all taken, pin 200/200", full, 200, 200)?;
-    let full = unpin(rt, "unpin 7", full, 7)?;
-    pin(rt, "pin 200/200", full, 200, 200)?;
-    Ok(())
-}
-
 fn main(rt: HostRuntime) {
-    // Where a print fails, nobody is left to tell.
-    let _ = page(&rt);
+    let t = vacuum(&rt, "vacuum 100/100", table::fresh(), 100, 100);
+    let t = shown(&rt, "plain 100/50", table::create_snapshot(t, 100, 50));
+    let t = pin(&rt, "pin 100/50", t, 100, 50);
+    let t = vacuum(&rt, "vacuum 200/200", t, 200, 200);
+    let t = unpin(&rt, "unpin 0", t, 0);
+    let t = vacuum(&rt, "vacuum 200/200", t, 200, 200);
+    let t = unpin(&rt, "unpin 0", t, 0);
+    let t = unpin(&rt, "unpin 64", t, 64);
+    let t = pin(&rt, "pin 199/0", t, 199, 0);
+    let t = pin(&rt, "pin 200/0", t, 200, 0);
+    let full = all_pinned(t);
+    let full = pin(&rt, "all taken, pin 200/0", full, 200, 0);
+    let full = pin(&rt, "all taken, pin 200/200", full, 200, 200);
+    let full = unpin(&rt, "unpin 7", full, 7);
+    pin(&rt, "pin 200/200", full, 200, 200);
 }

@@ -6,7 +6,6 @@ ghost use Rattle.std.specs.Prelude.{◌≡◌};
 ghost use Rattle.reader.specs.Reader.{step_of};
 
 use reader::Reader;
-use std::fmt;
 use trace::{Op, Record};
 
 // An op's name in a trace.
@@ -25,27 +24,25 @@ fn name(op: Op) -> &'static str {
     }
 }
 
-// What stands at a place: the record and the place past it, or the line that breaks a rule.
-#[derive(Clone, Copy)]
-struct Found(Result<(Record, usize), usize>);
-
-impl fmt::Display for Found {
-    fn fmt<W: fmt::Write>(&self, f: &mut fmt::Formatter<W>) -> fmt::Result {
-        match self.0 {
-            Ok((r, past)) => {
-                writeln!(f, "op={}", name(r.op))?;
-                writeln!(f, "slot={}\nid={}\nstamp={}", r.slot, r.id, r.stamp)?;
-                writeln!(f, "clock={}\nsample={}", r.clock, r.sample)?;
-                write!(f, "place={past}")
-            }
-            Err(k) => write!(f, "broken={k}"),
-        }
-    }
+// A line each, and what a failed print says is dropped: each later line is tried.
+fn record(rt: &impl Print, r: Record) {
+    let _ = println!(rt; "op={}", name(r.op));
+    let _ = println!(rt; "slot={}", r.slot);
+    let _ = println!(rt; "id={}", r.id);
+    let _ = println!(rt; "stamp={}", r.stamp);
+    let _ = println!(rt; "clock={}", r.clock);
+    let _ = println!(rt; "sample={}", r.sample);
 }
 
-// Where a print fails, nobody is left to tell.
+// Shows what stands at a place: the record and the place past it, or the line that breaks a rule.
 fn show(rt: &impl Print, found: Result<(Record, usize), usize>) {
-    let _ = println!(rt; "{}", Found(found));
+    let _ = match found {
+        Ok((r, past)) => {
+            record(rt, r);
+            println!(rt; "place={past}")
+        }
+        Err(k) => println!(rt; "broken={k}"),
+    };
 }
 
 // Asks the reader, shows what it found, and hands it on.

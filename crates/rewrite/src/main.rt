@@ -5,22 +5,27 @@
 mod again;
 
 use kinds::Told;
-use std::io;
 
 const STDIN_FILENO: i32 = 0;
+
+const STDOUT_FILENO: i32 = 1;
 
 // One byte more than a trace may have, to know that there is one.
 const ROOM: usize = trace::LONGEST + 1;
 
-// Writes a trace again, or says why not.
-fn send(rt: &(impl Print + Eprint), s: &[u8]) -> io::Result<()> {
+// Writes a trace again, or says why not. By `io::write_all`, and not by `rt`: a write that a signal interrupts counts as one that
+// failed, and is not tried again.
+fn send(rt: &impl Eprint, s: &[u8]) -> std::io::Result<()> {
     let mut out = [0; ROOM];
     match again::rewrite(s, &mut out) {
-        Ok(n) => rt.write_all(&out[..n]).or_else(|_| {
+        Ok(n) => {
+            if io::write_all(STDOUT_FILENO, &out[..n]) {
+                return Ok(());
+            }
             eprintln!(rt;
                 "rewrite: the output could not be written; what arrived is a beginning of it"
             )
-        }),
+        }
         Err(refusal) => {
             let Told { number, at, .. } = kinds::tell(refusal);
             eprintln!(rt; "rewrite: refusal {number} at line {at}; nothing was written")

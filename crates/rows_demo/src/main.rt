@@ -25,7 +25,8 @@ fn version_of(number: u64) -> Version {
     }
 }
 
-fn write(rt: &impl Print, input: &[u8]) -> std::io::Result<()> {
+// What a failed print says is dropped: where the answer could not be printed, the buffer is still shown.
+fn write(rt: &impl Print, input: &[u8]) {
     let mut numbers = Numbers::new(input);
     let version = version_of(numbers.next_number());
     let bytes = numbers.next_number() as usize;
@@ -36,20 +37,18 @@ fn write(rt: &impl Print, input: &[u8]) -> std::io::Result<()> {
     }
     let mut buffer = [b'.'; ROOM];
     if many <= rows.len() && bytes <= buffer.len() {
-        match trace_writer::write_trace(version, &rows[..many], &mut buffer[..bytes]) {
-            Ok(length) => println!(rt; "length={length}")?,
-            Err(refusal) => println!(rt; "refused={}", kinds::number_of(refusal))?,
-        }
+        let _ = match trace_writer::write_trace(version, &rows[..many], &mut buffer[..bytes]) {
+            Ok(length) => println!(rt; "length={length}"),
+            Err(refusal) => println!(rt; "refused={}", kinds::number_of(refusal)),
+        };
     }
     if bytes <= buffer.len() {
-        rt.write_all(&buffer[..bytes])?;
+        let _ = rt.write_all(&buffer[..bytes]);
     }
-    Ok(())
 }
 
 fn main(rt: HostRuntime) {
     let mut input = [0; INPUT];
     let size = io::read_full(STDIN_FILENO, &mut input);
-    // Where a print fails, nobody is left to tell.
-    let _ = write(&rt, &input[..size]);
+    write(&rt, &input[..size]);
 }

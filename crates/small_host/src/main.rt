@@ -3,20 +3,19 @@
 #![tactic(auto)]
 
 use kinds::{Stamp, Txid};
-use std::io;
 use table::{Answer, Table};
 
-// Whether a version that `ender` replaced may go. Beside a refusal none may.
-fn vacuum(rt: &impl Print, t: Table, clock: u64, ender: Txid) -> io::Result<Table> {
+// Whether a version that `ender` replaced may go. Beside a refusal none may. What a failed print says is dropped, and the host goes on.
+fn vacuum(rt: &impl Print, t: Table, clock: u64, ender: Txid) -> Table {
     let called = table::vacuum(t, clock, clock);
     if let Ok(Answer::Line { line, holder }) = called.answer {
         let old = if ender.0 < line { "goes" } else { "stays" };
-        println!(rt; "line {line}, holder {holder}: the old tile {old}")?;
+        let _ = println!(rt; "line {line}, holder {holder}: the old tile {old}");
     }
-    Ok(called.table)
+    called.table
 }
 
-fn host(rt: &impl Print) -> io::Result<()> {
+fn main(rt: HostRuntime) {
     // The table, which the lock guards, and the shared clock: the next number to be given out.
     let mut t = table::fresh();
     let mut clock: u64 = 1;
@@ -25,7 +24,7 @@ fn host(rt: &impl Print) -> io::Result<()> {
     clock += 1;
     t = begun.table;
     let Ok(Answer::Begun { slot, id: old }) = begun.answer else {
-        return Ok(());
+        return;
     };
     // It is done. Had it been given up, it would take back what it did, and then call `end_transaction`.
     let done = table::finish_transaction(t, slot, old, Stamp(clock));
@@ -36,13 +35,13 @@ fn host(rt: &impl Print) -> io::Result<()> {
     clock += 1;
     t = begun.table;
     let Ok(Answer::Begun { slot, id: new }) = begun.answer else {
-        return Ok(());
+        return;
     };
     // A page opens while that one is at work, and pins what it sees. One load of the clock serves as clock and as sample.
     let page = table::create_pinned_snapshot(t, clock, clock);
     t = page.table;
     let Ok(Answer::Pinned(pin)) = page.answer else {
-        return Ok(());
+        return;
     };
     let done = table::finish_transaction(t, slot, new, Stamp(clock));
     clock += 1;
@@ -50,16 +49,10 @@ fn host(rt: &impl Print) -> io::Result<()> {
     // The page shows the second version if it may use it, else the first. This needs no lock.
     let may_use_new = settled::is_settled(page.snapshot, new).unwrap_or(false);
     let tile = if may_use_new { new } else { old };
-    println!(rt; "the page shows the tile of {}", tile.0)?;
-    t = vacuum(rt, t, clock, new)?;
+    let _ = println!(rt; "the page shows the tile of {}", tile.0);
+    t = vacuum(&rt, t, clock, new);
     // The page closes.
     let closed = table::release_pin(t, pin);
     t = closed.table;
-    vacuum(rt, t, clock, new)?;
-    Ok(())
-}
-
-fn main(rt: HostRuntime) {
-    // Where a print fails, nobody is left to tell.
-    let _ = host(&rt);
+    vacuum(&rt, t, clock, new);
 }
