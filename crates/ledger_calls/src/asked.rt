@@ -14,6 +14,7 @@ use model::Columns;
 
 // A pin's number stands where a slot's does. Each arm reads other numbers of the row, so that a table of ten functions of one shape would
 // hand to each of them what it doesn't read.
+#[inline(always)]
 #[tactic(auto, unfolding(crate::specs::Rows::row_call, crate::specs::Rows::call_of))]
 fn made(columns: Columns<'_>, row: [u64; 6]) -> Result<Did, Told>
     ensures { or_refused columns.entry.counters result
@@ -35,8 +36,8 @@ fn made(columns: Columns<'_>, row: [u64; 6]) -> Result<Did, Told>
 }
 
 // What the call does on these columns and counters, and what it answers. A refused one leaves everything as it was.
-// Inlined: a caller's columns are arrays, whose lengths the scans then know.
-#[inline]
+// Inlined, and `made` with it: a list is told again for each answer, and neither the lent columns nor what a call did are copied then.
+#[inline(always)]
 pub fn one_call(columns: Columns<'_>, row: [u64; 6]) -> Did
     ensures { result ≡ did_by SLOTS (lent_by columns.entry) (row_call row) }
 {

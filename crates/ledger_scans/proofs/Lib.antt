@@ -1,4 +1,5 @@
 pub mod Columns
+pub mod Fours
 pub mod Seen
 pub mod Ids
 pub mod Walk

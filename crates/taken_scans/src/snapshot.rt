@@ -80,7 +80,7 @@ pub fn take_into(txids: &[u64], sample: u64, ids: &mut [u64]) -> Taken
 
 // What a snapshot with this sample holds; a slot past the snapshot's places is not read. Inlined: the ids are then written where the
 // caller wants them, and copied nowhere.
-#[inline]
+#[inline(always)]
 pub fn take_snapshot(txids: &[u64], sample: u64) -> Snapshot
     ensures { result ≡ snapshot_of SLOTS (take SLOTS txids.now) sample }
 {
