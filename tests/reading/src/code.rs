@@ -246,7 +246,7 @@ impl<'a> Reader<'a> {
             let attribute = self.between(range).replace("( ", "(").replace(", )", ")");
             exported |= attribute == "unsafe(no_mangle)";
             let tactic = attribute == "tactic(auto)" || (attribute.starts_with("tactic(auto,") && attribute.ends_with(')'));
-            let known = ["unsafe(no_mangle)", "repr(C)", "inline", "inline(never)"];
+            let known = ["unsafe(no_mangle)", "repr(C)", "inline", "inline(always)", "inline(never)"];
             let traits = ["Clone", "Copy", "Debug", "PartialEq", "Eq", "Drop"];
             let derived = attribute.strip_prefix("derive(").and_then(|l| l.strip_suffix(')'));
             let derives = derived.is_some_and(|l| l.split(", ").all(|name| traits.contains(&name)));
