@@ -36,7 +36,7 @@ slice_bounds-buf-end c =
 pub slice_bounds-hand_on-end : goal.slice_bounds-hand_on-end
 slice_bounds-hand_on-end c =
     let p = ran (goal.at.slice_bounds-hand_on-end c).After-run_part-part in
-    sym (length-take-le _ _ (omega (arith, p.inside, c.run_part-part.auto.buf)))
+    sym (length-take-le c.run_part-part.result.filled c.run_part-part.new.buf (omega (arith, p.inside, c.run_part-part.auto.buf)))
 
 pub hand_on-requires : goal.hand_on-requires
 hand_on-requires c =
